@@ -1,0 +1,17 @@
+//! SQL queries, schemas and statements as they are written, and what they mean.
+//!
+//! The trees are plain data. What they mean is in `specs/`; read there in the order of `specs/Lib.antt`.
+#![tactic(auto)]
+
+pub mod name;
+pub mod schema;
+pub mod statement;
+pub mod symbols;
+pub mod tree;
+
+pub use name::Name;
+pub use plain_data::{Boxed, List};
+pub use schema::{Fkey, Relation, Schema, Table};
+pub use statement::{NameAt, Statement, TableRule};
+pub use symbols::{Lit, LitKind, Symbols};
+pub use tree::{AggFun, Block, Entry, Expr, Item, Query, SetOp, Source};
