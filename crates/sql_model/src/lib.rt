@@ -13,5 +13,6 @@ pub use name::Name;
 pub use plain_data::{Boxed, List};
 pub use schema::{Fkey, Relation, Schema, Table};
 pub use statement::{NameAt, Statement, TableRule};
+pub use std::alloc::AllocError as NoMemory;
 pub use symbols::{Lit, LitKind, Symbols};
 pub use tree::{AggFun, Block, Entry, Expr, Item, Query, SetOp, Source};

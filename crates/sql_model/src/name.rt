@@ -4,7 +4,8 @@ ghost use Rattle.std.proofs.Common.{rules};
 ghost use Rattle.std.specs.Hash as fed;
 ghost use Rattle.std.specs.Cmp.Rules.{comparing, hashing};
 
-use std::alloc::{AllocError, Global};
+use crate::NoMemory;
+use std::alloc::Global;
 use std::hash::{Hash, Hasher};
 use std::marker::Model;
 
@@ -25,14 +26,14 @@ impl Model for Name {
 
 impl Name {
     /// The name with these bytes, which are taken as they are.
-    pub fn new(alloc: Global, text: &[u8]) -> Result<Name, AllocError>
+    pub fn new(alloc: Global, text: &[u8]) -> Result<Name, NoMemory>
         ensures { IfOk result (λ name. name ≡ text.now) }
     {
         let text = Vec::from_slice(alloc, text)?;
         Ok(Name { text })
     }
 
-    pub fn copy(&self, alloc: Global) -> Result<Name, AllocError>
+    pub fn copy(&self, alloc: Global) -> Result<Name, NoMemory>
         ensures { IfOk result (λ name. name ≡ self.now) }
     {
         Name::new(alloc, self.as_bytes())

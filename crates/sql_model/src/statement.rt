@@ -5,14 +5,14 @@ use crate::tree::Query;
 use plain_data::List;
 
 /// A name and its place in the text.
-#[derive(Drop)]
+#[derive(Debug, Drop)]
 pub struct NameAt {
     pub name: Name,
     pub at: u32,
 }
 
 /// A key or a foreign key of a `CREATE TABLE`.
-#[derive(Drop)]
+#[derive(Debug, Drop)]
 pub enum TableRule {
     /// `PRIMARY KEY` or `UNIQUE`. `at` is the place of that word.
     Key {
@@ -28,7 +28,7 @@ pub enum TableRule {
     },
 }
 
-#[derive(Drop)]
+#[derive(Debug, Drop)]
 pub enum Statement {
     Table {
         name: NameAt,

@@ -17,7 +17,7 @@ pub struct Lit {
 }
 
 /// The literals and the symbols of a case; each has its place here as its number.
-#[derive(Drop)]
+#[derive(Debug, Drop)]
 pub struct Symbols {
     pub lits: IndexSet<Lit>,
     pub syms: IndexSet<Name>,

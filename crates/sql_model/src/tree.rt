@@ -24,7 +24,7 @@ pub enum SetOp {
 
 /// A value or a condition.
 #[cycle(sql)]
-#[derive(Drop)]
+#[derive(Debug, Drop)]
 pub enum Expr {
     /// A column. `at` is the place of its own word, `qual_at` that of its qualifier.
     Col {
@@ -100,7 +100,7 @@ pub enum Expr {
 
 /// What an entry of FROM takes its rows from: a relation of the schema, or a subquery.
 #[cycle(sql)]
-#[derive(Drop)]
+#[derive(Debug, Drop)]
 pub enum Source {
     Named { name: Name, at: u32 },
     Query { query: Boxed<Query> },
@@ -108,7 +108,7 @@ pub enum Source {
 
 /// An entry of FROM. `at` is the place of its alias, or of its name where no alias is written.
 #[cycle(sql)]
-#[derive(Drop)]
+#[derive(Debug, Drop)]
 pub struct Entry {
     pub source: Source,
     /// The name of its table where no alias is written.
@@ -121,7 +121,7 @@ pub struct Entry {
 
 /// An item of SELECT.
 #[cycle(sql)]
-#[derive(Drop)]
+#[derive(Debug, Drop)]
 pub enum Item {
     /// `*`
     Star { at: u32 },
@@ -132,7 +132,7 @@ pub enum Item {
 
 /// A query specification (SQL, ISO/IEC 9075-2, 7.12).
 #[cycle(sql)]
-#[derive(Drop)]
+#[derive(Debug, Drop)]
 pub struct Block {
     pub distinct: bool,
     pub items: List<Item>,
@@ -146,7 +146,7 @@ pub struct Block {
 
 /// A query expression (SQL, ISO/IEC 9075-2, 7.13).
 #[cycle(sql)]
-#[derive(Drop)]
+#[derive(Debug, Drop)]
 pub enum Query {
     Block {
         block: Boxed<Block>,

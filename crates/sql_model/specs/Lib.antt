@@ -1,0 +1,12 @@
+pub mod Syntax
+pub mod Frames
+pub mod Columns
+pub mod Headings
+pub mod Grouping
+pub mod Aggregates
+pub mod Answers
+pub mod World
+pub mod Meaning
+pub mod Relations
+pub mod Meets
+pub mod Equivalent
