@@ -1,14 +1,14 @@
 -- The value of a column (SQL, ISO/IEC 9075-2, 6.6 identifier chain and 6.7 column reference). Names are compared as bytes: those that were
 -- written without quotes have been folded, to lower case where the standard folds to upper case. A column that is nowhere has value 0,
 -- which no well-formed query reads; so has a column that the entry of its qualifier lacks.
-use Rattle.std.specs.Prelude.{ℕ, Bool, false, [], ◌∷◌, get_or, Option, Some, None, find, position, option_map, unwrap_or}
+use Rattle.std.specs.Prelude.{ℕ, nat_eq, Bool, false, [], ◌∷◌, get_or, Option, Some, None, find, position, option_map, unwrap_or}
 use Rattle.std.specs.Option.{option_or}
-use Rattle.data_model.specs.Rows.{same_row}
+use Rattle.std.specs.Cmp.Lexicographic.{pointwise}
 use Rattle.sql_model.specs.Syntax.{Name}
 use Rattle.sql_model.specs.Frames.{ColumnName, BoundEntry, Combination, Environment}
 
 abbrev pub same_name : Name → Name → Bool
-same_name = same_row
+same_name = pointwise nat_eq
 
 abbrev pub is_called : Name → ColumnName → Bool
 is_called name None = false

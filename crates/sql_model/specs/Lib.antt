@@ -1,4 +1,5 @@
 pub mod Syntax
+pub mod FixedSymbols
 pub mod Frames
 pub mod Columns
 pub mod Headings
@@ -10,3 +11,6 @@ pub mod Meaning
 pub mod Relations
 pub mod Meets
 pub mod Equivalent
+pub mod SelectStar
+pub mod Compute
+pub mod samples

@@ -6,7 +6,7 @@ use Rattle.std.specs.Prelude.{ℕ, nat_eq, Bool, true, false, not, ◌&&◌, ◌
 use Rattle.std.specs.List.{flat_map}
 use Rattle.data_model.specs.Rows.{Row, is_among, product}
 use Rattle.data_model.specs.Reading.{literal_value, function_value, predicate_holds}
-use Rattle.sql_model.specs.Syntax.{Name, Expr, Col, Lit, Fun, Pred, Call, Agg, Sub, Eq, And, Or, Not, Exists, In, Exprs, NoExprs, ExprThen, MaybeArgument, NoArgument, AnArgument, Item, Star, AliasStar, Value, Items, NoItems, ItemThen, Source, Named, Derived, Query, OfBlock, Set, Block, Select, Entries, NoEntries, EntryThen, MaybeCondition, NoCondition, ACondition, MaybeGroupBy, NoGroupBy, GroupBy, AggFun}
+use Rattle.sql_model.specs.Syntax.{Expr, Col, Lit, Fun, Pred, Call, Agg, Sub, Eq, And, Or, Not, Exists, In, Exprs, NoExprs, ExprThen, MaybeArgument, NoArgument, AnArgument, Item, Star, AliasStar, Value, Items, NoItems, ItemThen, Source, Named, Derived, Query, OfBlock, Set, Block, Select, Entries, NoEntries, EntryThen, MaybeCondition, NoCondition, ACondition, MaybeGroupBy, NoGroupBy, GroupBy}
 use Rattle.sql_model.specs.Frames.{BoundEntry, Combination, Frame, Environment, frame_of, entries_here, members_here, outside}
 use Rattle.sql_model.specs.Columns.{with_alias, column_value}
 use Rattle.sql_model.specs.Headings.{Heading, headings, source_columns}

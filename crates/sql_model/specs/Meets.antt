@@ -7,7 +7,6 @@ use Rattle.sql_model.specs.declared.schema.Schema.{Schema}
 use Rattle.sql_model.specs.declared.schema.Table.{Table}
 use Rattle.sql_model.specs.declared.schema.Fkey.{Fkey}
 use Rattle.sql_model.specs.declared.schema.Relation.TheVariants as relation
-use Rattle.sql_model.specs.Syntax.{Name}
 use Rattle.sql_model.specs.Relations.{Relation}
 
 abbrev pub base_table : Relation → Option Table

@@ -1,6 +1,7 @@
 -- What the relations of a schema show on a database, in order of declaration. A base table shows its rows. A view shows the rows of its
 -- query, which is evaluated by itself over the relations declared before it; an index is a view of its table.
-use Rattle.std.specs.Prelude.{ℕ, List, [], ◌∷◌, ◌++◌, map, Option, Some, None, if◌then◌else◌}
+use Rattle.std.specs.Prelude.{ℕ, List, [], ◌∷◌, ◌++◌, map, Option, Some}
+use Rattle.std.specs.Map.{lookup}
 use Rattle.data_model.specs.Rows.{Row}
 use Rattle.data_model.specs.Reading.{Reading}
 use Rattle.data_model.specs.Database.{Database, table_rows}
@@ -8,6 +9,7 @@ use Rattle.sql_model.specs.declared.schema.Schema.{Schema}
 use Rattle.sql_model.specs.declared.schema.Relation.{Relation as TheRelation}
 use Rattle.sql_model.specs.declared.schema.Relation.TheVariants as relation
 use Rattle.sql_model.specs.Syntax.{Name, Query}
+use Rattle.sql_model.specs.Frames.{ColumnName}
 use Rattle.sql_model.specs.Columns.{same_name}
 use Rattle.sql_model.specs.Headings.{output_columns}
 use Rattle.sql_model.specs.World.{ShownRelation, World, relation_headings}
@@ -18,16 +20,21 @@ Relation = TheRelation
 
 -- the first relation of this name
 abbrev pub relation_named : Name → List (Name × Relation) → Option Relation
-relation_named name [] = None
-relation_named name (r ∷ rest) = if same_name name r.0 then Some r.1 else relation_named name rest
+relation_named name relations = lookup (same_name name) relations
 
 abbrev pub world_of : ℕ → Reading → List ShownRelation → World
 world_of n reading relations = record { size = n; reading = reading; relations = relations }
 
+abbrev pub relation_columns : World → Relation → List ColumnName
+relation_columns before (relation.Table table) = map Some table.columns
+relation_columns before (relation.View query at) = output_columns query (relation_headings before)
+
+abbrev pub relation_rows : Database → World → Relation → List Row
+relation_rows db before (relation.Table table) = table_rows db table.number
+relation_rows db before (relation.View query at) = rows query before []
+
 abbrev pub shown : Database → World → Name → Relation → ShownRelation
-shown db before name (relation.Table table) = record { name = name; columns = map Some table.columns; rows = table_rows db table.number }
-shown db before name (relation.View query at) =
-    record { name = name; columns = output_columns query (relation_headings before); rows = rows query before [] }
+shown db before name r = record { name = name; columns = relation_columns before r; rows = relation_rows db before r }
 
 -- these relations, after those that are shown already
 abbrev pub shown_after : ℕ → Reading → Database → List ShownRelation → List (Name × Relation) → List ShownRelation

@@ -3,10 +3,13 @@
 //! The trees are plain data. What they mean is in `specs/`; read there in the order of `specs/Lib.antt`.
 #![tactic(auto)]
 
+pub mod laws;
 pub mod name;
 pub mod schema;
 pub mod statement;
 pub mod symbols;
+#[cfg(test)]
+mod tests;
 pub mod tree;
 
 pub use name::Name;

@@ -1,7 +1,11 @@
 //! The numbers of literals and symbols.
+ghost use Rattle.std.specs.Prelude.{◌≡◌, IfOk};
+ghost use Rattle.sql_model.specs.FixedSymbols.{fixed_literals, fixed_symbols};
 
+use crate::NoMemory;
 use crate::name::Name;
 use indexmap::IndexSet;
+use std::alloc::Global;
 
 #[derive(Clone, Copy, Debug, PartialEq, Eq, Hash)]
 pub enum LitKind {
@@ -21,4 +25,24 @@ pub struct Lit {
 pub struct Symbols {
     pub lits: IndexSet<Lit>,
     pub syms: IndexSet<Name>,
+}
+
+impl Symbols {
+    /// The members that every case has.
+    pub fn new(alloc: Global) -> Result<Symbols, NoMemory>
+        ensures literals { IfOk result (λ symbols. symbols.lits.keys ≡ fixed_literals) }
+        ensures symbols { IfOk result (λ symbols. symbols.syms.keys ≡ fixed_symbols) }
+    {
+        let one = Lit {
+            kind: LitKind::Number,
+            text: Name::new(alloc, b"1")?,
+        };
+        let mut lits = IndexSet::new(alloc);
+        lits.insert(one)?;
+        let mut syms = IndexSet::new(alloc);
+        for text in ["<", "<=", "like", "+", "-", "*", "/", "||"] {
+            syms.insert(Name::new(alloc, text.as_bytes())?)?;
+        }
+        Ok(Symbols { lits, syms })
+    }
 }

@@ -1,0 +1,3 @@
+pub mod SetOperators
+pub mod SelectStar
+pub mod Equivalence

@@ -1,0 +1,7 @@
+mod Forms
+mod SetOperators
+mod Scope
+mod Subqueries
+mod Groups
+mod Views
+mod Constraints
