@@ -11,6 +11,7 @@ pub Equivalent-sym : (schema : Schema) (p q : Query) → Equivalent schema p q �
 Equivalent-sym schema p q same n some reading on db meets r = sym (same n some reading on db meets r)
 
 pub Equivalent-trans : (schema : Schema) (p q t : Query) → Equivalent schema p q → Equivalent schema q t → Equivalent schema p t
-Equivalent-trans schema p q t first second n some reading on db meets r = first n some reading on db meets r ∙ second n some reading on db meets r
+Equivalent-trans schema p q t first second n some reading on db meets r =
+    first n some reading on db meets r ∙ second n some reading on db meets r
 
 pub ruleset laws = (Equivalent-refl, Equivalent-sym, Equivalent-trans)

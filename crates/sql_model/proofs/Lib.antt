@@ -1,3 +1,5 @@
 pub mod SetOperators
+pub mod Relations
 pub mod SelectStar
+pub mod Meets
 pub mod Equivalence

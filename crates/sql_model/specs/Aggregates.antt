@@ -1,6 +1,6 @@
 -- Aggregates (SQL, ISO/IEC 9075-2, 6.9 set function specification and 10.9 aggregate function). An aggregate is a function, known by its
--- number alone, of the bag of the values that it is handed; so no law of addition or order is used, and it has a value for the empty bag too,
--- where SQL gives null except for COUNT. Columns hold no nulls, so none are left out.
+-- number alone, of the bag of the values that it is handed: no law of addition or order is used. It has a value for the empty bag too, where
+-- SQL gives null for all but COUNT. Columns hold no nulls, so none are left out.
 use Rattle.std.specs.Prelude.{ℕ, Bool, true, false, List}
 use Rattle.data_model.specs.Reading.{Reading, aggregate_value}
 use Rattle.data_model.specs.Counts.{counts_of}

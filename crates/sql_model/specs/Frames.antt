@@ -18,8 +18,8 @@ pub record BoundEntry : Type 0 where
 abbrev pub Combination : Type 0
 Combination = List BoundEntry
 
--- What one block offers. In a grouped block the entries have the rows of the group's first member, and `members` are all members of the
--- group; everywhere else `members` is empty.
+-- What one block offers. In the items and HAVING of a grouped block the entries have the rows of the group's first member, and `members` are
+-- all members of the group; everywhere else `members` is empty.
 pub record Frame : Type 0 where
   pub entries : Combination
   pub members : List Combination
@@ -41,6 +41,6 @@ abbrev pub members_here : Environment → List Combination
 members_here [] = []
 members_here (frame ∷ outer) = frame.members
 
-abbrev pub outside : Environment → Environment
-outside [] = []
-outside (frame ∷ outer) = outer
+abbrev pub outer_frames : Environment → Environment
+outer_frames [] = []
+outer_frames (frame ∷ outer) = outer

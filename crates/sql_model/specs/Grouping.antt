@@ -36,7 +36,8 @@ abbrev pub is_written : MaybeCondition → Bool
 is_written NoCondition = false
 is_written (ACondition condition) = true
 
--- A block without GROUP BY that has HAVING, or an aggregate among its items, has the one group of all its combinations.
+-- A block without GROUP BY that has HAVING, or an aggregate among its items, has the one group of all its combinations, also where there are
+-- none: the standard reads it as GROUP BY ().
 abbrev pub is_one_group : {m : _} → Items m → MaybeCondition → Bool
 is_one_group items having = is_written having || items_have_aggregate items
 

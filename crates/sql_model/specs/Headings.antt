@@ -38,7 +38,7 @@ unfoldable mutual
   output_columns (Set op left right at) relations = output_columns left relations
 
   pub block_columns : Block → List Heading → List ColumnName
-  block_columns (Select is_distinct s items s' from where_condition groups having) relations = items_columns items (headings from relations)
+  block_columns (Select is_distinct s items s' from where_condition group_by having) relations = items_columns items (headings from relations)
 
   pub headings : {m : _} → Entries m → List Heading → List Heading
   headings NoEntries relations = []

@@ -1,3 +1,4 @@
+-- What queries mean, in the order in which it is read. The clauses of SQL are those of ISO/IEC 9075-2:2011.
 pub mod Syntax
 pub mod FixedSymbols
 pub mod Frames

@@ -33,18 +33,18 @@ abbrev pub relation_rows : Database → World → Relation → List Row
 relation_rows db before (relation.Table table) = table_rows db table.number
 relation_rows db before (relation.View query at) = rows query before []
 
-abbrev pub shown : Database → World → Name → Relation → ShownRelation
-shown db before name r = record { name = name; columns = relation_columns before r; rows = relation_rows db before r }
+abbrev pub shown_relation : Database → World → Name → Relation → ShownRelation
+shown_relation db before name r = record { name = name; columns = relation_columns before r; rows = relation_rows db before r }
 
 -- these relations, after those that are shown already
-abbrev pub shown_after : ℕ → Reading → Database → List ShownRelation → List (Name × Relation) → List ShownRelation
-shown_after n reading db earlier [] = earlier
-shown_after n reading db earlier (r ∷ rest) =
-    shown_after n reading db (earlier ++ shown db (world_of n reading earlier) r.0 r.1 ∷ []) rest
+abbrev pub shown_relations : ℕ → Reading → Database → List ShownRelation → List (Name × Relation) → List ShownRelation
+shown_relations n reading db earlier [] = earlier
+shown_relations n reading db earlier (r ∷ rest) =
+    shown_relations n reading db (earlier ++ shown_relation db (world_of n reading earlier) r.0 r.1 ∷ []) rest
 
 -- the world of a schema on a database
 abbrev pub world : Schema → ℕ → Reading → Database → World
-world schema n reading db = world_of n reading (shown_after n reading db [] schema.relations.entries)
+world schema n reading db = world_of n reading (shown_relations n reading db [] schema.relations.entries)
 
 -- the rows of a query that stands by itself
 abbrev pub answer : Schema → ℕ → Reading → Database → Query → List Row

@@ -196,8 +196,10 @@ Named name at = source.Named name at
 pattern abbrev pub Derived : Query → Source
 Derived q = source.Query' tt (more_of-Query q end_of-Query)
 
-pattern abbrev pub Select : Bool → (s : Shape) → Items (long s) → (s' : Shape) → Entries (long s') → MaybeCondition → MaybeGroupBy → MaybeCondition → Block
-Select is_distinct s items s' entries where_condition groups having = block.Block' is_distinct s items s' entries where_condition groups having
+-- DISTINCT, the items, FROM, WHERE, GROUP BY and HAVING
+pattern abbrev pub Select : Bool → (s : Shape) → Items (long s) → (s' : Shape) → Entries (long s')
+    → MaybeCondition → MaybeGroupBy → MaybeCondition → Block
+Select is_distinct s items s' from where_condition group_by having = block.Block' is_distinct s items s' from where_condition group_by having
 
 pattern abbrev pub OfBlock : Block → Query
 OfBlock b = query.Block' tt (more_of-Block b end_of-Block)

@@ -1,4 +1,4 @@
-mod Forms
+pub mod Forms
 mod SetOperators
 mod Scope
 mod Subqueries

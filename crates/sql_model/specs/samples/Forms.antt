@@ -10,12 +10,19 @@ use Rattle.sql_model.specs.declared.tree.Entry.{Entry, roll-Entry}
 use Rattle.sql_model.specs.Syntax.{Name, Expr, Col, Item, Star, Value, Query, SetOp, AggFun, Count, Max}
 use Rattle.sql_model.specs.Aggregates.{number_of}
 use Rattle.sql_model.specs.World.{World, ShownRelation}
+use Rattle.sql_model.specs.Meaning.{rows}
 
 -- ---- queries
 abbrev pub block : Bool → List Item → List Entry → Option Expr → Option (List Expr) → Option Expr → Query
 unfolding roll-Block
-block is_distinct items entries cond groups having =
-    query.Block (roll-Block (record { distinct = is_distinct; items = items; entries = entries; cond = cond; groups = groups; having = having }))
+block is_distinct items entries cond groups having = query.Block (roll-Block (record {
+  distinct = is_distinct;
+  items = items;
+  entries = entries;
+  cond = cond;
+  groups = groups;
+  having = having;
+}))
 
 abbrev pub select : List Item → List Entry → Query
 unfolding roll-Block
@@ -127,3 +134,7 @@ w = record {
       shows r (a ∷ b ∷ []) ((0 ∷ 1 ∷ []) ∷ (0 ∷ 2 ∷ []) ∷ (1 ∷ 1 ∷ []) ∷ [])
       ∷ shows s (a ∷ []) ((0 ∷ []) ∷ (0 ∷ []) ∷ (2 ∷ []) ∷ []) ∷ shows none (a ∷ []) [] ∷ [];
 }
+
+-- what a query gives there, in no block
+abbrev pub rows_of : Query → List Row
+rows_of q = rows q w []

@@ -1,9 +1,8 @@
 -- DISTINCT and the set operators.
 use Rattle.std.specs.Prelude.{◌≡◌, refl, true, [], ◌∷◌, None}
 use Rattle.sql_model.specs.Syntax.{Query, UnionAll, Union, Except, Intersect}
-use Rattle.sql_model.specs.Meaning.{rows}
 use Rattle.sql_model.specs.Compute.{everything}
-use Rattle.sql_model.specs.samples.Forms.{block, select, all_of, from, set, only, bare, r, s, none, a, b, w}
+use Rattle.sql_model.specs.samples.Forms.{block, select, all_of, from, set, only, bare, r, s, none, a, b, rows_of}
 
 -- 0, 0 and 1
 abbrev a_of_r : Query
@@ -16,31 +15,32 @@ unfolding everything
 b_of_r = select (only (bare b)) (from r r ∷ [])
 
 -- SELECT * FROM s UNION ALL SELECT * FROM s
-union_all_keeps_repeats : rows (set UnionAll (all_of s) (all_of s)) w [] ≡ (0 ∷ []) ∷ (0 ∷ []) ∷ (2 ∷ []) ∷ (0 ∷ []) ∷ (0 ∷ []) ∷ (2 ∷ []) ∷ []
+union_all_keeps_repeats : rows_of (set UnionAll (all_of s) (all_of s))
+    ≡ (0 ∷ []) ∷ (0 ∷ []) ∷ (2 ∷ []) ∷ (0 ∷ []) ∷ (0 ∷ []) ∷ (2 ∷ []) ∷ []
 unfolding everything
 union_all_keeps_repeats = refl
 
 -- SELECT DISTINCT a FROM r
-distinct_drops_repeats : rows (block true (only (bare a)) (from r r ∷ []) None None None) w [] ≡ (0 ∷ []) ∷ (1 ∷ []) ∷ []
+distinct_drops_repeats : rows_of (block true (only (bare a)) (from r r ∷ []) None None None) ≡ (0 ∷ []) ∷ (1 ∷ []) ∷ []
 unfolding everything
 distinct_drops_repeats = refl
 
 -- SELECT a FROM r UNION SELECT * FROM s
-union_drops_repeats : rows (set Union a_of_r (all_of s)) w [] ≡ (0 ∷ []) ∷ (1 ∷ []) ∷ (2 ∷ []) ∷ []
+union_drops_repeats : rows_of (set Union a_of_r (all_of s)) ≡ (0 ∷ []) ∷ (1 ∷ []) ∷ (2 ∷ []) ∷ []
 unfolding everything
 union_drops_repeats = refl
 
 -- SELECT a FROM r EXCEPT SELECT * FROM s
-except_drops_what_is_right : rows (set Except a_of_r (all_of s)) w [] ≡ (1 ∷ []) ∷ []
+except_drops_what_is_right : rows_of (set Except a_of_r (all_of s)) ≡ (1 ∷ []) ∷ []
 unfolding everything
 except_drops_what_is_right = refl
 
 -- SELECT b FROM r EXCEPT SELECT * FROM none
-except_drops_repeats : rows (set Except b_of_r (all_of none)) w [] ≡ (1 ∷ []) ∷ (2 ∷ []) ∷ []
+except_drops_repeats : rows_of (set Except b_of_r (all_of none)) ≡ (1 ∷ []) ∷ (2 ∷ []) ∷ []
 unfolding everything
 except_drops_repeats = refl
 
 -- SELECT a FROM r INTERSECT SELECT * FROM s
-intersect_drops_repeats : rows (set Intersect a_of_r (all_of s)) w [] ≡ (0 ∷ []) ∷ []
+intersect_drops_repeats : rows_of (set Intersect a_of_r (all_of s)) ≡ (0 ∷ []) ∷ []
 unfolding everything
 intersect_drops_repeats = refl

@@ -4,7 +4,7 @@ use Rattle.data_model.specs.Database.{Database}
 use Rattle.sql_model.specs.declared.schema.Relation.TheVariants as relation
 use Rattle.sql_model.specs.Syntax.{Name, Value, UnionAll}
 use Rattle.sql_model.specs.Meaning.{rows}
-use Rattle.sql_model.specs.Relations.{Relation, world_of, shown_after}
+use Rattle.sql_model.specs.Relations.{Relation, world_of, shown_relations}
 use Rattle.sql_model.specs.Compute.{everything}
 use Rattle.sql_model.specs.samples.Forms.{select, only, from, set, bare, reading, r, a, b, x, y}
 
@@ -20,7 +20,7 @@ abbrev db : Database
 db = record { table = 0; rows = (0 ∷ 1 ∷ []) ∷ (0 ∷ 2 ∷ []) ∷ [] } ∷ []
 
 -- SELECT a FROM y
-a_view_shows_its_query : rows (select (only (bare a)) (from y y ∷ [])) (world_of 4 reading (shown_after 4 reading db [] relations)) []
+a_view_shows_its_query : rows (select (only (bare a)) (from y y ∷ [])) (world_of 4 reading (shown_relations 4 reading db [] relations)) []
     ≡ (1 ∷ []) ∷ (2 ∷ []) ∷ (0 ∷ []) ∷ (0 ∷ []) ∷ []
 unfolding everything
 a_view_shows_its_query = refl
