@@ -1,0 +1,4 @@
+pub mod Syntax
+pub mod Size
+pub mod Places
+pub mod Meaning
