@@ -1,3 +1,4 @@
 pub mod Sizes
 pub mod ClosedTerms
 pub mod Meanings
+pub mod Agreement

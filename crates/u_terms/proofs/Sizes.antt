@@ -1,5 +1,5 @@
 -- `nodes` and `depth` at each constructor as code writes it, and of a list.
-use Rattle.std.proofs.Common.{◌≡◌, ℕ, ◌+◌, max, List, [], ◌∷◌, fold, refl, ap, sym, ◌∙◌, arith}
+use Rattle.std.proofs.Common.{◌≡◌, ℕ, zero, suc, ◌+◌, ◌<◌, ◌≤◌, max, List, [], ◌∷◌, length, get_or, fold, refl, ap, sym, ◌∙◌, arith}
 use Rattle.std.proofs.lemmas.List.Sums.{sum_by-cons}
 use Rattle.u_terms.specs.declared.term.U.TheVariants as u
 use Rattle.u_terms.specs.declared.term.Val.TheVariants as v
@@ -96,6 +96,12 @@ most-from most (v ∷ vs) = omega (arith, most-from (max most (value_depth v)) v
 
 pub list_depth-cons : (v : Val) (vs : List Val) → list_depth (v ∷ vs) ≡ max (value_depth v) (list_depth vs)
 list_depth-cons v vs = omega (arith, most-from (max 0 (value_depth v)) vs)
+
+-- no value is deeper than the list
+pub value_depth-get_or : (vs : List Val) (i : ℕ) (d : Val) → i < length vs → value_depth (get_or vs i d) ≤ list_depth vs
+value_depth-get_or [] i d h = absurd (omega arith)
+value_depth-get_or (v ∷ vs) zero d h = omega (arith, list_depth-cons v vs)
+value_depth-get_or (v ∷ vs) (suc i) d h = omega (arith, list_depth-cons v vs, value_depth-get_or vs i d (omega arith))
 
 pub row_depth-list : (vs : List Val) → row_depth (row_of vs) ≡ list_depth vs
 unfolding depth constructors

@@ -1,6 +1,6 @@
 -- Which places have a binder. `Sum` and `Agg` bind one value each, and place i stands for the binder that i others stand between. Inside
--- k binders place i dangles where i is at least k; a term is closed where nothing dangles (locally closed: Charguéraud, "The Locally
--- Nameless Representation", Journal of Automated Reasoning 49, 2012, section 3).
+-- k binders place i dangles where i is at least k; a term is closed where nothing dangles (locally closed terms: Charguéraud, "The
+-- Locally Nameless Representation", Journal of Automated Reasoning 49, 2012).
 use Rattle.std.specs.Prelude.{ℕ, ◌+◌, ◌<◌}
 use Rattle.u_terms.specs.Syntax.{U, Zero, One, Add, Mul, Squash, Not, Sum, Rel, Eq, Pred, Val, Bound, Free, Lit, Fun, Agg, Vals, NoVals, ValThen}
 

@@ -3,11 +3,14 @@
 
 mod copy;
 mod equality;
+pub mod laws;
 mod size;
 pub mod term;
+#[cfg(test)]
+mod tests;
 
 pub use equality::{same, same_value};
 pub use plain_data::{Boxed, List};
-pub use size::{nodes, value_nodes};
+pub use size::{depth, nodes, value_depth, value_nodes};
 pub use std::alloc::AllocError as NoMemory;
 pub use term::{U, Val};

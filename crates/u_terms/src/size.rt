@@ -1,13 +1,13 @@
-ghost use Rattle.std.specs.Prelude.{◌≡◌, ◌-◌, ◌^◌, min};
+ghost use Rattle.std.specs.Prelude.{◌≡◌, min};
 ghost use Rattle.u_terms.specs.Size as size;
 
 use crate::term::{U, Val};
 
-/// How many terms and values there are, or `u64::MAX` where there are more.
+/// How many terms and values there are in a term, itself included, or `u64::MAX` where there are more.
 #[cycle(nodes)]
 #[tactic(auto, using(crate::proofs::Sizes::nodes_at))]
 pub fn nodes(u: &U) -> u64
-    ensures { result ≡ min (size.nodes u.now) (2 ^ 64 - 1) }
+    ensures { result ≡ min (size.nodes u.now) u64.MAX }
 {
     match u {
         U::Zero | U::One => 1,
@@ -22,11 +22,11 @@ pub fn nodes(u: &U) -> u64
     }
 }
 
-/// How many terms and values there are in a value, or `u64::MAX` where there are more.
+/// How many terms and values there are in a value, itself included, or `u64::MAX` where there are more.
 #[cycle(nodes)]
 #[tactic(auto, using(crate::proofs::Sizes::nodes_at))]
 pub fn value_nodes(value: &Val) -> u64
-    ensures { result ≡ min (size.value_nodes value.now) (2 ^ 64 - 1) }
+    ensures { result ≡ min (size.value_nodes value.now) u64.MAX }
 {
     match value {
         Val::Bound(_) | Val::Free(_) | Val::Lit(_) => 1,
@@ -37,7 +37,7 @@ pub fn value_nodes(value: &Val) -> u64
 
 #[cycle(nodes)]
 fn list_nodes(values: &[Val]) -> u64
-    ensures { result ≡ min (size.list_nodes values.now) (2 ^ 64 - 1) }
+    ensures { result ≡ min (size.list_nodes values.now) u64.MAX }
 {
     let mut sum: u64 = 0;
     for value in values {
@@ -46,11 +46,11 @@ fn list_nodes(values: &[Val]) -> u64
     sum
 }
 
-/// The most terms and values on a way from the root downwards, or `u64::MAX` where there are more.
+/// The most terms and values on a way from a term downwards, or `u64::MAX` where there are more.
 #[cycle(depth)]
 #[tactic(auto, using(crate::proofs::Sizes::depth_at))]
 pub fn depth(u: &U) -> u64
-    ensures { result ≡ min (size.depth u.now) (2 ^ 64 - 1) }
+    ensures { result ≡ min (size.depth u.now) u64.MAX }
 {
     match u {
         U::Zero | U::One => 1,
@@ -65,7 +65,7 @@ pub fn depth(u: &U) -> u64
 #[cycle(depth)]
 #[tactic(auto, using(crate::proofs::Sizes::depth_at))]
 pub fn value_depth(value: &Val) -> u64
-    ensures { result ≡ min (size.value_depth value.now) (2 ^ 64 - 1) }
+    ensures { result ≡ min (size.value_depth value.now) u64.MAX }
 {
     match value {
         Val::Bound(_) | Val::Free(_) | Val::Lit(_) => 1,
@@ -76,7 +76,7 @@ pub fn value_depth(value: &Val) -> u64
 
 #[cycle(depth)]
 fn list_depth(values: &[Val]) -> u64
-    ensures { result ≡ min (size.list_depth values.now) (2 ^ 64 - 1) }
+    ensures { result ≡ min (size.list_depth values.now) u64.MAX }
 {
     let mut most: u64 = 0;
     for value in values {
