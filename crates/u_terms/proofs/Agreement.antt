@@ -46,38 +46,52 @@ pub agree-nowhere : (p q : List ℕ) → AgreeBelow 0 p q
 agree-nowhere p q = record { each = λ i h. absurd (omega arith) }
 
 module _ (n : ℕ) (reading : Reading) (db : Database) (names : List ℕ) where
+  abbrev term_at : List ℕ → U → ℕ
+  term_at = meaning n reading db names
+
+  abbrev value_at : List ℕ → Val → ℕ
+  value_at = value_meaning n reading db names
+
+  abbrev row_at : {m : _} → List ℕ → Vals m → Row
+  row_at = row_meaning n reading db names
+
   -- what is closed inside k binders means the same where the places agree below k
   mutual
     unfolding meaning IsClosed
 
-    pub meaning-closed : (u : U) (k : ℕ) (p q : List ℕ) → AgreeBelow k p q → IsClosed k u → meaning n reading db names p u ≡ meaning n reading db names q u
+    pub meaning-closed : (u : U) (k : ℕ) (p q : List ℕ) → AgreeBelow k p q → IsClosed k u → term_at p u ≡ term_at q u
     meaning-closed Zero k p q agree closed = refl
     meaning-closed One k p q agree closed = refl
     meaning-closed (Add a b) k p q agree closed = rw (meaning-closed a k p q agree closed.0, meaning-closed b k p q agree closed.1) refl
     meaning-closed (Mul a b) k p q agree closed = rw (meaning-closed a k p q agree closed.0, meaning-closed b k p q agree closed.1) refl
     meaning-closed (Squash a) k p q agree closed = ap squash (meaning-closed a k p q agree closed)
     meaning-closed (Not a) k p q agree closed = ap negate (meaning-closed a k p q agree closed)
-    meaning-closed (Sum body) k p q agree closed = sum_below-same n _ _ (λ v _. meaning-closed body (k + 1) (v ∷ p) (v ∷ q) (agree-inside k v p q agree) closed)
-    meaning-closed (Rel table shape arguments) k p q agree closed = ap (λ (r : Row). occurrences r (table_rows db table)) (row_meaning-closed arguments k p q agree closed)
+    meaning-closed (Sum body) k p q agree closed =
+        sum_below-same n _ _ (λ v _. meaning-closed body (k + 1) (v ∷ p) (v ∷ q) (agree-inside k v p q agree) closed)
+    meaning-closed (Rel table shape arguments) k p q agree closed =
+        ap (λ (r : Row). occurrences r (table_rows db table)) (row_meaning-closed arguments k p q agree closed)
     meaning-closed (Eq a b) k p q agree closed = rw (value_meaning-closed a k p q agree closed.0, value_meaning-closed b k p q agree closed.1) refl
-    meaning-closed (Pred symbol shape arguments) k p q agree closed = ap (λ (r : Row). one_if (predicate_holds reading symbol r)) (row_meaning-closed arguments k p q agree closed)
+    meaning-closed (Pred symbol shape arguments) k p q agree closed =
+        ap (λ (r : Row). one_if (predicate_holds reading symbol r)) (row_meaning-closed arguments k p q agree closed)
 
-    pub value_meaning-closed : (value : Val) (k : ℕ) (p q : List ℕ) → AgreeBelow k p q → IsClosedValue k value → value_meaning n reading db names p value ≡ value_meaning n reading db names q value
+    pub value_meaning-closed : (value : Val) (k : ℕ) (p q : List ℕ) → AgreeBelow k p q → IsClosedValue k value → value_at p value ≡ value_at q value
     value_meaning-closed (Bound place) k p q agree closed = agree.each place closed
     value_meaning-closed (Free name) k p q agree closed = refl
     value_meaning-closed (Lit literal) k p q agree closed = refl
     value_meaning-closed (Fun symbol shape arguments) k p q agree closed = ap (function_value reading symbol) (row_meaning-closed arguments k p q agree closed)
     value_meaning-closed (Agg aggregate body) k p q agree closed =
-        ap (aggregate_value reading aggregate) (list_below-same n _ _ (λ v _. meaning-closed body (k + 1) (v ∷ p) (v ∷ q) (agree-inside k v p q agree) closed))
+        ap (aggregate_value reading aggregate)
+        (list_below-same n _ _ (λ v _. meaning-closed body (k + 1) (v ∷ p) (v ∷ q) (agree-inside k v p q agree) closed))
 
-    pub row_meaning-closed : {m : _} (row : Vals m) (k : ℕ) (p q : List ℕ) → AgreeBelow k p q → IsClosedRow k row → row_meaning n reading db names p row ≡ row_meaning n reading db names q row
+    pub row_meaning-closed : {m : _} (row : Vals m) (k : ℕ) (p q : List ℕ) → AgreeBelow k p q → IsClosedRow k row → row_at p row ≡ row_at q row
     row_meaning-closed NoVals k p q agree closed = refl
-    row_meaning-closed (ValThen value rest) k p q agree closed = rw (value_meaning-closed value k p q agree closed.0, row_meaning-closed rest k p q agree closed.1) refl
+    row_meaning-closed (ValThen value rest) k p q agree closed =
+        rw (value_meaning-closed value k p q agree closed.0, row_meaning-closed rest k p q agree closed.1) refl
 
-  pub meaning-anywhere : (u : U) (p q : List ℕ) → IsClosed 0 u → meaning n reading db names p u ≡ meaning n reading db names q u
+  pub meaning-anywhere : (u : U) (p q : List ℕ) → IsClosed 0 u → term_at p u ≡ term_at q u
   meaning-anywhere u p q closed = meaning-closed u 0 p q (agree-nowhere p q) closed
 
-  pub value_meaning-anywhere : (value : Val) (p q : List ℕ) → IsClosedValue 0 value → value_meaning n reading db names p value ≡ value_meaning n reading db names q value
+  pub value_meaning-anywhere : (value : Val) (p q : List ℕ) → IsClosedValue 0 value → value_at p value ≡ value_at q value
   value_meaning-anywhere value p q closed = value_meaning-closed value 0 p q (agree-nowhere p q) closed
 
 pub ruleset laws = (get_or-put_same, get_or-put_other, meaning-anywhere)

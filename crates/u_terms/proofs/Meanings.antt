@@ -51,7 +51,8 @@ module _ (n : ℕ) (reading : Reading) (db : Database) (names places : List ℕ)
   unfolding meaning constructors
   meaning-Rel table vs = ap (λ (r : Row). occurrences r (table_rows db table)) (row_meaning-list vs)
 
-  pub meaning-Eq : (a b : Val) → meaning n reading db names places (u.Eq a b) ≡ one_if (nat_eq (value_meaning n reading db names places a) (value_meaning n reading db names places b))
+  pub meaning-Eq : (a b : Val) → meaning n reading db names places (u.Eq a b)
+      ≡ one_if (nat_eq (value_meaning n reading db names places a) (value_meaning n reading db names places b))
   unfolding meaning constructors
   meaning-Eq a b = refl
 
@@ -75,7 +76,8 @@ module _ (n : ℕ) (reading : Reading) (db : Database) (names places : List ℕ)
   unfolding meaning constructors
   meaning-Fun symbol vs = ap (λ (r : Row). function_value reading symbol r) (row_meaning-list vs)
 
-  pub meaning-Agg : (aggregate : ℕ) (body : U) → value_meaning n reading db names places (v.Agg aggregate body) ≡ aggregate_value reading aggregate (list_below n (λ v. meaning n reading db names (v ∷ places) body))
+  pub meaning-Agg : (aggregate : ℕ) (body : U) → value_meaning n reading db names places (v.Agg aggregate body)
+      ≡ aggregate_value reading aggregate (list_below n (λ v. meaning n reading db names (v ∷ places) body))
   unfolding meaning constructors
   meaning-Agg aggregate body = refl
 
