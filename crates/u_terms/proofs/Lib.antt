@@ -1,0 +1,4 @@
+pub mod Sizes
+pub mod ClosedTerms
+pub mod Meanings
+pub mod Agreement
