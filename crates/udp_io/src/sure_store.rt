@@ -1,0 +1,85 @@
+//! A store in memory that never fails.
+
+use crate::texts::Texts;
+use crate::{NoMemory, Store, StoreFault};
+use std::alloc::Global;
+use std::marker::Model;
+
+/// Texts in memory, of which none fails. An absent name has the empty text.
+#[derive(Drop)]
+pub struct SureStore {
+    texts: Texts,
+    piece: usize,
+}
+
+impl Model for SureStore {
+    ghost use Rattle.std.specs.Prelude.{◌<◌};
+    ghost use Rattle.udp_io.specs.SureStore.{FaultlessStore};
+
+    ghost Value = { FaultlessStore };
+
+    ghost view = { λ s. record { texts = s.texts; piece = s.piece } };
+
+    ghost invariant = { λ s. 0 < s.piece };
+}
+
+impl SureStore {
+    ghost use Rattle.std.specs.Prelude.{◌≡◌, ◌<◌, false, IfOk, OnOk, OnErr};
+    ghost use Rattle.udp_io.specs.Texts.{no_texts, has_name, with_text};
+
+    /// A store with no texts, of which at most `piece` bytes are taken at once.
+    pub fn new(alloc: Global, piece: usize) -> Result<SureStore, NoMemory>
+        requires { 0 < piece }
+        ensures { IfOk result (λ store. store ≡ record { texts = no_texts; piece = piece }) }
+    {
+        Ok(SureStore {
+            texts: Texts::new(alloc),
+            piece,
+        })
+    }
+
+    /// Puts a text under a name that has none.
+    pub fn add(&mut self, name: &str, text: &[u8]) -> Result<(), NoMemory>
+        requires { has_name self.old.texts name.now ≡ false }
+        ensures ok { OnOk result (self.new ≡ record self.old { texts = with_text self.old.texts name.now text.now }) }
+        ensures err { OnErr result (self.new ≡ self.old) }
+    {
+        self.texts.add(name, text)
+    }
+}
+
+impl Store for SureStore {
+    ghost use Rattle.std.specs.Prelude.{◌≡◌, ◌++◌, length, min, take, drop, IsOk};
+    ghost use Rattle.std.specs.Result.{result_unwrap_or};
+    ghost use Rattle.std.specs.Io.{ReadsAtMost};
+    ghost use Rattle.udp_io.specs.Faults.{HasCauseAt};
+    ghost use Rattle.udp_io.specs.Reading.{IsAllLeft, TakesFirst, IsZeroAtEnd};
+    ghost use Rattle.udp_io.specs.Texts.{selecting, without_first};
+    ghost use Rattle.udp_io.specs.SureStore.{sure_text, sure_left, IsSureUsable};
+
+    ghost text = { sure_text };
+
+    ghost left = { sure_left };
+
+    ghost usable = { IsSureUsable };
+
+    ghost faults = { λ _ _. 0 };
+
+    fn select(&mut self, name: &str) -> Result<(), StoreFault>
+        ensures sure { IsOk result }
+        ensures after { self.new ≡ record self.old { texts = selecting self.old.texts name.now } }
+    {
+        let _ = self.texts.select(name);
+        Ok(())
+    }
+
+    fn take(&mut self, _name: &str, buf: &mut [u8]) -> Result<usize, StoreFault>
+        ensures sure { result ≡ Ok (min (min (length buf.new) self.old.piece) (length self.old.texts.left)) }
+        ensures filled { let n = result_unwrap_or result 0 in buf.new ≡ take n self.old.texts.left ++ drop n buf.old }
+        ensures after { self.new ≡ record self.old { texts = without_first self.old.texts (result_unwrap_or result 0) } }
+        ensures taken { TakesFirst (sure_left self.old) (sure_left self.new) result buf.new }
+        ensures zero { IsZeroAtEnd (sure_left self.old) result buf.new }
+    {
+        Ok(self.texts.take(buf, self.piece))
+    }
+}
