@@ -1,6 +1,6 @@
 -- What a sink in memory that fails by a plan holds.
-use Rattle.std.specs.Prelude.{ℕ, ◌-◌, ◌==◌, ◌||◌, Bool, List, length, min}
-use Rattle.udp_io.specs.FaultPlan.{Plan, fails_next}
+use Rattle.std.specs.Prelude.{ℕ, ◌-◌, ◌==◌, ◌||◌, Bool, List, [], length, min}
+use Rattle.udp_io.specs.FaultPlan.{Plan, no_plan, fails_next}
 
 -- what was written, the most bytes that are taken at once and in all, and which calls fail
 pub record PlannedSink : Type 0 where
@@ -8,6 +8,9 @@ pub record PlannedSink : Type 0 where
   pub piece : ℕ
   pub room : ℕ
   pub plan : Plan
+
+abbrev pub empty_sink : ℕ → ℕ → PlannedSink
+empty_sink piece room = record { bytes = []; piece = piece; room = room; plan = no_plan }
 
 -- a sink whose room is full fails, and so does a call that is listed
 abbrev pub put_fails : PlannedSink → Bool

@@ -7,8 +7,8 @@ pub record FaultlessSink : Type 0 where
   pub room : ℕ
   pub is_over : Bool
 
-abbrev pub empty_sink : ℕ → FaultlessSink
-empty_sink room = record { kept = []; room = room; is_over = false }
+abbrev pub empty_sure_sink : ℕ → FaultlessSink
+empty_sure_sink room = record { kept = []; room = room; is_over = false }
 
 -- what was written, which it tells while no more came than it keeps
 abbrev pub sure_written : FaultlessSink → Option (List ℕ)

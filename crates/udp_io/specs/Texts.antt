@@ -1,5 +1,5 @@
 -- Texts by name, of which one is selected and taken piece by piece.
-use Rattle.std.specs.Prelude.{◌≡◌, ℕ, Bool, List, [], ◌∷◌, ◌++◌, Option, None, Some, drop, slice_get, is_some, position, bytes_eq}
+use Rattle.std.specs.Prelude.{◌≡◌, ℕ, Bool, List, [], ◌∷◌, ◌++◌, Option, None, Some, length, take, drop, min, slice_get, is_some, position, bytes_eq}
 
 pub record NamedText : Type 0 where
   pub name : List ℕ
@@ -44,6 +44,14 @@ with_text held name bytes = record held { texts = held.texts ++ record { name = 
 -- the text of this name is selected, and all of it is left
 abbrev pub selecting : NamedTexts → List ℕ → NamedTexts
 selecting held name = record held { selected = place_of held name; left = text_of held name }
+
+-- how many bytes go into this buffer, of at most `most` at once
+abbrev pub take_count : NamedTexts → ℕ → List ℕ → ℕ
+take_count held most buf = min (min (length buf) most) (length held.left)
+
+-- the buffer, with the first n bytes of what is left at its front
+abbrev pub with_front : List ℕ → NamedTexts → ℕ → List ℕ
+with_front buf held n = take n held.left ++ drop n buf
 
 -- the first n bytes of what was left are taken
 abbrev pub without_first : NamedTexts → ℕ → NamedTexts

@@ -11,7 +11,8 @@ use std::fs;
 use std::io::Read;
 use std::rt::Files;
 
-/// The files of the system, by their paths. It tells none of their bytes. A read that is interrupted fails.
+/// The files of the system, by their paths. It tells none of their bytes. A read that is
+/// interrupted fails.
 #[derive(Drop)]
 pub struct FileStore<'a, R: Files> {
     files: &'a R,
@@ -56,11 +57,13 @@ impl<R: Files> Store for FileStore<'_, R> {
         ensures bound { ReadsAtMost result buf.new }
         ensures taken { TakesFirst None None result buf.new }
         ensures zero { IsZeroAtEnd None result buf.new }
-        ensures cause { HasCauseAt (λ _. file_faults self.old) (λ _. file_faults self.new) name.now result }
+        ensures cause { HasCauseAt
+            (λ _. file_faults self.old) (λ _. file_faults self.new) name.now result }
 
         // The bytes are those that the file gave.
         ensures handed { ReadConsumes
-            (file_remaining R.File.remaining self.old) (file_remaining R.File.remaining self.new) result buf.new }
+            (file_remaining R.File.remaining self.old)
+            (file_remaining R.File.remaining self.new) result buf.new }
     {
         let file = self.selected.as_mut().unwrap();
         match file.read(buf) {

@@ -17,7 +17,8 @@ pub fn read_all_over_sure_store(
     requires { limit < usize.MAX }
     ensures whole { let text = text_of store.old.texts name.now in
         IfOk result (λ whole. (whole.items ≡ text) × (length text ≤ limit)) }
-    ensures too_long { IsErrOf result ReadAllFault.TooLong → limit < length (text_of store.old.texts name.now) }
+    ensures too_long { IsErrOf result ReadAllFault.TooLong
+        → limit < length (text_of store.old.texts name.now) }
     ensures sure { IsErrOf result ReadAllFault.ReadFault → ⊥ }
 {
     read_all(alloc, store, name, limit)

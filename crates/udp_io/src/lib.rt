@@ -1,8 +1,9 @@
 //! Texts that are read by name, and a place that bytes are written to.
 //!
-//! `Store` and `Sink` say in their clauses what reading and writing do to the bytes, for those that tell
-//! them, and that a call fails only where a count of faults rose. `read_all` and `write_all` work over any
-//! of them. `FileStore` and `StdSink` are the edge to files and standard output; the others lie in memory.
+//! The clauses of `Store` and `Sink` say what reading and writing do to the bytes, where an
+//! implementation tells them, and that a call fails only where a count of faults rose. `read_all`
+//! and `write_all` work over any of them. `FileStore` and `StdSink` are the edge to files and to
+//! standard output; the others lie in memory.
 #![tactic(auto)]
 
 mod fault_plan;

@@ -8,7 +8,8 @@ ghost use Rattle.udp_io.specs.StdSink.{inner_writer, writer_faults};
 use crate::{Sink, SinkFault};
 use std::io::Write;
 
-/// Standard output, or any other writer. It tells none of the bytes. A write that takes none of them fails.
+/// Standard output, or any other writer. It tells none of the bytes. A write that takes none of
+/// them fails.
 #[derive(Drop)]
 pub struct StdSink<W: Write> {
     writer: W,
@@ -36,7 +37,9 @@ impl<W: Write> Sink for StdSink<W> {
         ensures cause { HasCause (writer_faults self.old) (writer_faults self.new) result }
 
         // The bytes are handed on to the writer.
-        ensures handed { WriteAppends (W.contents (inner_writer self.old)) (W.contents (inner_writer self.new)) result bytes.now }
+        ensures handed { WriteAppends
+            (W.contents (inner_writer self.old))
+            (W.contents (inner_writer self.new)) result bytes.now }
     {
         match self.writer.write(bytes) {
             Ok(count) if count > 0 || bytes.is_empty() => Ok(count),

@@ -13,7 +13,7 @@ pub trait Store {
     /// The text under this name, where the store tells it.
     ghost text: { Self → List ℕ → Option (List ℕ) };
 
-    /// The rest of the selected text, where the store tells it. It is empty before a text is selected.
+    /// The rest of the selected text, where the store tells it. It is empty at first.
     ghost left: { Self → Option (List ℕ) };
 
     /// A text can be taken under this name.

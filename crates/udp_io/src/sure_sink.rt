@@ -4,8 +4,8 @@ use crate::{NoMemory, Sink, SinkFault};
 use std::alloc::Global;
 use std::marker::Model;
 
-/// A sink in memory that never fails. It keeps the first `room` bytes, and tells what was written while no
-/// more came.
+/// A sink in memory that never fails. It keeps the first `room` bytes, and tells what was written
+/// while no more came.
 #[derive(Drop)]
 pub struct SureSink {
     kept: Vec<u8>,
@@ -26,11 +26,11 @@ impl Model for SureSink {
 
 impl SureSink {
     ghost use Rattle.std.specs.Prelude.{◌≡◌, IfOk};
-    ghost use Rattle.udp_io.specs.SureSink.{empty_sink};
+    ghost use Rattle.udp_io.specs.SureSink.{empty_sure_sink};
 
     /// An empty sink. It reserves its whole room, so that writing to it takes no memory.
     pub fn new(alloc: Global, room: usize) -> Result<SureSink, NoMemory>
-        ensures { IfOk result (λ sink. sink ≡ empty_sink room) }
+        ensures { IfOk result (λ sink. sink ≡ empty_sure_sink room) }
     {
         Ok(SureSink {
             kept: Vec::with_capacity(alloc, room)?,
@@ -47,10 +47,9 @@ impl SureSink {
     }
 }
 
+// The clauses say exactly what a call answers and leaves. The others of `Sink` follow.
 impl Sink for SureSink {
-    ghost use Rattle.std.specs.Prelude.{◌≡◌, ◌<◌, length, IfOk};
-    ghost use Rattle.std.specs.Io.{WritesAtMost};
-    ghost use Rattle.udp_io.specs.Faults.{HasCause};
+    ghost use Rattle.std.specs.Prelude.{◌≡◌, length};
     ghost use Rattle.udp_io.specs.Writing.{PutGrows};
     ghost use Rattle.udp_io.specs.SureSink.{sure_written, with_bytes};
 
@@ -59,14 +58,11 @@ impl Sink for SureSink {
     ghost faults = { λ _. 0 };
 
     fn put(&mut self, bytes: &[u8]) -> Result<usize, SinkFault>
-        ensures bound { WritesAtMost result bytes.now }
-        ensures progress { IfOk result (λ n. 0 < length bytes.now → 0 < n) }
-        ensures appended { PutGrows (sure_written self.old) (sure_written self.new) result bytes.now }
-        ensures cause { HasCause 0 0 result }
-
         // It takes all of the bytes, and keeps what fits.
         ensures sure { result ≡ Ok (length bytes.now) }
         ensures after { self.new ≡ with_bytes self.old bytes.now }
+        ensures appended { PutGrows
+            (sure_written self.old) (sure_written self.new) result bytes.now }
     {
         let free = self.room - self.kept.len();
         self.is_over |= free < bytes.len();

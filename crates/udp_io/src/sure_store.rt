@@ -25,12 +25,13 @@ impl Model for SureStore {
 
 impl SureStore {
     ghost use Rattle.std.specs.Prelude.{◌≡◌, ◌<◌, false, IfOk, OnOk, OnErr};
-    ghost use Rattle.udp_io.specs.Texts.{no_texts, has_name, with_text};
+    ghost use Rattle.udp_io.specs.Texts.{has_name, with_text};
+    ghost use Rattle.udp_io.specs.SureStore.{empty_sure_store};
 
     /// A store with no texts, of which at most `piece` bytes are taken at once.
     pub fn new(alloc: Global, piece: usize) -> Result<SureStore, NoMemory>
         requires { 0 < piece }
-        ensures { IfOk result (λ store. store ≡ record { texts = no_texts; piece = piece }) }
+        ensures { IfOk result (λ store. store ≡ empty_sure_store piece) }
     {
         Ok(SureStore {
             texts: Texts::new(alloc),
@@ -41,20 +42,21 @@ impl SureStore {
     /// Puts a text under a name that has none.
     pub fn add(&mut self, name: &str, text: &[u8]) -> Result<(), NoMemory>
         requires { has_name self.old.texts name.now ≡ false }
-        ensures ok { OnOk result (self.new ≡ record self.old { texts = with_text self.old.texts name.now text.now }) }
+        ensures ok { OnOk result (self.new ≡ record self.old {
+          texts = with_text self.old.texts name.now text.now;
+        }) }
         ensures err { OnErr result (self.new ≡ self.old) }
     {
         self.texts.add(name, text)
     }
 }
 
+// The clauses say exactly what a call answers and leaves. The others of `Store` follow.
 impl Store for SureStore {
-    ghost use Rattle.std.specs.Prelude.{◌≡◌, ◌++◌, length, min, take, drop, IsOk};
+    ghost use Rattle.std.specs.Prelude.{◌≡◌, IsOk};
     ghost use Rattle.std.specs.Result.{result_unwrap_or};
-    ghost use Rattle.std.specs.Io.{ReadsAtMost};
-    ghost use Rattle.udp_io.specs.Faults.{HasCauseAt};
-    ghost use Rattle.udp_io.specs.Reading.{IsAllLeft, TakesFirst, IsZeroAtEnd};
-    ghost use Rattle.udp_io.specs.Texts.{selecting, without_first};
+    ghost use Rattle.udp_io.specs.Reading.{IsZeroAtEnd};
+    ghost use Rattle.udp_io.specs.Texts.{selecting, take_count, with_front, without_first};
     ghost use Rattle.udp_io.specs.SureStore.{sure_text, sure_left, IsSureUsable};
 
     ghost text = { sure_text };
@@ -74,10 +76,11 @@ impl Store for SureStore {
     }
 
     fn take(&mut self, _name: &str, buf: &mut [u8]) -> Result<usize, StoreFault>
-        ensures sure { result ≡ Ok (min (min (length buf.new) self.old.piece) (length self.old.texts.left)) }
-        ensures filled { let n = result_unwrap_or result 0 in buf.new ≡ take n self.old.texts.left ++ drop n buf.old }
-        ensures after { self.new ≡ record self.old { texts = without_first self.old.texts (result_unwrap_or result 0) } }
-        ensures taken { TakesFirst (sure_left self.old) (sure_left self.new) result buf.new }
+        ensures sure { result ≡ Ok (take_count self.old.texts self.old.piece buf.old) }
+        ensures filled { buf.new ≡ with_front buf.old self.old.texts (result_unwrap_or result 0) }
+        ensures after { self.new ≡ record self.old {
+          texts = without_first self.old.texts (result_unwrap_or result 0);
+        } }
         ensures zero { IsZeroAtEnd (sure_left self.old) result buf.new }
     {
         Ok(self.texts.take(buf, self.piece))

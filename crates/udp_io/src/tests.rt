@@ -1,29 +1,36 @@
+ghost use Rattle.std.specs.Prelude.{◌<◌};
+
 use crate::laws::{read_all_over_sure_store, write_all_over_sure_sink};
 use crate::{
-    FileStore, MemSink, MemStore, ReadAllFault, StdSink, SureSink, SureStore, read_all, write_all,
+    FileStore, MemSink, MemStore, NoMemory, ReadAllFault, StdSink, SureSink, SureStore, read_all,
+    write_all,
 };
+use std::alloc::Global;
 use std::fs;
 use std::test::Fail;
 
+/// A store of the one text `abcd`, under the name `word`.
+fn word_store(alloc: Global, piece: usize) -> Result<MemStore, NoMemory>
+    requires { 0 < piece }
+{
+    let mut store = MemStore::new(alloc, piece)?;
+    store.add("word", b"abcd")?;
+    Ok(store)
+}
+
 #[test]
-fn texts_are_read_whole_in_pieces_of_any_size(rt: HostRuntime) -> Result<(), Fail> {
+fn a_text_is_read_whole_in_pieces_of_any_size(rt: HostRuntime) -> Result<(), Fail> {
     let alloc = rt.alloc();
     for piece in [1usize, 2, 4, 5, 65_536] {
-        let mut store = MemStore::new(alloc, piece)?;
-        store.add("empty", b"")?;
-        store.add("word", b"abcd")?;
-        let empty = read_all(alloc, &mut store, "empty", 0)?;
-        assert_eq!(rt; empty.len(), 0, "piece {piece}");
+        let mut store = word_store(alloc, piece)?;
         let word = read_all(alloc, &mut store, "word", 4)?;
         assert_eq!(rt; word.as_slice(), b"abcd".as_slice(), "piece {piece}");
         let long = read_all(alloc, &mut store, "word", 3);
-        assert!(rt;
-            matches!(&long, Err(ReadAllFault::TooLong)),
-            "piece {piece}"
-        );
+        assert_eq!(rt; long.err(), Some(ReadAllFault::TooLong), "piece {piece}");
         let absent = read_all(alloc, &mut store, "absent", 4);
-        assert!(rt;
-            matches!(&absent, Err(ReadAllFault::ReadFault)),
+        assert_eq!(rt;
+            absent.err(),
+            Some(ReadAllFault::ReadFault),
             "piece {piece}"
         );
     }
@@ -35,28 +42,36 @@ fn an_absent_name_has_the_empty_text_in_a_sure_store(rt: HostRuntime) -> Result<
     let alloc = rt.alloc();
     let mut store = SureStore::new(alloc, 2)?;
     store.add("word", b"abc")?;
-    let word = read_all_over_sure_store(alloc, &mut store, "word", 9)?;
-    assert_eq!(rt; word.as_slice(), b"abc".as_slice());
-    let absent = read_all_over_sure_store(alloc, &mut store, "absent", 9)?;
-    assert_eq!(rt; absent.len(), 0);
+    store.add("empty", b"")?;
+    for (name, text) in [("word", "abc"), ("empty", ""), ("absent", "")] {
+        let whole = read_all_over_sure_store(alloc, &mut store, name, 3)?;
+        assert_eq!(rt; whole.as_slice(), text.as_bytes(), "{name}");
+    }
     Ok(())
 }
 
 #[test]
-fn a_listed_call_fails_in_mid_stream(rt: HostRuntime) -> Result<(), Fail> {
+fn a_listed_read_fails(rt: HostRuntime) -> Result<(), Fail> {
     let alloc = rt.alloc();
-    // Reading "abc" in pieces of one byte is a `select` and four `take`s.
-    for call in 0..6u64 {
-        let mut store = MemStore::new(alloc, 1)?;
-        store.add("word", b"abc")?;
+    // The text is selected, and taken in two pieces and an empty one.
+    for (call, is_read) in [(0u64, false), (1, false), (2, false), (3, false), (4, true)] {
+        let mut store = word_store(alloc, 2)?;
         store.fail_at(call)?;
-        let word = read_all(alloc, &mut store, "word", 9);
-        assert_eq!(rt; word.is_ok(), call == 5, "call {call}");
-        let mut sink = MemSink::new(alloc, 1, 9)?;
+        let word = read_all(alloc, &mut store, "word", 4);
+        assert_eq!(rt; word.is_ok(), is_read, "call {call}");
+    }
+    Ok(())
+}
+
+#[test]
+fn a_listed_write_fails_after_what_was_written(rt: HostRuntime) -> Result<(), Fail> {
+    let alloc = rt.alloc();
+    for (call, written) in [(0u64, ""), (1, "ab"), (2, "abcd"), (3, "abcde")] {
+        let mut sink = MemSink::new(alloc, 2, 5)?;
         sink.fail_at(call)?;
-        let written = write_all(&mut sink, b"abcde");
-        assert_eq!(rt; written.is_ok(), call == 5, "call {call}");
-        assert_eq!(rt; sink.bytes().len() as u64, call, "call {call}");
+        let result = write_all(&mut sink, b"abcde");
+        assert_eq!(rt; result.is_ok(), call == 3, "call {call}");
+        assert_eq!(rt; sink.bytes(), written.as_bytes(), "call {call}");
     }
     Ok(())
 }
@@ -65,12 +80,10 @@ fn a_listed_call_fails_in_mid_stream(rt: HostRuntime) -> Result<(), Fail> {
 fn a_sink_takes_what_fits(rt: HostRuntime) -> Result<(), Fail> {
     let alloc = rt.alloc();
     let mut sink = MemSink::new(alloc, 3, 5)?;
-    assert!(rt; write_all(&mut sink, b"abcd").is_ok());
-    assert!(rt; write_all(&mut sink, b"efg").is_err());
+    assert!(rt; write_all(&mut sink, b"abcdefg").is_err());
     assert_eq!(rt; sink.bytes(), b"abcde".as_slice());
     let mut sure = SureSink::new(alloc, 5)?;
-    assert!(rt; write_all_over_sure_sink(&mut sure, b"abcd").is_ok());
-    assert!(rt; write_all_over_sure_sink(&mut sure, b"efg").is_ok());
+    assert!(rt; write_all_over_sure_sink(&mut sure, b"abcdefg").is_ok());
     assert_eq!(rt; sure.bytes(), b"abcde".as_slice());
     Ok(())
 }
@@ -84,21 +97,17 @@ fn a_file_is_a_text(rt: HostRuntime) -> Result<(), Fail> {
     let text = read_all(alloc, &mut store, "text", 10_000)?;
     assert_eq!(rt; text.as_slice(), bytes.as_slice());
     let absent = read_all(alloc, &mut store, "absent", 10_000);
-    assert!(rt; matches!(&absent, Err(ReadAllFault::ReadFault)));
+    assert_eq!(rt; absent.err(), Some(ReadAllFault::ReadFault));
     Ok(())
 }
 
 #[test]
 fn a_writer_is_a_sink(rt: HostRuntime) -> Result<(), Fail> {
-    let mut held = Vec::new(rt.alloc());
-    {
-        let mut sink = StdSink::new(&mut held);
-        assert!(rt; write_all(&mut sink, b"abc").is_ok());
-    }
-    assert_eq!(rt; held.as_slice(), b"abc".as_slice());
-    // A slice that is full takes nothing more.
-    let mut room = [0u8; 2];
-    let mut sink = StdSink::new(&mut room[..]);
-    assert!(rt; write_all(&mut sink, b"abc").is_err());
+    let mut held = [0u8; 4];
+    let mut sink = StdSink::new(&mut held[..]);
+    assert!(rt; write_all(&mut sink, b"abc").is_ok());
+    // A slice with room for one byte more takes no second one.
+    assert!(rt; write_all(&mut sink, b"de").is_err());
+    assert_eq!(rt; held, *b"abcd");
     Ok(())
 }

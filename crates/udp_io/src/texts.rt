@@ -1,6 +1,7 @@
 //! Texts by name in memory, of which one is selected and taken piece by piece.
-ghost use Rattle.std.specs.Prelude.{◌≡◌, ◌++◌, false, length, min, take, drop, OnOk, OnErr};
-ghost use Rattle.udp_io.specs.Texts.{no_texts, has_name, with_text, selecting, without_first};
+ghost use Rattle.std.specs.Prelude.{◌≡◌, false, OnOk, OnErr};
+ghost use Rattle.udp_io.specs.Texts.{no_texts, has_name, with_text, selecting};
+ghost use Rattle.udp_io.specs.Texts.{take_count, with_front, without_first};
 
 use std::alloc::{AllocError, Global};
 use std::marker::Model;
@@ -30,17 +31,20 @@ pub struct Texts {
 }
 
 impl Model for Texts {
-    ghost use Rattle.std.specs.Prelude.{◌≤◌, drop, length, vec_len};
+    ghost use Rattle.std.specs.Prelude.{◌<◌, ◌≤◌, drop, length, vec_len};
     ghost use Rattle.std.specs.Option.{ForSome};
     ghost use Rattle.udp_io.specs.Texts.{NamedTexts, text_at};
 
     ghost Value = { NamedTexts };
 
-    ghost use Rattle.std.specs.Prelude.{◌<◌};
+    ghost view = { λ t. record {
+      texts = t.texts.items;
+      selected = t.selected;
+      left = drop t.taken (text_at t.texts.items t.selected);
+    } };
 
-    ghost view = { λ t. record { texts = t.texts.items; selected = t.selected; left = drop t.taken (text_at t.texts.items t.selected) } };
-
-    ghost invariant = { λ t. ForSome t.selected (λ place. place < vec_len t.texts) × (t.taken ≤ length (text_at t.texts.items t.selected)) };
+    ghost invariant = { λ t. ForSome t.selected (λ place. place < vec_len t.texts)
+        × (t.taken ≤ length (text_at t.texts.items t.selected)) };
 }
 
 impl Texts {
@@ -79,8 +83,8 @@ impl Texts {
 
     /// Takes at most `most` bytes of what is left, and answers how many.
     pub fn take(&mut self, buf: &mut [u8], most: usize) -> usize
-        ensures count { result ≡ min (min (length buf.new) most) (length self.old.left) }
-        ensures filled { buf.new ≡ take result self.old.left ++ drop result buf.old }
+        ensures count { result ≡ take_count self.old most buf.old }
+        ensures filled { buf.new ≡ with_front buf.old self.old result }
         ensures rest { self.new ≡ without_first self.old result }
     {
         let Some(place) = self.selected else {
