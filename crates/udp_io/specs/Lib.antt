@@ -1,0 +1,12 @@
+pub mod FaultPlan
+pub mod Faults
+pub mod FileStore
+pub mod MemSink
+pub mod MemStore
+pub mod Piece
+pub mod Reading
+pub mod StdSink
+pub mod SureSink
+pub mod SureStore
+pub mod Texts
+pub mod Writing
