@@ -24,7 +24,6 @@ relations_from number (table ∷ tables) =
 
 -- the block of SELECT * FROM name
 abbrev pub block_tree : BlockText → Query
-unfolding roll-Block
 block_tree block = query.Block (roll-Block (record {
   distinct = false;
   items = item.Star block.star_at ∷ [];

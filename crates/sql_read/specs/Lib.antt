@@ -3,3 +3,6 @@ pub mod Reserved
 pub mod FirstText
 pub mod FirstTrees
 pub mod FirstForm
+pub mod ReadingWords
+pub mod ReadingFirst
+pub mod Views

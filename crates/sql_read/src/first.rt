@@ -5,7 +5,7 @@ ghost use Rattle.sql_model.specs.declared.schema.Schema.{Schema as TheSchema};
 ghost use Rattle.sql_model.specs.declared.tree.Query.{Query as TheQuery};
 
 use sql_model::{Query, Schema};
-use std::alloc::Global;
+use std::alloc::{AllocError, AllocFailed, Global};
 
 /// The most tables, columns of one table, and blocks of one query.
 pub const MOST_TABLES: usize = 256;
@@ -27,6 +27,28 @@ pub struct FirstCase {
 pub enum FirstFault {
     NotFirst,
     NoMemory,
+}
+
+impl From<AllocError> for FirstFault {
+    ghost use Rattle.std.specs.Prelude.{◌≡◌};
+    ghost use Rattle.sql_read.specs.declared.first.FirstFault.TheVariants.{NoMemory};
+
+    ghost from_gives = { λ _ fault. fault ≡ NoMemory };
+
+    fn from(_error: AllocError) -> FirstFault {
+        FirstFault::NoMemory
+    }
+}
+
+impl<T: Drop> From<AllocFailed<T>> for FirstFault {
+    ghost use Rattle.std.specs.Prelude.{◌≡◌};
+    ghost use Rattle.sql_read.specs.declared.first.FirstFault.TheVariants.{NoMemory};
+
+    ghost from_gives = { λ _ fault. fault ≡ NoMemory };
+
+    fn from(_failed: AllocFailed<T>) -> FirstFault {
+        FirstFault::NoMemory
+    }
 }
 
 /// Reads a case of the first form.

@@ -1,6 +1,11 @@
 //! Reads the text of a case.
 #![tactic(auto)]
 
+mod bytes;
 mod first;
+mod queries;
+mod reserved;
+mod tables;
+mod words;
 
 pub use first::{FirstCase, FirstFault, read_first};

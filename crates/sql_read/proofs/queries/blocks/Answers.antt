@@ -1,0 +1,32 @@
+use Rattle.std.proofs.Common.{codes, refl, sym, ap, ◌∙◌, arith}
+use Rattle.std.proofs.lemmas.Result.{err_from_is_err_and}
+use Rattle.sql_read.specs.declared.first.TheConstants.{MOST_BLOCKS}
+use Rattle.sql_read.specs.ReadingFirst.{blocks_at, next_block}
+use Rattle.sql_read.specs.Views.{rest}
+use Rattle.sql_read.proofs.Repeated.{ends, is_full, exits, goes_on}
+use Rattle.sql_read.proofs.queries.blocks.Goals as goal
+
+pub others-init : goal.others-init
+unfolding blocks_at
+others-init c = record { fit = omega arith; told = refl }
+
+pub returns-then-count-eq-MOST_BLOCKS : goal.returns-then-count-eq-MOST_BLOCKS
+returns-then-count-eq-MOST_BLOCKS c =
+    is_full (codes "union") (next_block c.args.tables.now.entries c.args.width) MOST_BLOCKS c.others.count c.others.all (rest c.others.words) _ c.others.invariant.told (omega arith) _ c.in-Some.ensures
+
+pub returns : goal.returns
+returns c =
+    let none = c.in_default.ensures in
+    rw none.1 (ends (codes "union") (next_block c.args.tables.now.entries c.args.width) MOST_BLOCKS c.others.count c.others.all (rest c.others.words) _ c.others.invariant.told none.0)
+
+pub returns-in_err-all : goal.returns-in_err-all
+returns-in_err-all c =
+    let p = err_from_is_err_and c.from_residual.result c.from_residual.ensures.1 in
+    rw (p.1, p.2) (exits (codes "union") (next_block c.args.tables.now.entries c.args.width) MOST_BLOCKS c.others.count c.others.all (rest c.others.words) _ c.others.invariant.told c.others.invariant.fit (omega arith) _ c.in-Some.ensures _ c.in_err-all.ensures)
+
+pub others-preserved : goal.others-preserved
+others-preserved c =
+    record {
+      fit = omega arith;
+      told = goes_on (codes "union") (next_block c.args.tables.now.entries c.args.width) MOST_BLOCKS c.others.count c.others.all (rest c.others.words) _ c.others.invariant.told c.others.invariant.fit (omega arith) _ c.in-Some.ensures (c.in_ok-all.all, rest c.union_all.new.words) c.in_ok-all.ensures;
+    }

@@ -1,0 +1,28 @@
+-- What private contracts see of the reader's own types.
+use Rattle.std.specs.Prelude.{ℕ, ◌≡◌, List, map, Option, Some, None, Result, Ok, Err}
+use Rattle.sql_read.specs.declared.first.FirstFault.{FirstFault}
+use Rattle.sql_read.specs.declared.first.FirstFault.TheVariants as fault
+use Rattle.sql_read.specs.declared.words.Token.{Token as WrittenToken}
+use Rattle.sql_read.specs.declared.words.Words.{Words}
+use Rattle.sql_read.specs.Words.{Token, folded_byte}
+use Rattle.sql_read.specs.ReadingWords.{Rest, word_at}
+
+abbrev pub rest : Words → Rest
+rest words = record { at = words.at; text = words.text.now }
+
+abbrev pub token : WrittenToken → Token
+token t = record { text = map folded_byte t.text.now; at = t.at }
+
+-- What a function returned, and what it left of the text, is what reading gives, unless memory ran out.
+abbrev pub Fails : {X : Type 0} → FirstFault → Option X → Type 0
+Fails fault.NotFirst read = read ≡ None
+Fails fault.NoMemory read = Unit {0}
+
+abbrev pub Gives : {X Y : Type 0} → (X → Y) → Result X FirstFault → Rest → Option (Y × Rest) → Type 0
+Gives view (Ok x) rest read = read ≡ Some (view x, rest)
+Gives view (Err f) rest read = Fails f read
+
+-- the word's place and what is left behind it, or all that was there before where the word does not stand next
+abbrev pub Eats : List ℕ → Rest → Option ℕ → Rest → Type 0
+Eats word before (Some at) after = word_at word before ≡ Some (at, after)
+Eats word before None after = (word_at word before ≡ None) × (after ≡ before)
