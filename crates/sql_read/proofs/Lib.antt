@@ -1,2 +1,5 @@
+pub mod ByteKinds
 pub mod Folding
 pub mod Repeated
+pub mod Tokens
+pub mod Front

@@ -3,6 +3,7 @@
 
 mod bytes;
 mod first;
+pub mod laws;
 mod queries;
 mod reserved;
 mod tables;
