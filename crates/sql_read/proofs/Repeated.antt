@@ -16,16 +16,16 @@ not_found word before None after test h e t = h
 not_found word before (Some at) after test h e t = absurd cc
 
 module _ {X : Type 0} (word : List ℕ) (step : Step X) where
-  at_end : (room : ℕ) (so_far : X) (rest : Rest) → word_at word rest ≡ None → repeated word step room so_far rest ≡ Some (so_far, rest)
+  pub at_end : (room : ℕ) (so_far : X) (rest : Rest) → word_at word rest ≡ None → repeated word step room so_far rest ≡ Some (so_far, rest)
   unfolding repeated
   at_end zero so_far rest none = ap (λ o. behind o (Some (so_far, rest)) (λ f. None)) none
   at_end (suc room) so_far rest none = ap (λ o. behind o (Some (so_far, rest)) (λ f. step so_far f >>= λ next. repeated word step room next.0 next.1)) none
 
-  at_most : (so_far : X) (rest : Rest) (next : ℕ × Rest) → word_at word rest ≡ Some next → repeated word step 0 so_far rest ≡ None
+  pub at_most : (so_far : X) (rest : Rest) (next : ℕ × Rest) → word_at word rest ≡ Some next → repeated word step 0 so_far rest ≡ None
   unfolding repeated
   at_most so_far rest next some = ap (λ o. behind o (Some (so_far, rest)) (λ f. None)) some
 
-  one_more : (room : ℕ) (so_far : X) (rest : Rest) (next : ℕ × Rest) → word_at word rest ≡ Some next → repeated word step (suc room) so_far rest ≡ (step so_far next >>= λ done. repeated word step room done.0 done.1)
+  pub one_more : (room : ℕ) (so_far : X) (rest : Rest) (next : ℕ × Rest) → word_at word rest ≡ Some next → repeated word step (suc room) so_far rest ≡ (step so_far next >>= λ done. repeated word step room done.0 done.1)
   unfolding repeated
   one_more room so_far rest next some = ap (λ o. behind o (Some (so_far, rest)) (λ f. step so_far f >>= λ done. repeated word step room done.0 done.1)) some
 

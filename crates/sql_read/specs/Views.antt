@@ -1,11 +1,13 @@
 -- What private contracts see of the reader's own types.
 use Rattle.std.specs.Prelude.{ℕ, ◌≡◌, List, map, Option, Some, None, Result, Ok, Err}
+use Rattle.sql_read.specs.declared.first.FirstCase.{FirstCase}
 use Rattle.sql_read.specs.declared.first.FirstFault.{FirstFault}
 use Rattle.sql_read.specs.declared.first.FirstFault.TheVariants as fault
 use Rattle.sql_read.specs.declared.words.Token.{Token as WrittenToken}
 use Rattle.sql_read.specs.declared.words.Words.{Words}
 use Rattle.sql_read.specs.Words.{Token, folded_byte}
 use Rattle.sql_read.specs.ReadingWords.{Rest, word_at}
+use Rattle.sql_read.specs.ReadingFirst.{FirstRead, case_at}
 
 abbrev pub rest : Words → Rest
 rest words = record { at = words.at; text = words.text.now }
@@ -26,3 +28,15 @@ Gives view (Err f) rest read = Fails f read
 abbrev pub Eats : List ℕ → Rest → Option ℕ → Rest → Type 0
 Eats word before (Some at) after = word_at word before ≡ Some (at, after)
 Eats word before None after = (word_at word before ≡ None) × (after ≡ before)
+
+-- the whole of a text
+abbrev pub start : List ℕ → Rest
+start text = record { at = 0; text = text }
+
+abbrev pub first_read : FirstCase → FirstRead
+first_read c = record { tables = c.schema.relations.entries; left = c.left; right = c.right; width = c.width }
+
+-- what the reader returned is what the whole text gives
+abbrev pub Reads : Result FirstCase FirstFault → List ℕ → Type 0
+Reads (Ok c) text = case_at (start text) ≡ Some (first_read c)
+Reads (Err f) text = Fails f (case_at (start text))

@@ -1,9 +1,14 @@
 //! The first form of a case: tables of one-word types and `UNION ALL` queries over them.
-ghost use Rattle.std.specs.Prelude.{IfOk, IsErrOf, ◌≤◌, ℕ, List, length};
+ghost use Rattle.std.specs.Prelude.{◌≡◌, ◌≤◌, ◌<◌, ◌^◌, ℕ, [], length, IfOk, IsErrOf};
 ghost use Rattle.sql_read.specs.FirstForm.{IsFirstCase};
+ghost use Rattle.sql_read.specs.Views.{Reads};
 ghost use Rattle.sql_model.specs.declared.schema.Schema.{Schema as TheSchema};
 ghost use Rattle.sql_model.specs.declared.tree.Query.{Query as TheQuery};
 
+use crate::queries::query;
+use crate::tables::tables;
+use crate::words::Words;
+use plain_data::List;
 use sql_model::{Query, Schema};
 use std::alloc::{AllocError, AllocFailed, Global};
 
@@ -51,11 +56,35 @@ impl<T: Drop> From<AllocFailed<T>> for FirstFault {
     }
 }
 
-/// Reads a case of the first form.
-pub fn read_first(_alloc: Global, _bytes: &[u8]) -> Result<FirstCase, FirstFault>
-    requires { length _bytes.now ≤ 1048576 }
-    ensures read { IfOk result (λ c. IsFirstCase _bytes.now c.schema c.left c.right c.width) }
-    ensures not_first { IsErrOf result FirstFault.NotFirst → (schema : TheSchema) (left right : TheQuery) (width : ℕ) → IsFirstCase _bytes.now schema left right width → ⊥ }
+#[tactic(auto, unfolding(crate::specs::ReadingFirst::case_at))]
+fn case(alloc: Global, bytes: &[u8]) -> Result<FirstCase, FirstFault>
+    requires { length bytes.now < 2 ^ 32 }
+    ensures read { Reads result bytes.now }
+    ensures no_keys { IfOk result (λ c. c.schema.fkeys ≡ []) }
 {
-    Err(FirstFault::NoMemory)
+    let mut words = Words::new(bytes);
+    let relations = tables(alloc, &mut words)?;
+    let (left, width) = query(alloc, &relations, &mut words)?;
+    let (right, right_width) = query(alloc, &relations, &mut words)?;
+    if !words.is_at_end() || width != right_width {
+        return Err(FirstFault::NotFirst);
+    }
+    Ok(FirstCase {
+        schema: Schema {
+            relations,
+            fkeys: List::new(alloc),
+        },
+        left,
+        right,
+        width: width as u32,
+    })
+}
+
+/// Reads a case of the first form.
+pub fn read_first(alloc: Global, bytes: &[u8]) -> Result<FirstCase, FirstFault>
+    requires { length bytes.now ≤ 1048576 }
+    ensures read { IfOk result (λ c. IsFirstCase bytes.now c.schema c.left c.right c.width) }
+    ensures not_first { IsErrOf result FirstFault.NotFirst → (schema : TheSchema) (left right : TheQuery) (width : ℕ) → IsFirstCase bytes.now schema left right width → ⊥ }
+{
+    case(alloc, bytes)
 }
