@@ -83,6 +83,7 @@ module _ {A : Type 0} (key : A → List ℕ) where
 
   pub fresh_from_apart : (names : List (List ℕ)) (xs : List A) → Each (Apart xs) names → EachPair (λ x y. key x ≢ key y) xs → Fresh names xs
   fresh_from_apart names [] apart pairs = tt
-  fresh_from_apart names (x ∷ xs) apart pairs =
-      (each-weaker (Apart (x ∷ xs)) (λ n. n ≢ key x) (λ n p. p.0) names apart,
-      fresh_from_apart (names ++ key x ∷ []) xs (each-append (Apart xs) names (key x ∷ []) (each-weaker (Apart (x ∷ xs)) (Apart xs) (λ n p. p.1) names apart) (pairs.0, tt)) pairs.1)
+  fresh_from_apart names (x ∷ xs) apart pairs = (
+    each-weaker (Apart (x ∷ xs)) (λ n. n ≢ key x) (λ n p. p.0) names apart,
+    fresh_from_apart (names ++ key x ∷ []) xs (each-append (Apart xs) names (key x ∷ []) (each-weaker (Apart (x ∷ xs)) (Apart xs) (λ n p. p.1) names apart) (pairs.0, tt)) pairs.1,
+  )

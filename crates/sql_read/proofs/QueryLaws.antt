@@ -85,8 +85,17 @@ module _ (tables : List (Name × Relation)) where
   block_again : (rest : Rest) (block : BlockText) (width : ℕ) (after : Rest) → Front rest (block_parts block) after → IsOver width block → block_at tables rest ≡ Some ((block_tree block, width), after)
   unfolding block_at
   block_again rest block width after (t0, r0, e0, s0, (t1, r1, e1, s1, (t2, r2, e2, s2, (t3, r3, e3, s3, same)))) over =
-      rw (word_again (codes "select") rest t0 r0 e0 s0, word_again (codes "*") r0 t1 r1 e1 s1.0, word_again (codes "from") r1 t2 r2 e2 s2,
-      name_again r2 t3 r3 e3 (subst IsName (sym s3.0) over.0), s3.0, over.1, s1.1, s3.1, same) refl
+      rw (
+        word_again (codes "select") rest t0 r0 e0 s0,
+        word_again (codes "*") r0 t1 r1 e1 s1.0,
+        word_again (codes "from") r1 t2 r2 e2 s2,
+        name_again r2 t3 r3 e3 (subst IsName (sym s3.0) over.0),
+        s3.0,
+        over.1,
+        s1.1,
+        s3.1,
+        same,
+      ) refl
 
   -- ---- the blocks of a query
   module _ (width : ℕ) where
@@ -116,9 +125,11 @@ module _ (tables : List (Name × Relation)) where
     next_block_again : (left : Query) (rest : Rest) (next : NextBlock) (after : Rest) → Front rest (next_block_parts next) after → NextFits left next
         → (union : ℕ × Rest) × (word_at (codes "union") rest ≡ Some union) × (next_block tables width left union ≡ Some (with_block left next, after))
     unfolding next_block
-    next_block_again left rest next after (t0, r0, e0, s0, (t1, r1, e1, s1, front)) fits =
-        ((t0.at, r0), word_again (codes "union") rest t0 r0 e0 s0.0,
-        (rw (word_again (codes "all") r0 t1 r1 e1 s1, block_again r1 next.block width after front fits, eq-eqb width width refl, s0.1) refl))
+    next_block_again left rest next after (t0, r0, e0, s0, (t1, r1, e1, s1, front)) fits = (
+      (t0.at, r0),
+      word_again (codes "union") rest t0 r0 e0 s0.0,
+      (rw (word_again (codes "all") r0 t1 r1 e1 s1, block_again r1 next.block width after front fits, eq-eqb width width refl, s0.1) refl),
+    )
 
     abbrev EachNextFits : Query → List NextBlock → Type 0
     EachNextFits left nexts = AllFit (codes "union") (next_block tables width) next_block_parts with_block NextFits left nexts
@@ -171,7 +182,7 @@ module _ (tables : List (Name × Relation)) where
       let semicolon = split.2 in
       let differs : same_row semicolon.0.text (codes "union") ≡ false = rw semicolon.3 refl in
       let all : repeated (codes "union") (next_block tables width) (MOST_BLOCKS - 1) (block_tree text.first) parts.0 ≡ Some (query_tree text, split.0) =
-          repeated_again (codes "union") (next_block tables width) next_block_parts (with_block width) (NextFits width) (next_block_again width) (MOST_BLOCKS - 1) (block_tree text.first) parts.0 text.others split.0 parts.2
-          (blocks_fit width (block_tree text.first) text.others over.1) (omega (arith, length-map text.others (λ next. next.block))) (word_missed (codes "union") split.0 semicolon.0 semicolon.1 semicolon.2 differs)
-          ∙ ap (λ t. Some (t, split.0)) (grown_blocks width (block_tree text.first) text.others) in
+      repeated_again (codes "union") (next_block tables width) next_block_parts (with_block width) (NextFits width) (next_block_again width) (MOST_BLOCKS - 1) (block_tree text.first) parts.0 text.others split.0 parts.2
+      (blocks_fit width (block_tree text.first) text.others over.1) (omega (arith, length-map text.others (λ next. next.block))) (word_missed (codes "union") split.0 semicolon.0 semicolon.1 semicolon.2 differs)
+      ∙ ap (λ t. Some (t, split.0)) (grown_blocks width (block_tree text.first) text.others) in
       rw (block_again rest text.first width parts.0 parts.1 over.0, all, word_again (codes ";") split.0 semicolon.0 semicolon.1 semicolon.2 semicolon.3, semicolon.4) refl

@@ -54,9 +54,32 @@ table_takes rest create t after some e =
       is_table = record { named = w2.1; columns_named = c.each; columns_differ = c.differ; columns_fit = c.few };
       named = ap (λ p. p.0) same.0;
       columns_named = c.named ∙ ap (λ p. p.1) same.0;
-      front = (w0.token, create.1, w0.next, w0.text, (w1.token, table.1, w1.next, w1.text, (name.0, name.1, w2.0, refl, (w3.token, opens.1, w3.next, w3.text,
-        front-append opens.1 (column_parts c.first ++ flat_map next_column_parts c.others) (Word (codes ")") ∷ Word (codes ";") ∷ []) cs.1 after c.front
-        (w5.token, close.1, w5.next, w5.text, (w6.token, end.1, w6.next, w6.text, same.1))))));
+      front = (
+        w0.token,
+        create.1,
+        w0.next,
+        w0.text,
+        (
+          w1.token,
+          table.1,
+          w1.next,
+          w1.text,
+          (
+            name.0,
+            name.1,
+            w2.0,
+            refl,
+            (
+              w3.token,
+              opens.1,
+              w3.next,
+              w3.text,
+              front-append opens.1 (column_parts c.first ++ flat_map next_column_parts c.others) (Word (codes ")") ∷ Word (codes ";") ∷ []) cs.1 after c.front
+                  (w5.token, close.1, w5.next, w5.text, (w6.token, end.1, w6.next, w6.text, same.1)),
+            ),
+          ),
+        ),
+      );
     }))))))
 
 table_again : (rest : Rest) (table : TableText) (after : Rest) → Front rest (table_parts table) after → IsTable table
@@ -67,10 +90,20 @@ table_again rest table after (t0, r0, e0, s0, (t1, r1, e1, s1, (t2, r2, e2, s2, 
     let close = split.2 in
     let end = close.4 in
     let differs : same_row close.0.text (codes ",") ≡ false = rw close.3 refl in
-    let cs = columns_again r3 table.first table.others split.0 split.1 is_table.columns_named is_table.columns_differ is_table.columns_fit (word_missed (codes ",") split.0 close.0 close.1 close.2 differs) in
-    ((t0.at, r0), word_again (codes "create") rest t0 r0 e0 s0,
-    (rw (word_again (codes "table") r0 t1 r1 e1 s1, name_again r1 t2 r2 e2 (subst IsName (sym s2) is_table.named), word_again (codes "(") r2 t3 r3 e3 s3, cs,
-    word_again (codes ")") split.0 close.0 close.1 close.2 close.3, word_again (codes ";") close.1 end.0 end.1 end.2 end.3, s2, end.4) refl))
+    let cs = columns_again r3 table.first table.others split.0 split.1 is_table.columns_named is_table.columns_differ is_table.columns_fit (word_missed (codes ",") split.0 close.0 close.1 close.2 differs) in (
+      (t0.at, r0),
+      word_again (codes "create") rest t0 r0 e0 s0,
+      (rw (
+        word_again (codes "table") r0 t1 r1 e1 s1,
+        name_again r1 t2 r2 e2 (subst IsName (sym s2) is_table.named),
+        word_again (codes "(") r2 t3 r3 e3 s3,
+        cs,
+        word_again (codes ")") split.0 close.0 close.1 close.2 close.3,
+        word_again (codes ";") close.1 end.0 end.1 end.2 end.3,
+        s2,
+        end.4,
+      ) refl),
+    )
 
 -- ---- the tables
 abbrev create_table : List (Name × Relation) → ℕ × Rest → Option (List (Name × Relation) × Rest)

@@ -144,9 +144,16 @@ unfolding next_token
 token_before at text token after tokens e others =
     let n = prefix_len is_blank text in
     let t = takes (at + n) (drop n text) token after e in
-    let blanks : length (take n text) ≡ n = length-prefix_len is_blank text in
-    (take n text, t.bytes, after.text, sym (take-append-drop n text) ∙ ap (λ rest. take n text ++ rest) t.parts, all-front is_blank text, omega (arith, t.token_at),
-    t.spelled, subst (λ place. HasTokens place after.text tokens) (t.place ∙ ap (λ place. place + length t.bytes) (sym t.token_at)) others)
+    let blanks : length (take n text) ≡ n = length-prefix_len is_blank text in (
+      take n text,
+      t.bytes,
+      after.text,
+      sym (take-append-drop n text) ∙ ap (λ rest. take n text ++ rest) t.parts,
+      all-front is_blank text,
+      omega (arith, t.token_at),
+      t.spelled,
+      subst (λ place. HasTokens place after.text tokens) (t.place ∙ ap (λ place. place + length t.bytes) (sym t.token_at)) others,
+    )
 
 -- ---- one list of tokens
 pub same_tokens : (at : ℕ) (text : List ℕ) (a b : List Token) → HasTokens at text a → HasTokens at text b → a ≡ b

@@ -12,13 +12,16 @@ use plain_data::List;
 use sql_model::{Query, Schema};
 use std::alloc::{AllocError, AllocFailed, Global};
 
-/// The most tables, columns of one table, and blocks of one query.
+/// The most tables of a case.
 pub const MOST_TABLES: usize = 256;
 
+/// The most columns of a table.
 pub const MOST_COLUMNS: usize = 32;
 
+/// The most blocks of a query.
 pub const MOST_BLOCKS: usize = 64;
 
+/// A case of the first form. Places in its trees count bytes of its text, from 0.
 #[derive(Drop)]
 pub struct FirstCase {
     pub schema: Schema,
@@ -30,6 +33,7 @@ pub struct FirstCase {
 
 #[derive(Clone, Copy, Debug, PartialEq, Eq)]
 pub enum FirstFault {
+    /// The text is not of the first form.
     NotFirst,
     NoMemory,
 }
@@ -80,11 +84,15 @@ fn case(alloc: Global, bytes: &[u8]) -> Result<FirstCase, FirstFault>
     })
 }
 
-/// Reads a case of the first form.
+/// Reads a case of the first form, in time linear in its length.
 pub fn read_first(alloc: Global, bytes: &[u8]) -> Result<FirstCase, FirstFault>
     requires { length bytes.now ≤ 1048576 }
+    // What is read is what the text spells.
     ensures read { IfOk result (λ c. IsFirstCase bytes.now c.schema c.left c.right c.width) }
-    ensures not_first { IsErrOf result FirstFault.NotFirst → (schema : TheSchema) (left right : TheQuery) (width : ℕ) → IsFirstCase bytes.now schema left right width → ⊥ }
+    // What is of the first form is refused for want of memory alone.
+    ensures not_first { IsErrOf result FirstFault.NotFirst →
+        (schema : TheSchema) (left right : TheQuery) (width : ℕ) →
+        IsFirstCase bytes.now schema left right width → ⊥ }
 {
     case(alloc, bytes)
 }

@@ -31,7 +31,8 @@ fn one<T: Drop>(alloc: Global, item: T) -> Result<List<T>, AllocError>
 
 /// The tree of `SELECT * FROM name`, with the places of its star and its name.
 fn tree_of(alloc: Global, star_at: u32, name: Name, name_at: u32) -> Result<Query, AllocError>
-    ensures { IfOk result (λ query. query ≡ block_tree (record { star_at = star_at; name = name; name_at = name_at })) }
+    ensures { IfOk result (λ query.
+        query ≡ block_tree (record { star_at = star_at; name = name; name_at = name_at })) }
 {
     let entry = Entry {
         source: Source::Named {
@@ -63,7 +64,8 @@ fn block(
     tables: &IndexMap<Name, Relation>,
     words: &mut Words<'_>,
 ) -> Result<(Query, usize), FirstFault>
-    ensures { Gives (λ block. block) result (rest words.new) (block_at tables.now.entries (rest words.old)) }
+    ensures { Gives (λ block. block) result (rest words.new)
+        (block_at tables.now.entries (rest words.old)) }
 {
     words.expect(b"select")?;
     let star_at = words.expect(b"*")?;
@@ -74,7 +76,7 @@ fn block(
     Ok((tree_of(alloc, star_at, name, token.at)?, width))
 }
 
-/// Reads a further block of this width behind its `UNION`, whose place is given.
+/// Adds a further block, of this width, behind its `UNION`, whose place is given.
 #[tactic(auto, unfolding(crate::specs::ReadingFirst::next_block))]
 fn union_all(
     alloc: Global,
@@ -84,7 +86,8 @@ fn union_all(
     union_at: u32,
     words: &mut Words<'_>,
 ) -> Result<Query, FirstFault>
-    ensures { Gives (λ query. query) result (rest words.new) (next_block tables.now.entries width left (union_at, rest words.old)) }
+    ensures { Gives (λ query. query) result (rest words.new)
+        (next_block tables.now.entries width left (union_at, rest words.old)) }
 {
     words.expect(b"all")?;
     let (right, right_width) = block(alloc, tables, words)?;
@@ -99,21 +102,6 @@ fn union_all(
     })
 }
 
-/// `block {UNION ALL block} ;`, and how many columns it shows.
-#[tactic(auto, unfolding(crate::specs::ReadingFirst::query_at))]
-pub fn query(
-    alloc: Global,
-    tables: &IndexMap<Name, Relation>,
-    words: &mut Words<'_>,
-) -> Result<(Query, usize), FirstFault>
-    ensures { Gives (λ query. query) result (rest words.new) (query_at tables.now.entries (rest words.old)) }
-{
-    let (first, width) = block(alloc, tables, words)?;
-    let all = blocks(alloc, tables, width, first, words)?;
-    words.expect(b";")?;
-    Ok((all, width))
-}
-
 /// `{UNION ALL block}` behind the first block, all of its width.
 fn blocks(
     alloc: Global,
@@ -122,11 +110,12 @@ fn blocks(
     first: Query,
     words: &mut Words<'_>,
 ) -> Result<Query, FirstFault>
-    ensures { Gives (λ query. query) result (rest words.new) (blocks_at tables.now.entries width first (rest words.old)) }
+    ensures { Gives (λ query. query) result (rest words.new)
+        (blocks_at tables.now.entries width first (rest words.old)) }
 {
     let mut all = first;
     let mut count = 1;
-    'others: while let Some(union_at) = words.eat(b"union") {
+    while let Some(union_at) = words.eat(b"union") {
         if count == MOST_BLOCKS {
             return Err(FirstFault::NotFirst);
         }
@@ -134,4 +123,20 @@ fn blocks(
         count += 1;
     }
     Ok(all)
+}
+
+/// `block {UNION ALL block} ;`, and how many columns it shows.
+#[tactic(auto, unfolding(crate::specs::ReadingFirst::query_at))]
+pub fn query(
+    alloc: Global,
+    tables: &IndexMap<Name, Relation>,
+    words: &mut Words<'_>,
+) -> Result<(Query, usize), FirstFault>
+    ensures { Gives (λ query. query) result (rest words.new)
+        (query_at tables.now.entries (rest words.old)) }
+{
+    let (first, width) = block(alloc, tables, words)?;
+    let all = blocks(alloc, tables, width, first, words)?;
+    words.expect(b";")?;
+    Ok((all, width))
 }

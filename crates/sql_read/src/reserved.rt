@@ -1,10 +1,11 @@
-//! Words, compared without regard to case, and those of them that are never names.
+//! Words, compared without regard to case, and those that are never names.
 ghost use Rattle.std.specs.Prelude.{◌≡◌, map};
 ghost use Rattle.std.specs.List.{list_any};
 ghost use Rattle.data_model.specs.Rows.{same_row};
 ghost use Rattle.sql_read.specs.Words.{folded_byte};
 ghost use Rattle.sql_read.specs.Reserved.{is_reserved};
 
+/// The words that the grammar of cases uses.
 const USED_WORDS: [&[u8]; 31] = [
     b"all",
     b"and",
@@ -39,6 +40,7 @@ const USED_WORDS: [&[u8]; 31] = [
     b"where",
 ];
 
+/// The words that begin or name what that grammar leaves out.
 const LEFT_OUT_WORDS: [&[u8]; 39] = [
     b"alter",
     b"any",
@@ -88,7 +90,8 @@ pub fn is_same_word(text: &[u8], word: &[u8]) -> bool
 }
 
 fn is_among(text: &[u8], words: &[&[u8]]) -> bool
-    ensures { result ≡ list_any (λ word. same_row (map folded_byte text.now) (map folded_byte word.now)) words.now }
+    ensures { result ≡
+        list_any (λ word. same_row (map folded_byte text.now) (map folded_byte word.now)) words.now }
 {
     words.iter().any(|word| is_same_word(text, word))
 }

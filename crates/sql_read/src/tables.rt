@@ -20,14 +20,15 @@ fn column(alloc: Global, words: &mut Words<'_>) -> Result<Name, FirstFault>
     Ok(name.to_name(alloc)?)
 }
 
-/// Reads a further column, whose name is to differ from these.
+/// Adds a further column, whose name is to differ from these.
 #[tactic(auto, unfolding(crate::specs::ReadingFirst::next_column))]
 fn push_column(
     alloc: Global,
     names: &mut List<Name>,
     words: &mut Words<'_>,
 ) -> Result<(), FirstFault>
-    ensures read { Gives (λ done. names.new) result (rest words.new) (next_column names.old (rest words.old)) }
+    ensures read { Gives (λ done. names.new) result (rest words.new)
+        (next_column names.old (rest words.old)) }
     ensures longer { OnOk result (length names.new ≡ length names.old + 1) }
 {
     let name = column(alloc, words)?;
@@ -45,7 +46,7 @@ fn columns(alloc: Global, words: &mut Words<'_>) -> Result<List<Name>, FirstFaul
 {
     let mut names = List::new(alloc);
     names.push(column(alloc, words)?)?;
-    'others: while words.eat(b",").is_some() {
+    while words.eat(b",").is_some() {
         if names.len() == MOST_COLUMNS {
             return Err(FirstFault::NotFirst);
         }
@@ -68,7 +69,7 @@ fn table(alloc: Global, words: &mut Words<'_>) -> Result<(Name, List<Name>), Fir
     Ok((name.to_name(alloc)?, columns))
 }
 
-/// Reads a further table, whose name is to differ from those of these.
+/// Adds a further table, whose name is to differ from theirs.
 #[tactic(auto, unfolding(crate::specs::ReadingFirst::next_table))]
 fn insert_table(
     alloc: Global,
@@ -76,7 +77,8 @@ fn insert_table(
     words: &mut Words<'_>,
 ) -> Result<(), FirstFault>
     requires { length tables.old.entries < 2 ^ 32 }
-    ensures read { Gives (λ done. tables.new.entries) result (rest words.new) (next_table tables.old.entries (rest words.old)) }
+    ensures read { Gives (λ done. tables.new.entries) result (rest words.new)
+        (next_table tables.old.entries (rest words.old)) }
     ensures longer { OnOk result (length tables.new.entries ≡ length tables.old.entries + 1) }
 {
     let (name, columns) = table(alloc, words)?;
@@ -97,7 +99,7 @@ pub fn tables(alloc: Global, words: &mut Words<'_>) -> Result<IndexMap<Name, Rel
     ensures { Gives (λ tables. tables.entries) result (rest words.new) (tables_at (rest words.old)) }
 {
     let mut tables = IndexMap::new(alloc);
-    'others: while words.eat(b"create").is_some() {
+    while words.eat(b"create").is_some() {
         if tables.len() == MOST_TABLES {
             return Err(FirstFault::NotFirst);
         }

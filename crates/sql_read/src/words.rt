@@ -10,7 +10,7 @@ use std::alloc::{AllocError, Global};
 /// A word or a symbol as it is written, and the place of its first byte.
 #[derive(Clone, Copy)]
 pub struct Token<'a> {
-    pub text: &'a [u8],
+    text: &'a [u8],
     pub at: u32,
 }
 
@@ -47,8 +47,8 @@ impl Token<'_> {
 /// What is left of a text, and where that begins.
 #[derive(Drop)]
 pub struct Words<'a> {
-    pub text: &'a [u8],
-    pub at: u32,
+    text: &'a [u8],
+    at: u32,
     ghost fits: { at + length text.now < 2 ^ 32 },
 }
 
@@ -57,18 +57,19 @@ impl<'a> Words<'a> {
     ghost use Rattle.std.specs.List.{list_all};
     ghost use Rattle.sql_read.specs.Words.{is_blank, folded_byte};
     ghost use Rattle.sql_read.specs.ReadingWords.{next_token, word_at, name_at};
-    ghost use Rattle.sql_read.specs.Views.{rest, token, Gives, Eats};
+    ghost use Rattle.sql_read.specs.Views.{rest, start, token, Gives, Eats};
 
     pub fn new(text: &'a [u8]) -> Words<'a>
         requires { length text.now < 2 ^ 32 }
-        ensures { rest result ≡ record { at = 0; text = text.now } }
+        ensures { rest result ≡ start text.now }
     {
         Words { text, at: 0 }
     }
 
     #[tactic(auto, unfolding(crate::specs::ReadingWords::next_token))]
-    pub fn token(&mut self) -> Option<Token<'a>>
-        ensures { MatchOption result (next_token (rest self.old) ≡ None) (λ t. next_token (rest self.old) ≡ Some (token t, rest self.new)) }
+    fn next_token(&mut self) -> Option<Token<'a>>
+        ensures { MatchOption result (next_token (rest self.old) ≡ None)
+            (λ t. next_token (rest self.old) ≡ Some (token t, rest self.new)) }
     {
         let blanks = blanks_len(self.text);
         let start = &self.text[blanks..];
@@ -82,7 +83,7 @@ impl<'a> Words<'a> {
         Some(Token { text, at })
     }
 
-    /// Passes this word or symbol if it stands next, and gives its place.
+    /// Passes this word or symbol, and gives its place. Where it does not stand next, nothing is passed.
     #[tactic(auto, unfolding(crate::specs::ReadingWords::word_at))]
     pub fn eat(&mut self, word: &[u8]) -> Option<u32>
         ensures { Eats (map folded_byte word.now) (rest self.old) result (rest self.new) }
@@ -91,7 +92,7 @@ impl<'a> Words<'a> {
             text: self.text,
             at: self.at,
         };
-        let token = ahead.token()?;
+        let token = ahead.next_token()?;
         if !is_same_word(token.text, word) {
             return None;
         }
@@ -101,7 +102,8 @@ impl<'a> Words<'a> {
 
     /// Passes this word or symbol, and gives its place.
     pub fn expect(&mut self, word: &[u8]) -> Result<u32, FirstFault>
-        ensures { Gives (λ at. at) result (rest self.new) (word_at (map folded_byte word.now) (rest self.old)) }
+        ensures { Gives (λ at. at) result (rest self.new)
+            (word_at (map folded_byte word.now) (rest self.old)) }
     {
         self.eat(word).ok_or(FirstFault::NotFirst)
     }
@@ -111,7 +113,7 @@ impl<'a> Words<'a> {
     pub fn name(&mut self) -> Result<Token<'a>, FirstFault>
         ensures { Gives token result (rest self.new) (name_at (rest self.old)) }
     {
-        match self.token() {
+        match self.next_token() {
             Some(token) if token.is_name() => Ok(token),
             _ => Err(FirstFault::NotFirst),
         }

@@ -8,25 +8,25 @@ use Rattle.sql_read.proofs.tables.columns.Goals as goal
 
 pub returns-then-len-eq-MOST_COLUMNS : goal.returns-then-len-eq-MOST_COLUMNS
 returns-then-len-eq-MOST_COLUMNS c =
-    let comma = found (codes ",") (rest c.others.words) c.eat.result (rest c.eat.new.self) c.is_some.result c.eat.ensures c.is_some.ensures c.others-test.true in
-    is_full (codes ",") (λ names n. next_column names n.1) MOST_COLUMNS (length c.others.names) c.others.names (rest c.others.words) _ c.others.invariant.told (omega arith) _ comma.1
+    let comma = found (codes ",") (rest c.loop-alloc.words) c.eat.result (rest c.eat.new.self) c.is_some.result c.eat.ensures c.is_some.ensures c.loop-alloc-test.true in
+    is_full (codes ",") (λ names n. next_column names n.1) MOST_COLUMNS (length c.loop-alloc.names) c.loop-alloc.names (rest c.loop-alloc.words) _ c.loop-alloc.invariant.told (omega arith) _ comma.1
 
 pub returns : goal.returns
 returns c =
-    let none = not_found (codes ",") (rest c.others.words) c.eat.result (rest c.eat.new.self) c.is_some.result c.eat.ensures c.is_some.ensures c.others-test.false in
-    rw none.1 (ends (codes ",") (λ names n. next_column names n.1) MOST_COLUMNS (length c.others.names) c.others.names (rest c.others.words) _ c.others.invariant.told none.0)
+    let none = not_found (codes ",") (rest c.loop-alloc.words) c.eat.result (rest c.eat.new.self) c.is_some.result c.eat.ensures c.is_some.ensures c.loop-alloc-test.false in
+    rw none.1 (ends (codes ",") (λ names n. next_column names n.1) MOST_COLUMNS (length c.loop-alloc.names) c.loop-alloc.names (rest c.loop-alloc.words) _ c.loop-alloc.invariant.told none.0)
 
 pub returns-in_err-push_column : goal.returns-in_err-push_column
 returns-in_err-push_column c =
-    let comma = found (codes ",") (rest c.others.words) c.eat.result (rest c.eat.new.self) c.is_some.result c.eat.ensures c.is_some.ensures c.others-test.true in
+    let comma = found (codes ",") (rest c.loop-alloc.words) c.eat.result (rest c.eat.new.self) c.is_some.result c.eat.ensures c.is_some.ensures c.loop-alloc-test.true in
     let p = err_from_is_err_and c.from_residual-in_err-push_column.result c.from_residual-in_err-push_column.ensures.1 in
-    rw (p.1, p.2) (exits (codes ",") (λ names n. next_column names n.1) MOST_COLUMNS (length c.others.names) c.others.names (rest c.others.words) _ c.others.invariant.told c.others.invariant.fit (omega arith) _ comma.1 _ c.in_err-push_column.ensures.read)
+    rw (p.1, p.2) (exits (codes ",") (λ names n. next_column names n.1) MOST_COLUMNS (length c.loop-alloc.names) c.loop-alloc.names (rest c.loop-alloc.words) _ c.loop-alloc.invariant.told c.loop-alloc.invariant.fit (omega arith) _ comma.1 _ c.in_err-push_column.ensures.read)
 
-pub others-preserved : goal.others-preserved
-others-preserved c =
-    let comma = found (codes ",") (rest c.others.words) c.eat.result (rest c.eat.new.self) c.is_some.result c.eat.ensures c.is_some.ensures c.others-test.true in
-    let longer : length c.push_column.new.names ≡ length c.others.names + 1 = c.in_ok-push_column.ensures.longer in
+pub loop-alloc-preserved : goal.loop-alloc-preserved
+loop-alloc-preserved c =
+    let comma = found (codes ",") (rest c.loop-alloc.words) c.eat.result (rest c.eat.new.self) c.is_some.result c.eat.ensures c.is_some.ensures c.loop-alloc-test.true in
+    let longer : length c.push_column.new.names ≡ length c.loop-alloc.names + 1 = c.in_ok-push_column.ensures.longer in
     record {
       fit = omega arith;
-      told = rw longer (goes_on (codes ",") (λ names n. next_column names n.1) MOST_COLUMNS (length c.others.names) c.others.names (rest c.others.words) _ c.others.invariant.told c.others.invariant.fit (omega arith) _ comma.1 (c.push_column.new.names, rest c.push_column.new.words) c.in_ok-push_column.ensures.read);
+      told = rw longer (goes_on (codes ",") (λ names n. next_column names n.1) MOST_COLUMNS (length c.loop-alloc.names) c.loop-alloc.names (rest c.loop-alloc.words) _ c.loop-alloc.invariant.told c.loop-alloc.invariant.fit (omega arith) _ comma.1 (c.push_column.new.names, rest c.push_column.new.words) c.in_ok-push_column.ensures.read);
     }

@@ -4,11 +4,11 @@ use Rattle.sql_read.specs.ReadingFirst.{columns_at, repeated, next_column}
 use Rattle.sql_read.specs.Views.{rest}
 use Rattle.sql_read.proofs.tables.columns.Given as goal
 
-abbrev pub invariant-others : goal.invariant-others
-invariant-others l = record {
+abbrev pub invariant-loop-alloc : goal.invariant-loop-alloc
+invariant-loop-alloc l = record {
   fit : length l.names ≤ MOST_COLUMNS;
   told : repeated (codes ",") (λ names comma. next_column names comma.1) (MOST_COLUMNS - length l.names) l.names (rest l.words) ≡ columns_at (rest l.fn.words);
 }
 
-abbrev pub decreases-others : goal.decreases-others
-decreases-others l = MOST_COLUMNS - length l.names
+abbrev pub decreases-loop-alloc : goal.decreases-loop-alloc
+decreases-loop-alloc l = MOST_COLUMNS - length l.names

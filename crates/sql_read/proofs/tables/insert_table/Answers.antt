@@ -15,5 +15,5 @@ returns-clause-read c =
     let inserted = c.in_ok-insert.ensures in
     let absent : lookup (bytes_eq c.in_ok-name.name) c.args.tables.now.entries ≡ None = sym inserted.old ∙ none_from c.in_ok-insert.field-0 (sym c.is_some.ensures ∙ c.if-is_some.false) in
     let entries : c.insert.new.self.entries ≡ c.args.tables.now.entries ++ entry_of (length c.args.tables.now.entries) (c.in_ok-name.name, c.in_ok-name.columns) ∷ [] =
-        inserted.entries ∙ insert_entry-new bytes_eq c.args.tables.now _ _ absent ∙ (rw (c.len.ensures.len, c.new.ensures) refl) in
+    inserted.entries ∙ insert_entry-new bytes_eq c.args.tables.now _ _ absent ∙ (rw (c.len.ensures.len, c.new.ensures) refl) in
     rw (c.in_ok-name.ensures, absent, entries) refl
