@@ -1,8 +1,8 @@
 -- The case that is read is the one that the text spells.
-use Rattle.std.proofs.Common.{◌≡◌, ◌≢◌, ◌==◌, ℕ, ◌+◌, ◌≤◌, Bool, true, false, cond, List, [], ◌∷◌, ◌++◌, map, length, codes, Option, Some, None, refl, Result, Ok, Err, sym, subst, ap, ◌∙◌, arith, inl, inr, eqb-true, eq-eqb}
+use Rattle.std.proofs.Common.{◌≡◌, ◌≢◌, ◌==◌, ℕ, ◌≤◌, true, false, List, [], ◌∷◌, ◌++◌, length, codes, Some, refl, Result, Ok, Err, sym, subst, ap, ◌∙◌, arith, inl, inr, eqb-true, eq-eqb}
 use Rattle.std.specs.Prelude.{◌&&◌, IfOk, IsErrOf}
 use Rattle.std.specs.List.{flat_map, list_all}
-use Rattle.std.proofs.lemmas.Bool.{and_parts, and_from}
+use Rattle.std.proofs.lemmas.Bool.{and_parts}
 use Rattle.std.proofs.lemmas.Option.{same_Some, none-some}
 use Rattle.data_model.specs.Rows.{same_row}
 use Rattle.data_model.specs.Lists.{Each, Has, EachPair}
@@ -15,16 +15,16 @@ use Rattle.sql_read.specs.declared.first.FirstCase.{FirstCase}
 use Rattle.sql_read.specs.declared.first.FirstFault.{FirstFault}
 use Rattle.sql_read.specs.declared.first.FirstFault.TheVariants as fault
 use Rattle.sql_read.specs.Views.{Reads}
-use Rattle.sql_read.specs.Words.{Token, is_blank}
-use Rattle.sql_read.specs.FirstText.{Part, Word, TableText, BlockText, QueryText, CaseText, table_parts, query_parts, case_parts}
+use Rattle.sql_read.specs.Words.{is_blank}
+use Rattle.sql_read.specs.FirstText.{TableText, QueryText, CaseText, table_parts, query_parts, case_parts}
 use Rattle.sql_read.specs.FirstTrees.{columns, relations_from, query_tree}
-use Rattle.sql_read.specs.FirstForm.{IsName, IsTable, IsBlockOver, IsQuery, IsFirst, IsFirstCase, blocks}
-use Rattle.sql_read.specs.ReadingWords.{Rest, next_token, word_at, ◌>>=◌}
+use Rattle.sql_read.specs.FirstForm.{IsTable, IsBlockOver, IsQuery, IsFirst, IsFirstCase, blocks}
+use Rattle.sql_read.specs.ReadingWords.{Rest}
 use Rattle.sql_read.specs.ReadingFirst.{width_of, tables_at, query_at, FirstRead, case_at}
 use Rattle.sql_read.proofs.Tokens.{rest_at}
 use Rattle.sql_read.proofs.Front.{tokens_of, front_of, Front, front-append, front-split, bind_then, guard_some, word_missed}
 use Rattle.sql_read.proofs.Differing.{each-weaker}
-use Rattle.sql_read.proofs.TableLaws.{TakesTables, tables_takes, tables_again}
+use Rattle.sql_read.proofs.TableLaws.{tables_takes, tables_again}
 use Rattle.sql_read.proofs.QueryLaws.{IsOver, width_takes, width_again, TakesQuery, query_takes, query_again}
 
 -- a query over the relations of these tables

@@ -1,24 +1,18 @@
 -- The columns that are read are those that are written, and what is written so is read.
-use Rattle.std.proofs.Common.{◌≡◌, ◌≢◌, ℕ, zero, suc, ◌+◌, ◌-◌, ◌≤◌, Bool, true, false, cond, List, [], ◌∷◌, ◌++◌, map, length, codes, is_some, Option, Some, None, refl, sym, subst, ap, ◌∙◌, arith, append_assoc}
+use Rattle.std.proofs.Common.{◌≡◌, ◌≢◌, ℕ, ◌-◌, ◌≤◌, List, [], ◌∷◌, ◌++◌, map, length, codes, Option, Some, None, refl, sym, subst, ap, ◌∙◌, arith, append_assoc}
 use Rattle.std.specs.List.{flat_map, list_any}
-use Rattle.std.specs.Map.{lookup}
 use Rattle.std.specs.Str.{bytes_eq}
 use Rattle.std.proofs.lemmas.List.{append-nil}
 use Rattle.std.proofs.lemmas.Option.{some_pair_parts}
-use Rattle.data_model.specs.Rows.{same_row}
 use Rattle.data_model.specs.Lists.{Each, EachPair}
-use Rattle.sql_model.specs.declared.name.Name.{Name}
-use Rattle.sql_model.specs.declared.schema.Relation.{Relation}
-use Rattle.sql_read.specs.declared.first.TheConstants.{MOST_TABLES, MOST_COLUMNS}
-use Rattle.sql_read.specs.Words.{Token}
-use Rattle.sql_read.specs.FirstText.{Part, Word, ColumnText, TableText, column_parts, next_column_parts, table_parts}
-use Rattle.sql_read.specs.FirstTrees.{columns, relations_from}
-use Rattle.sql_read.specs.FirstForm.{IsName, IsColumn, IsTable}
-use Rattle.sql_read.specs.ReadingWords.{Rest, next_token, word_at, name_at, ◌>>=◌}
-use Rattle.sql_read.specs.ReadingFirst.{column_at, next_column, columns_at, table_at, entry_of, next_table, tables_at}
-use Rattle.sql_read.proofs.Front.{Front, front-append, front-split, bind_then, unless_some, TakesWord, word_takes, word_again, word_missed, name_takes, name_again}
-use Rattle.sql_read.proofs.Differing.{Others, others_from, no_other, keys, others_from_lookup, lookup_none, Fresh, Apart, apart_from_fresh, fresh_from_apart, each-append, each-split}
-use Rattle.sql_read.proofs.RepeatedLaws.{grown, AllFit, TakesItem, TakesItems, repeated_takes, repeated_again}
+use Rattle.sql_read.specs.declared.first.TheConstants.{MOST_COLUMNS}
+use Rattle.sql_read.specs.FirstText.{ColumnText, column_parts, next_column_parts}
+use Rattle.sql_read.specs.FirstForm.{IsName, IsColumn}
+use Rattle.sql_read.specs.ReadingWords.{Rest, word_at, name_at}
+use Rattle.sql_read.specs.ReadingFirst.{column_at, next_column, columns_at}
+use Rattle.sql_read.proofs.Front.{Front, front-append, front-split, bind_then, unless_some, word_takes, word_again, name_takes, name_again}
+use Rattle.sql_read.proofs.Differing.{Others, others_from, no_other, Fresh, Apart, apart_from_fresh, fresh_from_apart}
+use Rattle.sql_read.proofs.RepeatedLaws.{grown, AllFit, TakesItem, repeated_takes, repeated_again}
 
 -- ---- a column
 pub record TakesColumn (rest : Rest) (name : List ℕ) (after : Rest) : Type 0 where

@@ -1,7 +1,6 @@
 -- The queries that are read are those that are written, and what is written so is read.
-use Rattle.std.proofs.Common.{◌≡◌, ◌≢◌, ◌==◌, ℕ, zero, suc, ◌+◌, ◌-◌, ◌≤◌, Bool, true, false, cond, List, [], ◌∷◌, ◌++◌, map, length, codes, Option, Some, None, refl, sym, subst, ap, ◌∙◌, arith, inl, inr, eqb-true, eq-eqb}
+use Rattle.std.proofs.Common.{◌≡◌, ◌≢◌, ◌==◌, ℕ, ◌+◌, ◌-◌, ◌≤◌, false, List, [], ◌∷◌, ◌++◌, map, length, codes, Some, refl, sym, subst, ap, ◌∙◌, arith, inl, inr, eqb-true, eq-eqb}
 use Rattle.std.specs.List.{flat_map}
-use Rattle.std.specs.Map.{lookup}
 use Rattle.std.specs.Str.{bytes_eq}
 use Rattle.std.proofs.lemmas.Bool.{cases_Bool}
 use Rattle.std.proofs.lemmas.List.{length-map}
@@ -15,15 +14,14 @@ use Rattle.sql_model.specs.declared.tree.SetOp.TheVariants as op
 use Rattle.sql_model.specs.declared.tree.Query.{Query}
 use Rattle.sql_model.specs.declared.tree.Query.TheVariants as query
 use Rattle.sql_read.specs.declared.first.TheConstants.{MOST_BLOCKS}
-use Rattle.sql_read.specs.Words.{Token}
-use Rattle.sql_read.specs.FirstText.{Part, Word, TableText, BlockText, NextBlock, QueryText, block_parts, next_block_parts, query_parts}
+use Rattle.sql_read.specs.FirstText.{Word, TableText, BlockText, NextBlock, QueryText, block_parts, next_block_parts, query_parts}
 use Rattle.sql_read.specs.FirstTrees.{columns, relations_from, block_tree, union_tree, query_tree}
 use Rattle.sql_read.specs.FirstForm.{IsName, blocks}
-use Rattle.sql_read.specs.ReadingWords.{Rest, next_token, word_at, name_at, ◌>>=◌}
-use Rattle.sql_read.specs.ReadingFirst.{repeated, columns_len, width_of, block_at, next_block, blocks_at, query_at}
-use Rattle.sql_read.proofs.Front.{Front, front-append, front-split, bind_then, guard_some, TakesWord, word_takes, word_again, word_missed, name_takes, name_again}
-use Rattle.sql_read.proofs.Differing.{differ_from, test_differs}
-use Rattle.sql_read.proofs.RepeatedLaws.{grown, AllFit, TakesItem, TakesItems, repeated_takes, repeated_again}
+use Rattle.sql_read.specs.ReadingWords.{Rest, word_at, name_at}
+use Rattle.sql_read.specs.ReadingFirst.{repeated, width_of, block_at, next_block, blocks_at, query_at}
+use Rattle.sql_read.proofs.Front.{Front, front-append, front-split, bind_then, guard_some, word_takes, word_again, word_missed, name_takes, name_again}
+use Rattle.sql_read.proofs.Differing.{test_differs}
+use Rattle.sql_read.proofs.RepeatedLaws.{grown, AllFit, TakesItem, repeated_takes, repeated_again}
 
 -- ---- the width of a table
 abbrev IsOf : List ℕ → ℕ → TableText → Type 0

@@ -1,5 +1,5 @@
 -- What is repeated, as a loop reads it: so far, at the end, and where it has no end.
-use Rattle.std.proofs.Common.{◌≡◌, ℕ, zero, suc, ◌+◌, ◌-◌, ◌≤◌, ◌≢◌, Bool, true, false, List, Option, Some, None, refl, sym, ap, ◌∙◌, arith, is_some}
+use Rattle.std.proofs.Common.{◌≡◌, ℕ, zero, suc, ◌+◌, ◌-◌, ◌≤◌, ◌≢◌, Bool, true, false, List, Option, Some, None, sym, ap, ◌∙◌, arith, is_some}
 use Rattle.sql_read.specs.declared.first.FirstFault.{FirstFault}
 use Rattle.sql_read.specs.declared.first.FirstFault.TheVariants as faults
 use Rattle.sql_read.specs.ReadingWords.{Rest, word_at, ◌>>=◌}

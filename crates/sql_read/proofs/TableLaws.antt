@@ -1,6 +1,6 @@
 -- The tables that are read are those that are written, and what is written so is read.
-use Rattle.std.proofs.Common.{◌≡◌, ◌≢◌, ℕ, zero, suc, ◌+◌, ◌-◌, ◌≤◌, Bool, true, false, cond, List, [], ◌∷◌, ◌++◌, map, length, codes, is_some, Option, Some, None, refl, sym, subst, ap, ◌∙◌, arith, append_assoc}
-use Rattle.std.specs.List.{flat_map, list_any}
+use Rattle.std.proofs.Common.{◌≡◌, ◌≢◌, ℕ, ◌+◌, ◌≤◌, false, List, [], ◌∷◌, ◌++◌, map, length, codes, is_some, Option, Some, None, refl, sym, subst, ap, ◌∙◌, append_assoc}
+use Rattle.std.specs.List.{flat_map}
 use Rattle.std.specs.Map.{lookup}
 use Rattle.std.specs.Str.{bytes_eq}
 use Rattle.std.proofs.lemmas.List.{append-nil, map-append, length_push}
@@ -9,17 +9,16 @@ use Rattle.data_model.specs.Rows.{same_row}
 use Rattle.data_model.specs.Lists.{Each, EachPair}
 use Rattle.sql_model.specs.declared.name.Name.{Name}
 use Rattle.sql_model.specs.declared.schema.Relation.{Relation}
-use Rattle.sql_read.specs.declared.first.TheConstants.{MOST_TABLES, MOST_COLUMNS}
-use Rattle.sql_read.specs.Words.{Token}
-use Rattle.sql_read.specs.FirstText.{Part, Word, ColumnText, TableText, column_parts, next_column_parts, table_parts}
+use Rattle.sql_read.specs.declared.first.TheConstants.{MOST_TABLES}
+use Rattle.sql_read.specs.FirstText.{Word, TableText, column_parts, next_column_parts, table_parts}
 use Rattle.sql_read.specs.FirstTrees.{columns, relations_from}
-use Rattle.sql_read.specs.FirstForm.{IsName, IsColumn, IsTable}
-use Rattle.sql_read.specs.ReadingWords.{Rest, next_token, word_at, name_at, ◌>>=◌}
-use Rattle.sql_read.specs.ReadingFirst.{column_at, next_column, columns_at, table_at, entry_of, next_table, tables_at}
-use Rattle.sql_read.proofs.ColumnLaws.{TakesColumns, columns_takes, columns_again}
-use Rattle.sql_read.proofs.Front.{Front, front-append, front-split, bind_then, unless_some, TakesWord, word_takes, word_again, word_missed, name_takes, name_again}
-use Rattle.sql_read.proofs.Differing.{Others, others_from, no_other, keys, others_from_lookup, lookup_none, Fresh, Apart, apart_from_fresh, fresh_from_apart, each-append, each-split}
-use Rattle.sql_read.proofs.RepeatedLaws.{grown, AllFit, TakesItem, TakesItems, repeated_takes, repeated_again}
+use Rattle.sql_read.specs.FirstForm.{IsName, IsTable}
+use Rattle.sql_read.specs.ReadingWords.{Rest, word_at, name_at}
+use Rattle.sql_read.specs.ReadingFirst.{columns_at, table_at, entry_of, next_table, tables_at}
+use Rattle.sql_read.proofs.ColumnLaws.{columns_takes, columns_again}
+use Rattle.sql_read.proofs.Front.{Front, front-append, front-split, bind_then, unless_some, word_takes, word_again, word_missed, name_takes, name_again}
+use Rattle.sql_read.proofs.Differing.{Others, keys, others_from_lookup, lookup_none, Fresh, apart_from_fresh, fresh_from_apart}
+use Rattle.sql_read.proofs.RepeatedLaws.{grown, AllFit, TakesItem, repeated_takes, repeated_again}
 
 -- ---- a table
 abbrev pub names_of : TableText → List (List ℕ)

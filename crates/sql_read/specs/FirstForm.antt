@@ -1,5 +1,5 @@
 -- What it is for a text to spell a case of the first form: its words are those of a description that keeps the rules below.
-use Rattle.std.specs.Prelude.{ℕ, ◌+◌, ◌≡◌, ◌≢◌, ◌≤◌, List, [], ◌∷◌, ◌++◌, map, length, false}
+use Rattle.std.specs.Prelude.{ℕ, ◌≡◌, ◌≢◌, ◌≤◌, List, [], ◌∷◌, map, length, false}
 use Rattle.data_model.specs.Lists.{Each, Has, EachPair}
 use Rattle.sql_model.specs.declared.schema.Schema.{Schema}
 use Rattle.sql_model.specs.declared.tree.Query.{Query}

@@ -1,5 +1,5 @@
 -- The schema and the trees of queries that a description of the first form stands for.
-use Rattle.std.specs.Prelude.{ℕ, ◌+◌, false, List, [], ◌∷◌, map, Option, Some, None}
+use Rattle.std.specs.Prelude.{ℕ, ◌+◌, false, List, [], ◌∷◌, map, None}
 use Rattle.sql_model.specs.declared.name.Name.{Name}
 use Rattle.sql_model.specs.declared.schema.Relation.{Relation}
 use Rattle.sql_model.specs.declared.schema.Relation.TheVariants as relation

@@ -7,6 +7,8 @@ pub mod laws;
 mod queries;
 mod reserved;
 mod tables;
+#[cfg(test)]
+mod tests;
 mod words;
 
 pub use first::{FirstCase, FirstFault, read_first};

@@ -1,4 +1,4 @@
-use Rattle.std.proofs.Common.{codes, refl, sym, ap, ◌∙◌, arith}
+use Rattle.std.proofs.Common.{codes, refl, arith}
 use Rattle.std.proofs.lemmas.Result.{err_from_is_err_and}
 use Rattle.sql_read.specs.declared.first.TheConstants.{MOST_BLOCKS}
 use Rattle.sql_read.specs.ReadingFirst.{blocks_at, next_block}

@@ -1,7 +1,7 @@
-use Rattle.std.proofs.Common.{◌≡◌, ◌+◌, codes, length, sym, ap, ◌∙◌, arith}
+use Rattle.std.proofs.Common.{◌≡◌, ◌+◌, codes, length, arith}
 use Rattle.std.proofs.lemmas.Result.{err_from_is_err_and}
 use Rattle.sql_read.specs.declared.first.TheConstants.{MOST_COLUMNS}
-use Rattle.sql_read.specs.ReadingFirst.{columns_at, next_column}
+use Rattle.sql_read.specs.ReadingFirst.{next_column}
 use Rattle.sql_read.specs.Views.{rest}
 use Rattle.sql_read.proofs.Repeated.{found, not_found, ends, is_full, exits, goes_on}
 use Rattle.sql_read.proofs.tables.columns.Goals as goal
