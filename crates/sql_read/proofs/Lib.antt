@@ -1,0 +1,11 @@
+pub mod ByteKinds
+pub mod Folding
+pub mod Repeated
+pub mod Tokens
+pub mod Front
+pub mod Differing
+pub mod RepeatedLaws
+pub mod ColumnLaws
+pub mod TableLaws
+pub mod QueryLaws
+pub mod CaseLaws

@@ -1,0 +1,103 @@
+//! Words, compared without regard to case, and those that are never names.
+ghost use Rattle.std.specs.Prelude.{◌≡◌, map};
+ghost use Rattle.std.specs.List.{list_any};
+ghost use Rattle.data_model.specs.Rows.{same_row};
+ghost use Rattle.sql_read.specs.Words.{folded_byte};
+ghost use Rattle.sql_read.specs.Reserved.{is_reserved};
+
+/// The words that the grammar of cases uses.
+const USED_WORDS: [&[u8]; 31] = [
+    b"all",
+    b"and",
+    b"as",
+    b"between",
+    b"by",
+    b"constraint",
+    b"create",
+    b"cross",
+    b"distinct",
+    b"except",
+    b"exists",
+    b"foreign",
+    b"from",
+    b"group",
+    b"having",
+    b"in",
+    b"inner",
+    b"intersect",
+    b"join",
+    b"like",
+    b"not",
+    b"null",
+    b"on",
+    b"or",
+    b"primary",
+    b"references",
+    b"select",
+    b"table",
+    b"union",
+    b"unique",
+    b"where",
+];
+
+/// The words that begin or name what that grammar leaves out.
+const LEFT_OUT_WORDS: [&[u8]; 39] = [
+    b"alter",
+    b"any",
+    b"asc",
+    b"case",
+    b"cast",
+    b"check",
+    b"collate",
+    b"cube",
+    b"default",
+    b"delete",
+    b"desc",
+    b"else",
+    b"end",
+    b"escape",
+    b"false",
+    b"fetch",
+    b"full",
+    b"grouping",
+    b"insert",
+    b"is",
+    b"lateral",
+    b"left",
+    b"limit",
+    b"natural",
+    b"offset",
+    b"order",
+    b"outer",
+    b"over",
+    b"recursive",
+    b"right",
+    b"rollup",
+    b"some",
+    b"then",
+    b"true",
+    b"update",
+    b"using",
+    b"when",
+    b"window",
+    b"with",
+];
+
+pub fn is_same_word(text: &[u8], word: &[u8]) -> bool
+    ensures { result ≡ same_row (map folded_byte text.now) (map folded_byte word.now) }
+{
+    text.eq_ignore_ascii_case(word)
+}
+
+fn is_among(text: &[u8], words: &[&[u8]]) -> bool
+    ensures { result ≡
+        list_any (λ word. same_row (map folded_byte text.now) (map folded_byte word.now)) words.now }
+{
+    words.iter().any(|word| is_same_word(text, word))
+}
+
+pub fn is_reserved(text: &[u8]) -> bool
+    ensures { result ≡ is_reserved (map folded_byte text.now) }
+{
+    is_among(text, &USED_WORDS) || is_among(text, &LEFT_OUT_WORDS)
+}
