@@ -1,0 +1,6 @@
+use Rattle.std.proofs.Common.{◌≡◌}
+use Rattle.udp_prog.specs.Translation.{sums}
+use Rattle.udp_prog.proofs.translation.sums.Given as goal
+
+abbrev pub invariant-loop : goal.invariant-loop
+invariant-loop l = l.term ≡ sums l.counter l.fn.body

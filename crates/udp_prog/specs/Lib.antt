@@ -1,0 +1,12 @@
+pub mod Translation
+pub mod Leaves
+pub mod TermText
+pub mod Steps
+pub mod ProofText
+pub mod Checking
+pub mod Answer
+pub mod Matching
+pub mod Reading
+pub mod Unread
+pub mod Replay
+pub mod Runs

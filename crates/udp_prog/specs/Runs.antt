@@ -1,0 +1,43 @@
+-- What the parts of a run found: contracts of private functions alone cite this.
+use Rattle.std.specs.Prelude.{◌≡◌, ℕ, ◌<◌, ◌≤◌, List, Option, IfSome, length}
+use Rattle.sql_model.specs.declared.schema.Schema.{Schema}
+use Rattle.sql_model.specs.declared.tree.Query.{Query}
+use Rattle.sql_read.specs.declared.first.FirstCase.{FirstCase}
+use Rattle.sql_read.specs.FirstForm.{IsFirstCase}
+use Rattle.udp_io.specs.Faults.{Rose}
+use Rattle.udp_prog.specs.declared.TheConstants.{CASE_LIMIT, PROOF_LIMIT}
+use Rattle.udp_prog.specs.declared.answer.Verdict.{Verdict}
+use Rattle.udp_prog.specs.declared.answer.Verdict.TheVariants.{Proved, StepFails, EndDiffers, CaseRefused, ProofRefused, NoSuchForm, CaseFault, ProofFault, CaseTooLong, ProofTooLong, OutOfMemory}
+use Rattle.udp_prog.specs.Translation.{query_term}
+use Rattle.udp_prog.specs.Checking.{Accepted, StepFailsIn, EndDiffersIn, IsNoProofText}
+
+-- a case was read from the text, where that is told
+pub record IsCaseRead (case : Option (List ℕ)) (c : FirstCase) : Type 0 where
+  pub text : List ℕ
+  pub told : IfSome case (λ t. text ≡ t)
+  pub within : length text ≤ CASE_LIMIT
+  pub spelled : IsFirstCase text c.schema c.left c.right c.width
+
+-- why no case was read
+abbrev pub IsCaseCause : Option (List ℕ) → ℕ → ℕ → Verdict → Type 0
+IsCaseCause case before now CaseFault = Rose before now
+IsCaseCause case before now CaseTooLong = IfSome case (λ c. CASE_LIMIT < length c)
+IsCaseCause case before now CaseRefused = IfSome case (λ c. (length c ≤ CASE_LIMIT) × ((schema : Schema) (left right : Query) (width : ℕ) → IsFirstCase c schema left right width → ⊥))
+IsCaseCause case before now OutOfMemory = Unit {0}
+IsCaseCause case before now _ = ⊥
+
+-- why no proof was read
+abbrev pub IsProofCause : Option (List ℕ) → ℕ → ℕ → Verdict → Type 0
+IsProofCause proof before now ProofFault = Rose before now
+IsProofCause proof before now ProofTooLong = IfSome proof (λ p. PROOF_LIMIT < length p)
+IsProofCause proof before now OutOfMemory = Unit {0}
+IsProofCause proof before now _ = ⊥
+
+-- what the bytes of a proof show of a case
+abbrev pub ShowsOf : FirstCase → List ℕ → Verdict → Type 0
+ShowsOf c bytes Proved = Accepted c.width (query_term c.schema c.left) (query_term c.schema c.right) bytes
+ShowsOf c bytes (StepFails line) = StepFailsIn line c.width (query_term c.schema c.left) (query_term c.schema c.right) bytes
+ShowsOf c bytes EndDiffers = EndDiffersIn c.width (query_term c.schema c.left) (query_term c.schema c.right) bytes
+ShowsOf c bytes ProofRefused = IsNoProofText c.width (query_term c.schema c.left) (query_term c.schema c.right) bytes
+ShowsOf c bytes OutOfMemory = Unit {0}
+ShowsOf c bytes _ = ⊥

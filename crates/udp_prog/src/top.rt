@@ -1,0 +1,141 @@
+//! The top call: everything that the program does, over any store and any sink.
+ghost use Rattle.std.specs.Prelude.{◌≡◌, ◌<◌, ◌≤◌, ◌⊎◌, List, ℕ, length, codes, IfSome, IfOk, IfErr};
+ghost use Rattle.sql_read.specs.FirstForm.{IsFirstCase};
+ghost use Rattle.udp_io.specs.Faults.{Rose};
+ghost use Rattle.udp_io.specs.Writing.{Grows};
+ghost use Rattle.udp_prog.specs.Answer.{IsCheck, IsFound, IsJust, IsSaid, AsksCheck, IsProved, line};
+ghost use Rattle.udp_prog.specs.Runs.{IsCaseRead, IsCaseCause, IsProofCause, ShowsOf};
+ghost use Rattle.udp_prog.specs.declared.answer.Verdict.{Verdict as TheVerdict};
+
+use crate::answer::{Status, Verdict};
+use crate::checker::{Shown, check};
+use crate::fault::ProofFault;
+use crate::translation::query_term;
+use crate::{CASE_LIMIT, PROOF_LIMIT};
+use sql_read::{FirstCase, FirstFault, read_first};
+use std::alloc::Global;
+use udp_io::{ReadAllFault, Sink, Store, read_all, write_all};
+
+// Reads the case, or finds why there is none.
+fn read_case<S: Store>(alloc: Global, name: &str, store: &mut S) -> Result<FirstCase, Verdict>
+    ensures read { IfOk result (IsCaseRead (S.text store.old name.now)) }
+    ensures fault { IfErr result (IsCaseCause (S.text store.old name.now) (S.faults store.old name.now) (S.faults store.new name.now)) }
+    ensures same_texts { (other : List ℕ) → S.text store.new other ≡ S.text store.old other }
+    ensures later { (other : List ℕ) → S.faults store.old other ≤ S.faults store.new other }
+{
+    let text = match read_all(alloc, store, name, CASE_LIMIT) {
+        Ok(text) => text,
+        Err(ReadAllFault::ReadFault) => return Err(Verdict::CaseFault),
+        Err(ReadAllFault::TooLong) => return Err(Verdict::CaseTooLong),
+        Err(ReadAllFault::NoMemory) => return Err(Verdict::OutOfMemory),
+    };
+    match read_first(alloc, text.as_slice()) {
+        Ok(case) => Ok(case),
+        Err(FirstFault::NotFirst) => Err(Verdict::CaseRefused),
+        Err(FirstFault::NoMemory) => Err(Verdict::OutOfMemory),
+    }
+}
+
+// Reads the proof, or finds why there is none.
+fn read_proof<S: Store>(alloc: Global, name: &str, store: &mut S) -> Result<Vec<u8>, Verdict>
+    ensures told { IfOk result (λ bytes. IfSome (S.text store.old name.now) (λ text. bytes.items ≡ text)) }
+    ensures within { IfOk result (λ bytes. length bytes.items ≤ PROOF_LIMIT) }
+    ensures fault { IfErr result (IsProofCause (S.text store.old name.now) (S.faults store.old name.now) (S.faults store.new name.now)) }
+    ensures later { (other : List ℕ) → S.faults store.old other ≤ S.faults store.new other }
+{
+    match read_all(alloc, store, name, PROOF_LIMIT) {
+        Ok(text) => Ok(text),
+        Err(ReadAllFault::ReadFault) => Err(Verdict::ProofFault),
+        Err(ReadAllFault::TooLong) => Err(Verdict::ProofTooLong),
+        Err(ReadAllFault::NoMemory) => Err(Verdict::OutOfMemory),
+    }
+}
+
+// What a proof shows of a case.
+fn check_bytes(alloc: Global, case: &FirstCase, proof: &[u8]) -> Verdict
+    ensures { ShowsOf case.now proof.now result }
+{
+    let Ok(left) = query_term(alloc, &case.schema, &case.left) else {
+        return Verdict::OutOfMemory;
+    };
+    let Ok(right) = query_term(alloc, &case.schema, &case.right) else {
+        return Verdict::OutOfMemory;
+    };
+    match check(alloc, case.width, left.get(), right.get(), proof) {
+        Ok(Shown::Proved) => Verdict::Proved,
+        Ok(Shown::StepFails { line }) => Verdict::StepFails { line },
+        Ok(Shown::EndDiffers) => Verdict::EndDiffers,
+        Err(ProofFault::Malformed) => Verdict::ProofRefused,
+        Err(ProofFault::NoMemory) => Verdict::OutOfMemory,
+    }
+}
+
+// Checks the proof under the one name against the case under the other.
+fn check_texts<S: Store>(alloc: Global, case: &str, proof: &str, store: &mut S) -> Verdict
+    ensures { IsJust (S.text store.old case.now) (S.text store.old proof.now) (S.faults store.old case.now) (S.faults store.new case.now)
+        (S.faults store.old proof.now) (S.faults store.new proof.now) result }
+{
+    let case = match read_case(alloc, case, store) {
+        Ok(case) => case,
+        Err(verdict) => return verdict,
+    };
+    match read_proof(alloc, proof, store) {
+        Ok(bytes) => check_bytes(alloc, &case, bytes.as_slice()),
+        Err(verdict) => verdict,
+    }
+}
+
+// What the words ask for, found from the texts of the store.
+fn find_verdict<S: Store>(alloc: Global, words: &[String], store: &mut S) -> Verdict
+    ensures { IsFound words.now (S.text store.old) (S.faults store.old) (S.faults store.new) result }
+{
+    match words {
+        [verb, case, proof] if verb.as_str() == "check" => check_texts(
+            alloc,
+            case.as_str(),
+            proof.as_str(),
+            store,
+        ),
+        _ => Verdict::NoSuchForm,
+    }
+}
+
+// Writes the line of what was found, and answers how the run ended.
+fn say<K: Sink>(alloc: Global, verdict: Verdict, out: &mut K) -> Status
+    ensures { IsSaid verdict (K.written out.old) (K.written out.new) (K.faults out.old) (K.faults out.new) result }
+{
+    let Ok(text) = verdict.line(alloc) else {
+        return Status::NoMemory;
+    };
+    match write_all(out, text.as_bytes()) {
+        Ok(()) => verdict.status(),
+        Err(_) => Status::WriteFault,
+    }
+}
+
+/// Does what the words ask, and answers how it ended.
+///
+/// The words are those after the program's name: `check CASE PROOF`, where the store has the two texts under the names. One
+/// line is written. Where the store or the sink tells no content, the clauses say nothing of it.
+pub fn run<S: Store, K: Sink>(alloc: Global, words: &[String], store: &mut S, out: &mut K) -> Status
+    // What is answered and written is one verdict's, and that verdict is just.
+    ensures answer { (verdict : TheVerdict)
+        × IsFound words.now (S.text store.old) (S.faults store.old) (S.faults store.new) verdict
+        × IsSaid verdict (K.written out.old) (K.written out.new) (K.faults out.old) (K.faults out.new) result }
+
+    // The headline. Where it ends with `Done` on a check, the case spells a schema and two queries of one width, every row occurs in both
+    // answers equally often on every database, the proof is accepted for them, and exactly `proved` and a line feed were written.
+    ensures done { result ≡ Status.Done → (case proof : List ℕ) → IsCheck words.now case proof →
+        IsProved (S.text store.old case) (S.text store.old proof)
+        × Grows (K.written out.old) (K.written out.new) (line (codes "proved")) }
+
+    // A read fault comes only where the store failed at a name that the words give.
+    ensures read_fault { result ≡ Status.ReadFault → AsksCheck words.now (λ case proof.
+        Rose (S.faults store.old case) (S.faults store.new case) ⊎ Rose (S.faults store.old proof) (S.faults store.new proof)) }
+
+    // A write fault comes only where the sink failed.
+    ensures write_fault { result ≡ Status.WriteFault → Rose (K.faults out.old) (K.faults out.new) }
+{
+    let verdict = find_verdict(alloc, words, store);
+    say(alloc, verdict, out)
+}
