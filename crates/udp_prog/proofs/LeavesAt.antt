@@ -1,5 +1,6 @@
 -- `leaves` at each constructor as code writes it, and of a term that is neither 0 nor a sum.
 use Rattle.std.proofs.Common.{◌≡◌, ℕ, List, [], ◌∷◌, ◌++◌, refl}
+use Rattle.std.proofs.lemmas.List.{append-nil, append_assoc, map-append}
 use Rattle.u_terms.specs.declared.term.U.TheVariants as u
 use Rattle.u_terms.specs.Syntax.{U, Val, Zero, One, Add, Mul, Squash, Not, Sum, Rel, Eq, Pred, constructors}
 use Rattle.udp_prog.specs.Leaves.{leaves}
@@ -69,3 +70,6 @@ pub ruleset leaves_at = (
   leaves-Eq,
   leaves-Pred,
 )
+
+-- what code that gathers leaves into a list needs besides
+pub ruleset gathering = (leaves_at, append-nil, append_assoc, map-append)

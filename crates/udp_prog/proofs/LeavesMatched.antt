@@ -1,109 +1,150 @@
--- The steps of a loop that takes the members of one list out of another.
-use Rattle.std.proofs.Common.{◌≡◌, ◌≢◌, ◌==◌, Bool, true, false, ℕ, zero, suc, ◌<◌, List, [], ◌∷◌, ◌++◌, length, get_or, map, refl, ap, sym, ◌∙◌, arith, Option, Some, None}
-use Rattle.std.specs.Prelude.{IsTrue, ◌↔◌, MatchBool, MatchOption}
-use Rattle.std.specs.List.{AllWithin, Contains, HoldsAt, swap_remove, zip}
+-- Two lists of references to terms of which the second is brought, member by member, into the order of the first.
+use Rattle.std.proofs.Common.{◌≡◌, ◌≢◌, Bool, true, false, ℕ, ◌+◌, ◌<◌, ◌≤◌, List, [], ◌∷◌, ◌++◌, length, get_or, set, take, drop, refl, ap, sym, ◌∙◌, arith, inl, inr}
+use Rattle.std.specs.List.{Contains, HoldsAt, SwappedAt}
 use Rattle.std.specs.List.Sorted.{IsPermutation}
-use Rattle.std.proofs.lemmas.Bool.{ne_eqb}
-use Rattle.std.proofs.lemmas.List.{get_or-map, get_or_push, length-append, length-map, map-append, nil_from_length}
-use Rattle.std.proofs.lemmas.List.Sorted.{length_permutation, IsPermutation-refl, IsPermutation-sym, IsPermutation-trans, IsPermutation-cons, IsPermutation-to_front, IsPermutation-map, IsPermutation-swap_remove, Contains-permutation}
-use Rattle.udp_prog.specs.Matching.{Tells, StandsAt, IsAbsent, SameAsLeft}
-use Rattle.udp_prog.proofs.LeavesCancel.{IsPermutation-cancel}
+use Rattle.std.proofs.lemmas.Bool.{cases_eq, cases_lt}
+use Rattle.std.proofs.lemmas.List.{get_or-map, get_or-drop, length-map, length-drop, map-append, take_all, take_more, take-append-drop, take-set-le}
+use Rattle.std.proofs.lemmas.List.Sorted.{length_permutation, IsPermutation-refl, IsPermutation-sym, IsPermutation-trans, IsPermutation-map, IsNonDecreasingBy-drop, Contains-permutation}
+use denote.Ref.{Bor}
+use Rattle.u_terms.specs.declared.term.U.{U}
+use Rattle.udp_prog.specs.Leaves.{TellsSame}
+use Rattle.udp_prog.specs.SortKey.{term_key}
+use Rattle.udp_prog.specs.LeavesMatching.{terms, key, Ascends, StandsInRun, IsAbsentFromRun, MatchesUpTo}
+use Rattle.udp_prog.proofs.LeavesCancel.{IsPermutation-cancel_front}
 
--- ---- the lists of terms
-module _ {Y : Type 0} (xs ys left right : List Y) (same : SameAsLeft xs ys left right) where
-  -- the last of the one list stands in the other too, and is taken out of both
-  pub same_more : (front rest : List Y) (y : Y) → left ≡ front ++ y ∷ [] → IsPermutation right (y ∷ rest) → SameAsLeft xs ys front rest
-  same_more front rest y last taken = record {
-    to_rest = λ h.
-        let moved : IsPermutation (front ++ y ∷ []) right = rw last at (same.to_rest h) in
-        IsPermutation-cancel y front rest
-        (IsPermutation-trans (y ∷ front) (front ++ y ∷ []) (y ∷ rest) (IsPermutation-sym (front ++ y ∷ []) (y ∷ front) (IsPermutation-to_front front y))
-        (IsPermutation-trans (front ++ y ∷ []) right (y ∷ rest) moved taken));
-    from_rest = λ h.
-        same.from_rest (rw last (IsPermutation-trans (front ++ y ∷ []) (y ∷ front) right (IsPermutation-to_front front y)
-        (IsPermutation-trans (y ∷ front) (y ∷ rest) right (IsPermutation-cons y front rest h) (IsPermutation-sym right (y ∷ rest) taken))));
-  }
+abbrev now : Bor U → U
+now reference = reference.now
 
-  -- the last of the one list is not in the other
-  pub same_fails : (front : List Y) (y : Y) → left ≡ front ++ y ∷ [] → ((k : ℕ) (d : Y) → k < length right → get_or right k d ≢ y) → IsPermutation xs ys → ⊥
-  same_fails front y last absent h =
-      let stands : Contains left y = (length front, rw last (omega (arith, length-append front (y ∷ []))), rw last (get_or_push front y y (length front) refl)) in
-      let found = Contains-permutation left right y (same.to_rest h) stands in
-      absent found.0 y found.1 found.2
+reordered : (xs ys : List (Bor U)) → IsPermutation xs ys → IsPermutation (terms xs) (terms ys)
+reordered xs ys p = IsPermutation-map now xs ys p
 
-pub same_none : {Y : Type 0} (xs ys : List Y) → SameAsLeft xs ys xs ys
-same_none xs ys = record { to_rest = λ h. h; from_rest = λ h. h }
+-- ---- what may be done to the lists first
+pub tells_reordered : (same : Bool) (left right left_after right_after : List (Bor U)) → IsPermutation left left_after → IsPermutation right right_after
+    → TellsSame same (terms left_after) (terms right_after) → TellsSame same (terms left) (terms right)
+tells_reordered true left right left_after right_after l r same =
+    IsPermutation-trans (terms left) (terms left_after) (terms right) (reordered left left_after l)
+    (IsPermutation-trans (terms left_after) (terms right_after) (terms right) same (IsPermutation-sym (terms right) (terms right_after) (reordered right right_after r)))
+tells_reordered false left right left_after right_after l r differ = λ same.
+    differ (IsPermutation-trans (terms left_after) (terms left) (terms right_after) (IsPermutation-sym (terms left) (terms left_after) (reordered left left_after l))
+    (IsPermutation-trans (terms left) (terms right) (terms right_after) same (reordered right right_after r)))
 
--- nothing is left of the one list
-pub same_all : {Y : Type 0} (xs ys right : List Y) → SameAsLeft xs ys [] right → Tells (length right == 0) xs ys
-same_all xs ys [] same = same.from_rest (IsPermutation-refl [])
-same_all xs ys (y ∷ right) same = over (length right) (λ h. let e = length_permutation [] (y ∷ right) (same.to_rest h) in omega (arith, e))
-  where
-    over : (n : ℕ) → (IsPermutation xs ys → ⊥) → Tells (suc n == 0) xs ys
-    over n h = let e : (suc n == 0) ≡ false = ne_eqb (suc n) 0 (λ k. omega (arith, k)) in rw e h
+pub lengths_differ : (left right : List (Bor U)) → length left ≢ length right → IsPermutation (terms left) (terms right) → ⊥
+lengths_differ left right differ p =
+    let e = length_permutation (terms left) (terms right) p in
+    let l : length (terms left) ≡ length left = length-map left now in
+    let r : length (terms right) ≡ length right = length-map right now in
+    differ cc
 
--- ---- the same of lists of references, where f is what stands behind one
-module _ {X Y : Type 0} (f : X → Y) where
-  module _ (xs ys : List Y) (left right front : List X) (x : X) (last : left ≡ front ++ x ∷ []) (shown : List X) (is : shown ≡ right) (same : SameAsLeft xs ys (map f left) (map f right)) where
-    last_behind : map f left ≡ map f front ++ f x ∷ []
-    last_behind = ap (λ (zs : List X). map f zs) last ∙ map-append f front (x ∷ [])
+-- ---- the first term of a sorted list, absent from its run in another
+shown : (xs : List (Bor U)) (k : ℕ) (d : Bor U) (e : U) → k < length xs → get_or (terms xs) k e ≡ now (get_or xs k d)
+shown xs k d e h = get_or-map now xs k d e h
 
-    -- `swap_remove` takes the last of the one list out of the other
-    pub more_behind : (rest : List X) (place : ℕ) (out : X) → StandsAt (f x) (map f shown) place → out ≡ get_or right place out → rest ≡ swap_remove right place out
-        → SameAsLeft xs ys (map f front) (map f rest)
-    more_behind rest place out stands read left_over = same_more xs ys (map f left) (map f right) same (map f front) (map f rest) (f x) last_behind taken
+inside : (xs : List (Bor U)) (k : ℕ) → k < length (terms xs) → k < length xs
+inside xs k h = rw length-map at h
+
+contains : (xs : List (Bor U)) (k : ℕ) (d : Bor U) → k < length xs → Contains (terms xs) (now (get_or xs k d))
+contains xs k d h = (k, rw length-map h, shown xs k d (now (get_or xs k d)) h)
+
+module _ (left right : List (Bor U)) (x : Bor U) (within : 0 < length left) (first : x ≡ get_or left 0 x) (left_ascends : Ascends left) (right_ascends : Ascends right)
+    (absent : IsAbsentFromRun x.now right) (same : IsPermutation (terms left) (terms right)) where
+  -- it stands in the other list behind one with another key
+  abbrev in_right : Contains (terms right) x.now
+  in_right = Contains-permutation (terms left) (terms right) x.now same (rw (← first) at (contains left 0 x within))
+
+  here : (d : Bor U) → now (get_or right in_right.0 d) ≡ x.now
+  here d = sym (shown right in_right.0 d x.now (inside right in_right.0 in_right.1)) ∙ in_right.2
+
+  abbrev earlier : (j : ℕ) × (j < in_right.0) × HoldsAt (λ reference. key reference ≢ term_key x.now) right j
+  earlier = absent in_right.0 (inside right in_right.0 in_right.1) here
+
+  -- whose key is smaller
+  abbrev other : Bor U
+  other = get_or right earlier.0 x
+
+  smaller : key other < key x
+  smaller =
+      let le : key other ≤ key (get_or right in_right.0 x) = right_ascends earlier.0 in_right.0 x (omega (arith, earlier.1)) (inside right in_right.0 in_right.1) in
+      let e : key (get_or right in_right.0 x) ≡ key x = ap term_key (here x) in
+      omega (arith, earlier.2 x)
+
+  -- so it stands in no list that begins with the first
+  abbrev in_left : Contains (terms left) (now other)
+  in_left =
+      Contains-permutation (terms right) (terms left) (now other) (IsPermutation-sym (terms left) (terms right) same)
+      (contains right earlier.0 x (omega (arith, earlier.1, inside right in_right.0 in_right.1)))
+
+  first_absent : ⊥
+  first_absent =
+      let le : key (get_or left 0 x) ≤ key (get_or left in_left.0 x) = left_ascends 0 in_left.0 x (omega arith) (inside left in_left.0 in_left.1) in
+      let e : key (get_or left in_left.0 x) ≡ key other = ap term_key (sym (shown left in_left.0 x (now other) (inside left in_left.0 in_left.1)) ∙ in_left.2) in
+      let f : key (get_or left 0 x) ≡ key x = ap key (sym first) in
+      omega (arith, smaller, le, e, f)
+
+-- ---- the steps
+pub matches_none : (left right : List (Bor U)) → length left ≡ length right → Ascends right → MatchesUpTo 0 left right right
+matches_none left right long ascends = record { moved = IsPermutation-refl right; ascends = ascends; long = long; same = refl }
+
+module _ (count : ℕ) (left before right : List (Bor U)) (matches : MatchesUpTo count left before right) where
+  pub matches_all : length left ≤ count → IsPermutation (terms left) (terms before)
+  matches_all h =
+      let l : take count left ≡ left = take_all count left h in
+      let r : take count right ≡ right = take_all count right (rw (← matches.long) h) in
+      let e : terms left ≡ terms right = rw (l, r) at matches.same in
+      rw e (IsPermutation-sym (terms before) (terms right) (reordered before right matches.moved))
+
+  module _ (x : Bor U) (within : count < length left) (here : x ≡ get_or left count x) (rest : List (Bor U)) (is_rest : rest ≡ drop count right) where
+    in_rest : (k : ℕ) (d : Bor U) → get_or rest k d ≡ get_or right (count + k) d
+    in_rest k d = rw is_rest (get_or-drop count right k d)
+
+    module _ (place : ℕ) (new : List (Bor U)) (stands : StandsInRun x.now rest place) (swapped : SwappedAt right new count (count + place)) (moved : IsPermutation right new) where
+      found : (d : Bor U) → now (get_or right (count + place) d) ≡ x.now
+      found d = ap now (sym (in_rest place d)) ∙ stands.here d
+
+      -- both that are swapped have the term's key
+      key_here : (d : Bor U) → key (get_or right count d) ≡ term_key x.now
+      key_here d = elim (cases_lt 0 place) [
+        | inl lt ↦ let e : count + 0 ≡ count = omega arith in rw (← e) (ap key (sym (in_rest 0 d)) ∙ stands.run 0 d (omega arith) lt)
+        | inr ge ↦ let e : count + place ≡ count = omega arith in rw (← e) (ap term_key (found d))
+      ]
+
+      keys_stay : (k : ℕ) (d : Bor U) → key (get_or new k d) ≡ key (get_or right k d)
+      keys_stay k d = elim (cases_eq k count) [
+        | inl e ↦ rw e (ap key (swapped.0 d) ∙ ap term_key (found d) ∙ sym (key_here d))
+        | inr other ↦ elim (cases_eq k (count + place)) [
+          | inl e ↦ rw e (ap key (swapped.1 d) ∙ key_here d ∙ sym (ap term_key (found d)))
+          | inr others ↦ ap key (swapped.2 k d other others)
+        ]
+      ]
+
+      new_length : length new ≡ length right
+      new_length = length_permutation right new moved
+
+      front_stays : take count new ≡ take count right
+      front_stays =
+          ap (take count) (swapped.3 x) ∙ take-set-le count (set right count (get_or right (count + place) x)) (count + place) (get_or right count x) (omega arith)
+          ∙ take-set-le count right count (get_or right (count + place) x) (omega arith)
+
+      one_more : (xs : List (Bor U)) → count < length xs → now (get_or xs count x) ≡ x.now → terms (take (count + 1) xs) ≡ terms (take count xs) ++ x.now ∷ []
+      one_more xs h e = ap terms (take_more xs count x h) ∙ map-append now (take count xs) (get_or xs count x ∷ []) ∙ ap (λ (term : U). terms (take count xs) ++ term ∷ []) e
+
+      pub matches_more : MatchesUpTo (count + 1) left before new
+      matches_more = record {
+        moved = IsPermutation-trans before right new matches.moved moved;
+        ascends = λ i j d le below. rw (keys_stay i d, keys_stay j d) (matches.ascends i j d le (rw new_length at below));
+        long = matches.long ∙ sym new_length;
+        same = one_more left within (ap now (sym here)) ∙ ap (λ (front : List U). front ++ x.now ∷ []) (matches.same ∙ ap terms (sym front_stays))
+            ∙ sym (one_more new (rw (new_length, ← matches.long) within) (ap now (swapped.0 x) ∙ found x));
+      }
+
+    pub matches_fails : Ascends left → IsAbsentFromRun x.now rest → IsPermutation (terms left) (terms before) → ⊥
+    matches_fails ascends absent h =
+        let p : IsPermutation (terms left) (terms right) = IsPermutation-trans (terms left) (terms before) (terms right) h (reordered before right matches.moved) in
+        let l : terms left ≡ terms (take count right) ++ terms (drop count left) = split left ∙ ap (λ (front : List U). front ++ terms (drop count left)) matches.same in
+        let q : IsPermutation (terms (take count right) ++ terms (drop count left)) (terms (take count right) ++ terms (drop count right)) = rw (l, split right) at p in
+        let e : count + 0 ≡ count = omega arith in
+        first_absent (drop count left) (drop count right) x (omega (arith, length-drop {A = Bor U}))
+        (here ∙ sym (get_or-drop count left 0 x ∙ ap (λ (k : ℕ). get_or left k x) e)) (IsNonDecreasingBy-drop key count left ascends) (IsNonDecreasingBy-drop key count right matches.ascends)
+        (rw is_rest at absent) (IsPermutation-cancel_front (terms (take count right)) (terms (drop count left)) (terms (drop count right)) q)
       where
-        inside : place < length right
-        inside = rw (← is) (rw (length-map shown f) at stands.within)
-
-        is_out : f x ≡ f out
-        is_out = (rw is at stands.here) ∙ get_or-map f right place out (f x) inside ∙ ap f (sym read)
-
-        taken : IsPermutation (map f right) (f x ∷ map f rest)
-        taken = rw (is_out, left_over) (IsPermutation-map f right (out ∷ swap_remove right place out) (IsPermutation-swap_remove right place out inside read))
-
-    pub fails_behind : IsAbsent (f x) (map f shown) → IsPermutation xs ys → ⊥
-    fails_behind absent h = same_fails xs ys (map f left) (map f right) same (map f front) (f x) last_behind (rw is at absent) h
-
-  pub all_behind : (xs ys : List Y) (left right : List X) (count : ℕ) → length left ≡ 0 → count ≡ length right → SameAsLeft xs ys (map f left) (map f right) → Tells (count == 0) xs ys
-  all_behind xs ys left right count none counted same =
-      let e : left ≡ [] = nil_from_length left none in
-      let k : count ≡ length (map f right) = counted ∙ sym (length-map right f) in
-      rw k (same_all xs ys (map f right) (rw e at same))
-
-  -- pair by pair
-  all_same : (left right : List X) → length left ≡ length right → AllWithin (λ (p : X × X). f p.0 ≡ f p.1) (zip left right) 0 (length (zip left right)) → map f left ≡ map f right
-  all_same [] [] long h = refl
-  all_same [] (y ∷ right) long h = absurd (omega arith)
-  all_same (x ∷ left) [] long h = absurd (omega arith)
-  all_same (x ∷ left) (y ∷ right) long h =
-      let head : f x ≡ f y = h 0 (x, y) (omega arith) (omega arith) in
-      let tail : map f left ≡ map f right = all_same left right (omega arith) (λ k d low high. h (suc k) d (omega arith) (omega arith)) in
-      cc
-
-  one_differs : (left right : List X) (k : ℕ) → length left ≡ length right → k < length (zip left right) → HoldsAt (λ (p : X × X). f p.0 ≢ f p.1) (zip left right) k → map f left ≡ map f right → ⊥
-  one_differs [] [] k long within h e = absurd (omega arith)
-  one_differs [] (y ∷ right) k long within h e = absurd (omega arith)
-  one_differs (x ∷ left) [] k long within h e = absurd (omega arith)
-  one_differs (x ∷ left) (y ∷ right) zero long within h e = h (x, y) cc
-  one_differs (x ∷ left) (y ∷ right) (suc k) long within h e = one_differs left right k (omega arith) (omega arith) (λ d. h d) cc
-
-  pub same_behind : (left right : List X) (same : Bool) → length left ≡ length right
-      → MatchBool same (AllWithin (λ (p : X × X). f p.0 ≡ f p.1) (zip left right) 0 (length (zip left right))) ((k : ℕ) × (k < length (zip left right)) × HoldsAt (λ (p : X × X). f p.0 ≢ f p.1) (zip left right) k)
-      → IsTrue same ↔ (map f left ≡ map f right)
-  same_behind left right true long h = (λ t. all_same left right long h, λ e. refl)
-  same_behind left right false long h = (λ t. absurd cc, λ e. absurd (one_differs left right h.0 long h.1 h.2 e))
-
-  -- the first member with a property
-  pub found_behind : (xs : List X) (y : Y) (found : Option ℕ)
-      → MatchOption found (AllWithin (λ x. f x ≢ y) xs 0 (length xs)) (λ place. (place < length xs) × HoldsAt (λ x. f x ≡ y) xs place × AllWithin (λ x. f x ≢ y) xs 0 place)
-      → MatchOption found (IsAbsent y (map f xs)) (λ place. StandsAt y (map f xs) place)
-  found_behind [] y None h = λ k d within e. absurd (omega arith)
-  found_behind (x ∷ xs) y None h = λ k d within e.
-      let inside : k < length (x ∷ xs) = rw (length-map (x ∷ xs) f) at within in
-      h k x (omega arith) inside (sym (get_or-map f (x ∷ xs) k x d inside) ∙ e)
-  found_behind [] y (Some place) h = absurd (omega (arith, h.0))
-  found_behind (x ∷ xs) y (Some place) h = record {
-    within = rw (length-map (x ∷ xs) f) h.0;
-    here = sym (get_or-map f (x ∷ xs) place x y h.0 ∙ h.1 x);
-  }
+        split : (xs : List (Bor U)) → terms xs ≡ terms (take count xs) ++ terms (drop count xs)
+        split xs = ap terms (sym (take-append-drop count xs)) ∙ map-append now (take count xs) (drop count xs)

@@ -5,7 +5,8 @@ pub mod Steps
 pub mod ProofText
 pub mod Checking
 pub mod Answer
-pub mod Matching
+pub mod LeavesMatching
+pub mod SortKey
 pub mod Reading
 pub mod Unread
 pub mod Replay
