@@ -88,73 +88,75 @@ fn names_are_folded_and_tables_numbered(rt: HostRuntime) -> Result<(), Fail> {
     Ok(())
 }
 
+/// What is wrong with a text, and the text.
+const NOT_FIRST: [(&str, &str); 17] = [
+    ("nothing at all", ""),
+    ("one query", "CREATE TABLE r (a INT);SELECT * FROM r;"),
+    (
+        "no last semicolon",
+        "CREATE TABLE r (a INT);SELECT * FROM r;SELECT * FROM r",
+    ),
+    (
+        "a semicolon too many",
+        "CREATE TABLE r (a INT);SELECT * FROM r;SELECT * FROM r;;",
+    ),
+    (
+        "a comment",
+        "CREATE TABLE r (a INT);-- r\nSELECT * FROM r;SELECT * FROM r;",
+    ),
+    (
+        "a quoted name",
+        "CREATE TABLE \"r\" (a INT);SELECT * FROM r;SELECT * FROM r;",
+    ),
+    (
+        "a join",
+        "CREATE TABLE r (a INT);SELECT * FROM r JOIN ALL SELECT * FROM r;SELECT * FROM r;",
+    ),
+    (
+        "a longer word",
+        "CREATE TABLE r (a INT);SELECTX * FROM r;SELECT * FROM r;",
+    ),
+    (
+        "a reserved name",
+        "CREATE TABLE order (a INT);SELECT * FROM order;SELECT * FROM order;",
+    ),
+    (
+        "a name that begins with a digit",
+        "CREATE TABLE 1r (a INT);SELECT * FROM 1r;SELECT * FROM 1r;",
+    ),
+    (
+        "a column twice",
+        "CREATE TABLE r (a INT, A INT);SELECT * FROM r;SELECT * FROM r;",
+    ),
+    (
+        "a table twice",
+        "CREATE TABLE r (a INT);CREATE TABLE R (a INT);SELECT * FROM r;SELECT * FROM r;",
+    ),
+    (
+        "no column",
+        "CREATE TABLE r ();SELECT * FROM r;SELECT * FROM r;",
+    ),
+    (
+        "no such table",
+        "CREATE TABLE r (a INT);SELECT * FROM s;SELECT * FROM r;",
+    ),
+    (
+        "two widths in a query",
+        "CREATE TABLE r (a INT);CREATE TABLE s (a INT, b INT);SELECT * FROM r UNION ALL SELECT * FROM s;SELECT * FROM r;",
+    ),
+    (
+        "two widths of queries",
+        "CREATE TABLE r (a INT);CREATE TABLE s (a INT, b INT);SELECT * FROM r;SELECT * FROM s;",
+    ),
+    (
+        "a byte that is no blank",
+        "CREATE TABLE r (a INT);SELECT * FROM r;SELECT * FROM r;\u{b}",
+    ),
+];
+
 #[test]
 fn other_texts_are_not_of_the_form(rt: HostRuntime) {
-    let texts = [
-        ("nothing at all", ""),
-        ("one query", "CREATE TABLE r (a INT);SELECT * FROM r;"),
-        (
-            "no last semicolon",
-            "CREATE TABLE r (a INT);SELECT * FROM r;SELECT * FROM r",
-        ),
-        (
-            "a semicolon too many",
-            "CREATE TABLE r (a INT);SELECT * FROM r;SELECT * FROM r;;",
-        ),
-        (
-            "a comment",
-            "CREATE TABLE r (a INT);-- r\nSELECT * FROM r;SELECT * FROM r;",
-        ),
-        (
-            "a quoted name",
-            "CREATE TABLE \"r\" (a INT);SELECT * FROM r;SELECT * FROM r;",
-        ),
-        (
-            "a join",
-            "CREATE TABLE r (a INT);SELECT * FROM r JOIN ALL SELECT * FROM r;SELECT * FROM r;",
-        ),
-        (
-            "a longer word",
-            "CREATE TABLE r (a INT);SELECTX * FROM r;SELECT * FROM r;",
-        ),
-        (
-            "a reserved name",
-            "CREATE TABLE order (a INT);SELECT * FROM order;SELECT * FROM order;",
-        ),
-        (
-            "a name that begins with a digit",
-            "CREATE TABLE 1r (a INT);SELECT * FROM 1r;SELECT * FROM 1r;",
-        ),
-        (
-            "a column twice",
-            "CREATE TABLE r (a INT, A INT);SELECT * FROM r;SELECT * FROM r;",
-        ),
-        (
-            "a table twice",
-            "CREATE TABLE r (a INT);CREATE TABLE R (a INT);SELECT * FROM r;SELECT * FROM r;",
-        ),
-        (
-            "no column",
-            "CREATE TABLE r ();SELECT * FROM r;SELECT * FROM r;",
-        ),
-        (
-            "no such table",
-            "CREATE TABLE r (a INT);SELECT * FROM s;SELECT * FROM r;",
-        ),
-        (
-            "two widths in a query",
-            "CREATE TABLE r (a INT);CREATE TABLE s (a INT, b INT);SELECT * FROM r UNION ALL SELECT * FROM s;SELECT * FROM r;",
-        ),
-        (
-            "two widths of queries",
-            "CREATE TABLE r (a INT);CREATE TABLE s (a INT, b INT);SELECT * FROM r;SELECT * FROM s;",
-        ),
-        (
-            "a byte that is no blank",
-            "CREATE TABLE r (a INT);SELECT * FROM r;SELECT * FROM r;\u{b}",
-        ),
-    ];
-    for (what, text) in texts {
+    for (what, text) in NOT_FIRST {
         assert!(rt;
             matches!(read(&rt, rt.alloc(), text), Err(FirstFault::NotFirst)),
             "{what}"
