@@ -37,6 +37,7 @@ over_query : (tables : List TableText) (width : ℕ) (text : QueryText) → Each
 over_query tables width text differ is =
     each-weaker (IsBlockOver tables width) (IsOver (relations_from 0 tables) width) (λ b over. (over.0, width_again 0 tables b.name width differ over.1)) (blocks text) is.blocks_over
 
+-- a case is read where the text has one
 pub record TakesCase (rest : Rest) (read : FirstRead) : Type 0 where
   pub description : CaseText
   pub is_first : IsFirst read.width description
@@ -78,6 +79,7 @@ case_takes rest read e =
     } in
     subst (TakesCase rest) g.1 taken)))
 
+-- and where the text has one, it is read
 pub case_again : (rest : Rest) (c : CaseText) (width : ℕ) (after : Rest) → Front rest (case_parts c) after → IsFirst width c → list_all is_blank after.text ≡ true
     → case_at rest ≡ Some (record { tables = relations_from 0 c.tables; left = query_tree c.left; right = query_tree c.right; width = width })
 unfolding case_at
@@ -95,6 +97,7 @@ case_again rest c width after front first end =
 abbrev pub read_of : Schema → Query → Query → ℕ → FirstRead
 read_of schema left right width = record { tables = schema.relations.entries; left = left; right = right; width = width }
 
+-- what is read is what the text spells
 pub is_case : (text : List ℕ) (schema : Schema) (left right : Query) (width : ℕ) → case_at (rest_at 0 text) ≡ Some (read_of schema left right width) → schema.fkeys ≡ [] → IsFirstCase text schema left right width
 is_case text schema left right width e none =
     let taken = case_takes (rest_at 0 text) (read_of schema left right width) e in
@@ -111,6 +114,7 @@ is_case text schema left right width e none =
       right_tree = taken.right_is;
     }
 
+-- what the text spells is read
 pub case_is_read : (text : List ℕ) (schema : Schema) (left right : Query) (width : ℕ) → IsFirstCase text schema left right width → case_at (rest_at 0 text) ≡ Some (read_of schema left right width)
 case_is_read text schema left right width c =
     let front = front_of (rest_at 0 text) (case_parts c.description) c.tokens c.spelled c.words in

@@ -14,6 +14,7 @@ use Rattle.sql_read.proofs.Differing.{Others, others_from, no_other, Fresh, Apar
 use Rattle.sql_read.proofs.RepeatedLaws.{grown, AllFit, TakesItem, repeated_takes, repeated_again}
 
 -- ---- a column
+-- a column is read where the text has one
 pub record TakesColumn (rest : Rest) (name : List ℕ) (after : Rest) : Type 0 where
   pub column : ColumnText
   pub is_column : IsColumn column
@@ -85,6 +86,7 @@ columns_fit : (names : List (List ℕ)) (cs : List ColumnText) → Each IsColumn
 columns_fit names [] each fresh = tt
 columns_fit names (c ∷ cs) each fresh = ((each.0, fresh.0), columns_fit (names ++ c.name ∷ []) cs each.1 fresh.1)
 
+-- the columns that are read are those that stand at the front
 pub record TakesColumns (rest : Rest) (names : List (List ℕ)) (after : Rest) : Type 0 where
   pub first : ColumnText
   pub others : List ColumnText

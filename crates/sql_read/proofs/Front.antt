@@ -1,5 +1,5 @@
 -- What is taken from the front of a text, part by part.
-use Rattle.std.proofs.Common.{◌≡◌, ℕ, Bool, true, false, cond, List, [], ◌∷◌, ◌++◌, Option, Some, None, refl, sym, subst, ap, ◌∙◌}
+use Rattle.std.proofs.Common.{◌≡◌, ℕ, Bool, true, false, cond, List, [], ◌∷◌, ◌++◌, is_some, Option, Some, None, refl, sym, subst, ap, ◌∙◌}
 use Rattle.std.specs.Prelude.{not, ◌&&◌}
 use Rattle.std.specs.List.{list_all}
 use Rattle.std.proofs.lemmas.Bool.{and_parts, not-true}
@@ -30,12 +30,14 @@ front-split rest (part ∷ parts) more after (token, next, e, stands, others) =
     (split.0, (token, next, e, stands, split.1), split.2)
 
 -- ---- to the end of the text
+-- parts up to the end are all tokens of the text
 pub tokens_of : (rest : Rest) (parts : List Part) (after : Rest) → Front rest parts after → list_all is_blank after.text ≡ true → (tokens : List Token) × HasTokens rest.at rest.text tokens × AreParts parts tokens
 tokens_of rest [] after f end = ([], subst (λ r. list_all is_blank r.text ≡ true) (sym f) end, tt)
 tokens_of rest (part ∷ parts) after (token, next, e, stands, others) end =
     let more = tokens_of next parts after others end in
     (token ∷ more.0, token_before rest.at rest.text token next more.0 e more.1, (stands, more.2))
 
+-- the tokens of a text, part by part
 pub front_of : (rest : Rest) (parts : List Part) (tokens : List Token) → HasTokens rest.at rest.text tokens → AreParts parts tokens → (after : Rest) × Front rest parts after × (list_all is_blank after.text ≡ true)
 front_of rest [] [] has are = (rest, refl, has)
 front_of rest [] (token ∷ tokens) has are = absurd are
@@ -46,6 +48,11 @@ front_of rest (part ∷ parts) (token ∷ tokens) has (stands, are) =
     (more.0, (token, first.after, first.next, stands, more.1), more.2)
 
 -- ---- steps that may fail
+pub none_of : {A : Type 0} (o : Option A) → is_some o ≡ false → o ≡ None
+none_of None e = refl
+none_of (Some x) e = absurd cc
+
+-- what a step gave, where those after it did not fail
 pub bind_some : {A B : Type 0} (o : Option A) (f : A → Option B) (y : B) → (o >>= f) ≡ Some y → (x : A) × (o ≡ Some x) × (f x ≡ Some y)
 bind_some None f y e = absurd cc
 bind_some (Some x) f y e = (x, refl, e)
@@ -54,6 +61,7 @@ bind_some (Some x) f y e = (x, refl, e)
 pub bind_then : {A B P : Type 0} (o : Option A) (f : A → Option B) (y : B) → (o >>= f) ≡ Some y → ((x : A) → o ≡ Some x → f x ≡ Some y → P) → P
 bind_then o f y e then_ = let b = bind_some o f y e in then_ b.0 b.1 b.2
 
+-- a test that was to be true, and one that was to be false
 pub guard_some : {A : Type 0} (b : Bool) (x y : A) → cond b (Some x) None ≡ Some y → (b ≡ true) × (x ≡ y)
 guard_some true x y e = (refl, cc)
 guard_some false x y e = absurd cc
@@ -63,6 +71,7 @@ unless_some true x y e = absurd cc
 unless_some false x y e = (refl, cc)
 
 -- ---- words and names
+-- the token that this word is
 pub record TakesWord (word : List ℕ) (rest : Rest) (at : ℕ) (after : Rest) : Type 0 where
   pub token : Token
   pub next : next_token rest ≡ Some (token, after)
@@ -90,6 +99,7 @@ pub word_missed : (word : List ℕ) (rest : Rest) (token : Token) (after : Rest)
 unfolding word_at
 word_missed word rest token after e differs = rw (e, differs) refl
 
+-- a name is the next token
 pub name_takes : (rest : Rest) (token : Token) (after : Rest) → name_at rest ≡ Some (token, after) → (next_token rest ≡ Some (token, after)) × IsName token.text
 unfolding name_at
 name_takes rest token after e =

@@ -26,6 +26,7 @@ use Rattle.sql_read.proofs.RepeatedLaws.{grown, AllFit, TakesItem, repeated_take
 abbrev IsOf : List ℕ → ℕ → TableText → Type 0
 IsOf name width t = (t.name ≡ name) × (length (columns t) ≡ width)
 
+-- the width that a look-up finds is that of a table of this name
 pub width_takes : (number : ℕ) (ts : List TableText) (name : List ℕ) (width : ℕ) → width_of (relations_from number ts) name ≡ Some width → Has (IsOf name width) ts
 width_takes number [] name width e = absurd (none-some width e)
 width_takes number (t ∷ ts) name width e = elim (cases_Bool (bytes_eq name t.name)) [
@@ -40,6 +41,7 @@ not_before [] other name width each has = absurd has
 not_before (t ∷ ts) other name width each (inl is) = λ e. each.0 (e ∙ sym is.0)
 not_before (t ∷ ts) other name width each (inr has) = not_before ts other name width each.1 has
 
+-- and names that differ have one width each
 pub width_again : (number : ℕ) (ts : List TableText) (name : List ℕ) (width : ℕ) → EachPair (λ s t. s.name ≢ t.name) ts → Has (IsOf name width) ts → width_of (relations_from number ts) name ≡ Some width
 width_again number [] name width differ has = absurd has
 width_again number (t ∷ ts) name width differ (inl is) =
@@ -53,6 +55,7 @@ module _ (tables : List (Name × Relation)) where
   abbrev pub IsOver : ℕ → BlockText → Type 0
   IsOver width block = IsName block.name × (width_of tables block.name ≡ Some width)
 
+  -- a block is read where the text has one
   pub record TakesBlock (rest : Rest) (tree : Query) (width : ℕ) (after : Rest) : Type 0 where
     pub block : BlockText
     pub over : IsOver width block
@@ -144,6 +147,7 @@ module _ (tables : List (Name × Relation)) where
     grown_blocks left (n ∷ ns) = grown_blocks (with_block left n) ns
 
   -- ---- a query
+  -- a query is read where the text has one
   pub record TakesQuery (rest : Rest) (tree : Query) (width : ℕ) (after : Rest) : Type 0 where
     pub text : QueryText
     pub over : Each (IsOver width) (blocks text)

@@ -15,20 +15,24 @@ abbrev failed : {X : Type 0} → Option (X × Rest)
 failed = None
 
 module _ {X Item : Type 0} (word : List ℕ) (step : Step X) (parts : Item → List Part) (grow : X → Item → X) (Fits : X → Item → Type 0) where
+  -- what items make of what was there before them
   abbrev pub grown : X → List Item → X
   grown x [] = x
   grown x (item ∷ items) = grown (grow x item) items
 
+  -- each fits what was there before it
   abbrev pub AllFit : X → List Item → Type 0
   AllFit x [] = Unit {0}
   AllFit x (item ∷ items) = Fits x item × AllFit (grow x item) items
 
+  -- what a step takes
   pub record TakesItem (x : X) (rest : Rest) (y : X) (after : Rest) : Type 0 where
     pub item : Item
     pub fits : Fits x item
     pub grows : grow x item ≡ y
     pub front : Front rest (parts item) after
 
+  -- what all steps take
   pub record TakesItems (room : ℕ) (x : X) (rest : Rest) (y : X) (after : Rest) : Type 0 where
     pub items : List Item
     pub fit : AllFit x items

@@ -15,7 +15,7 @@ use Rattle.sql_read.specs.FirstForm.{IsName, IsTable, most_tables}
 use Rattle.sql_read.specs.ReadingWords.{Rest, word_at, name_at}
 use Rattle.sql_read.specs.ReadingFirst.{columns_at, table_at, entry_of, next_table, tables_at}
 use Rattle.sql_read.proofs.ColumnLaws.{columns_takes, columns_again}
-use Rattle.sql_read.proofs.Front.{Front, front-append, front-split, bind_then, unless_some, word_takes, word_again, word_missed, name_takes, name_again}
+use Rattle.sql_read.proofs.Front.{none_of, Front, front-append, front-split, bind_then, unless_some, word_takes, word_again, word_missed, name_takes, name_again}
 use Rattle.sql_read.proofs.Differing.{Others, keys, others_from_lookup, lookup_none, Fresh, apart_from_fresh, fresh_from_apart}
 use Rattle.sql_read.proofs.RepeatedLaws.{grown, AllFit, TakesItem, repeated_takes, repeated_again}
 
@@ -23,6 +23,7 @@ use Rattle.sql_read.proofs.RepeatedLaws.{grown, AllFit, TakesItem, repeated_take
 abbrev pub names_of : TableText → List (List ℕ)
 names_of table = map (λ c. c.name) (columns table)
 
+-- a table is read where the text has one, behind its CREATE
 pub record TakesTable (rest : Rest) (name : List ℕ) (names : List (List ℕ)) (after : Rest) : Type 0 where
   pub table : TableText
   pub is_table : IsTable table
@@ -113,10 +114,6 @@ with_table tables table = tables ++ entry_of (length tables) (table.name, names_
 abbrev TableFits : List (Name × Relation) → TableText → Type 0
 TableFits tables table = IsTable table × Others table.name (keys tables)
 
-none_of : {A : Type 0} (o : Option A) → is_some o ≡ false → o ≡ None
-none_of None e = refl
-none_of (Some x) e = absurd cc
-
 next_table_takes : (tables : List (Name × Relation)) (rest : Rest) (create : ℕ × Rest) (all : List (Name × Relation)) (after : Rest) → word_at (codes "create") rest ≡ Some create → create_table tables create ≡ Some (all, after)
     → TakesItem (codes "create") create_table table_parts with_table TableFits tables rest all after
 unfolding next_table
@@ -165,6 +162,7 @@ tables_fit tables (t ∷ ts) each fresh =
     let entry = entry_of (length tables) (t.name, names_of t) in
     ((each.0, fresh.0), tables_fit (tables ++ entry ∷ []) ts each.1 (subst (λ k. Fresh (λ u. u.name) k ts) (sym (keys-push tables entry)) fresh.1))
 
+-- the tables that are read are those that stand at the front, up to what is no CREATE
 pub record TakesTables (rest : Rest) (entries : List (Name × Relation)) (after : Rest) : Type 0 where
   pub tables : List TableText
   pub each : Each IsTable tables

@@ -48,6 +48,7 @@ folded-spelled : (bytes rest text : List ℕ) → IsSpelling bytes rest text →
 folded-spelled bytes rest text (inl (byte, one, symbol, same)) = rw (same, one, folded-symbol byte symbol) refl
 folded-spelled bytes rest text (inr w) = sym w.2
 
+-- the token that the bytes spell is found
 pub token_of-spelled : (at : ℕ) (bytes rest text : List ℕ) → IsSpelling bytes rest text → token_of (rest_at at (bytes ++ rest)) ≡ Some (record { text = text; at = at }, rest_at (at + length bytes) rest)
 token_of-spelled at bytes rest text spelled = rw (len_of bytes rest text spelled, take-append_seam bytes rest, drop-seam bytes rest, folded-spelled bytes rest text spelled) refl
 
@@ -61,6 +62,7 @@ no_blanks (byte ∷ tail) rest text more (inl s) =
     rw (symbol_no_blank byte (subst (λ b. is_symbol b ≡ true) same s.2)) refl
 no_blanks (byte ∷ tail) rest text more (inr w) = rw (word_no_blank byte w.0.0) refl
 
+-- this token is next in the text, and the others follow
 pub record IsNext (at : ℕ) (text : List ℕ) (token : Token) (tokens : List Token) : Type 0 where
   pub after : Rest
   pub next : next_token (rest_at at text) ≡ Some (token, after)
@@ -96,6 +98,7 @@ unfolding next_token
 no_token at text all = rw (nothing_left text all) refl
 
 -- ---- the next token is a first one
+-- these are the bytes of a token at the front, and what is left
 pub record Takes (at : ℕ) (text : List ℕ) (token : Token) (after : Rest) : Type 0 where
   pub bytes : List ℕ
   pub parts : text ≡ bytes ++ after.text
@@ -139,6 +142,7 @@ takes at (byte ∷ bytes) token after e = elim (cases_Bool (is_symbol byte)) [
   ]
 ]
 
+-- the next token is the first of the tokens, whatever the others are
 pub token_before : (at : ℕ) (text : List ℕ) (token : Token) (after : Rest) (tokens : List Token) → next_token (rest_at at text) ≡ Some (token, after) → HasTokens after.at after.text tokens → HasTokens at text (token ∷ tokens)
 unfolding next_token
 token_before at text token after tokens e others =
@@ -178,6 +182,7 @@ word_if bytes rest text (inl (byte, one, symbol, same)) begins =
     absurd (false≢true (sym (symbol_no_word byte symbol) ∙ f))
 word_if bytes rest text (inr (word, ends, same)) begins = subst IsWord (sym same) (folded_word bytes word)
 
+-- what begins a word is one
 pub word_spelled : (rest : Rest) (token : Token) (after : Rest) → next_token rest ≡ Some (token, after) → is_word token.text ≡ true → IsWord token.text
 unfolding next_token
 word_spelled rest token after e begins =

@@ -35,6 +35,7 @@ pub struct FirstCase {
 pub enum FirstFault {
     /// The text is not of the first form.
     NotFirst,
+    /// Memory ran out.
     NoMemory,
 }
 
@@ -60,6 +61,7 @@ impl<T: Drop> From<AllocFailed<T>> for FirstFault {
     }
 }
 
+/// `{CREATE table} query query`, and nothing behind it.
 #[tactic(auto, unfolding(crate::specs::ReadingFirst::case_at))]
 fn case(alloc: Global, bytes: &[u8]) -> Result<FirstCase, FirstFault>
     requires { length bytes.now < 2 ^ 32 }

@@ -1,5 +1,5 @@
 use crate::{FirstCase, FirstFault, read_first};
-use sql_model::{Item, Query, Relation, SetOp, Source};
+use sql_model::{Item, Query, Relation, Schema, SetOp, Source};
 use std::alloc::{AllocError, Global};
 use std::process::Abort;
 use std::test::Fail;
@@ -60,100 +60,103 @@ fn the_swap_case_is_read_whole(rt: HostRuntime) -> Result<(), Fail> {
     Ok(())
 }
 
+/// Each table as its number, its name and its columns.
+fn tables_of(alloc: Global, schema: &Schema) -> Result<Vec<u8>, AllocError> {
+    let mut text = Vec::new(alloc);
+    for (name, relation) in &schema.relations {
+        if let Relation::Table { table } = relation {
+            text.extend_from_slice(format!(in alloc; "{} ", table.number)?.as_bytes())?;
+            text.extend_from_slice(name.as_bytes())?;
+            for column in table.columns.as_slice() {
+                text.extend_from_slice(b" ")?;
+                text.extend_from_slice(column.as_bytes())?;
+            }
+            text.extend_from_slice(b";")?;
+        }
+    }
+    Ok(text)
+}
+
 #[test]
 fn names_are_folded_and_tables_numbered(rt: HostRuntime) -> Result<(), Fail> {
     let text =
         "Create TABLE R(A int,b\tText)\n;create table s_1 (c x, d9 x);\r\nselect*from r;SELECT * FROM S_1 ;\n";
     let case = read(&rt, rt.alloc(), text)?;
+    let tables = tables_of(rt.alloc(), &case.schema)?;
+    assert_eq!(rt; tables.as_slice(), b"0 r a b;1 s_1 c d9;".as_slice());
     assert_eq!(rt; case.width, 2);
-    let wanted: [(&[u8], [&[u8]; 2]); 2] = [(b"r", [b"a", b"b"]), (b"s_1", [b"c", b"d9"])];
-    let mut number = 0;
-    for (name, relation) in &case.schema.relations {
-        let Relation::Table { table } = relation else {
-            return Err(Fail::from("a view"));
-        };
-        assert!(rt; number < 2);
-        let (table_name, columns) = wanted[number];
-        assert_eq!(rt; name.as_bytes(), table_name);
-        assert_eq!(rt; table.number as usize, number);
-        assert!(rt; table.keys.is_empty() && table.primary.is_none());
-        assert_eq!(rt; table.columns.len(), 2);
-        for (column, wanted) in table.columns.as_slice().iter().zip(columns) {
-            assert_eq!(rt; column.as_bytes(), wanted);
-        }
-        number += 1;
-    }
-    assert_eq!(rt; number, 2);
     Ok(())
 }
 
+/// What is wrong with a text, and the text.
+const NOT_FIRST: [(&str, &str); 17] = [
+    ("nothing at all", ""),
+    ("one query", "CREATE TABLE r (a INT);SELECT * FROM r;"),
+    (
+        "no last semicolon",
+        "CREATE TABLE r (a INT);SELECT * FROM r;SELECT * FROM r",
+    ),
+    (
+        "a semicolon too many",
+        "CREATE TABLE r (a INT);SELECT * FROM r;SELECT * FROM r;;",
+    ),
+    (
+        "a comment",
+        "CREATE TABLE r (a INT);-- r\nSELECT * FROM r;SELECT * FROM r;",
+    ),
+    (
+        "a quoted name",
+        "CREATE TABLE \"r\" (a INT);SELECT * FROM r;SELECT * FROM r;",
+    ),
+    (
+        "a join",
+        "CREATE TABLE r (a INT);SELECT * FROM r JOIN ALL SELECT * FROM r;SELECT * FROM r;",
+    ),
+    (
+        "a longer word",
+        "CREATE TABLE r (a INT);SELECTX * FROM r;SELECT * FROM r;",
+    ),
+    (
+        "a reserved name",
+        "CREATE TABLE order (a INT);SELECT * FROM order;SELECT * FROM order;",
+    ),
+    (
+        "a name that begins with a digit",
+        "CREATE TABLE 1r (a INT);SELECT * FROM 1r;SELECT * FROM 1r;",
+    ),
+    (
+        "a column twice",
+        "CREATE TABLE r (a INT, A INT);SELECT * FROM r;SELECT * FROM r;",
+    ),
+    (
+        "a table twice",
+        "CREATE TABLE r (a INT);CREATE TABLE R (a INT);SELECT * FROM r;SELECT * FROM r;",
+    ),
+    (
+        "no column",
+        "CREATE TABLE r ();SELECT * FROM r;SELECT * FROM r;",
+    ),
+    (
+        "no such table",
+        "CREATE TABLE r (a INT);SELECT * FROM s;SELECT * FROM r;",
+    ),
+    (
+        "two widths in a query",
+        "CREATE TABLE r (a INT);CREATE TABLE s (a INT, b INT);SELECT * FROM r UNION ALL SELECT * FROM s;SELECT * FROM r;",
+    ),
+    (
+        "two widths of queries",
+        "CREATE TABLE r (a INT);CREATE TABLE s (a INT, b INT);SELECT * FROM r;SELECT * FROM s;",
+    ),
+    (
+        "a byte that is no blank",
+        "CREATE TABLE r (a INT);SELECT * FROM r;SELECT * FROM r;\u{b}",
+    ),
+];
+
 #[test]
 fn other_texts_are_not_of_the_form(rt: HostRuntime) {
-    let texts = [
-        ("nothing at all", ""),
-        ("one query", "CREATE TABLE r (a INT);SELECT * FROM r;"),
-        (
-            "no last semicolon",
-            "CREATE TABLE r (a INT);SELECT * FROM r;SELECT * FROM r",
-        ),
-        (
-            "a semicolon too many",
-            "CREATE TABLE r (a INT);SELECT * FROM r;SELECT * FROM r;;",
-        ),
-        (
-            "a comment",
-            "CREATE TABLE r (a INT);-- r\nSELECT * FROM r;SELECT * FROM r;",
-        ),
-        (
-            "a quoted name",
-            "CREATE TABLE \"r\" (a INT);SELECT * FROM r;SELECT * FROM r;",
-        ),
-        (
-            "a join",
-            "CREATE TABLE r (a INT);SELECT * FROM r JOIN ALL SELECT * FROM r;SELECT * FROM r;",
-        ),
-        (
-            "a longer word",
-            "CREATE TABLE r (a INT);SELECTX * FROM r;SELECT * FROM r;",
-        ),
-        (
-            "a reserved name",
-            "CREATE TABLE order (a INT);SELECT * FROM order;SELECT * FROM order;",
-        ),
-        (
-            "a name that begins with a digit",
-            "CREATE TABLE 1r (a INT);SELECT * FROM 1r;SELECT * FROM 1r;",
-        ),
-        (
-            "a column twice",
-            "CREATE TABLE r (a INT, A INT);SELECT * FROM r;SELECT * FROM r;",
-        ),
-        (
-            "a table twice",
-            "CREATE TABLE r (a INT);CREATE TABLE R (a INT);SELECT * FROM r;SELECT * FROM r;",
-        ),
-        (
-            "no column",
-            "CREATE TABLE r ();SELECT * FROM r;SELECT * FROM r;",
-        ),
-        (
-            "no such table",
-            "CREATE TABLE r (a INT);SELECT * FROM s;SELECT * FROM r;",
-        ),
-        (
-            "two widths in a query",
-            "CREATE TABLE r (a INT);CREATE TABLE s (a INT, b INT);SELECT * FROM r UNION ALL SELECT * FROM s;SELECT * FROM r;",
-        ),
-        (
-            "two widths of queries",
-            "CREATE TABLE r (a INT);CREATE TABLE s (a INT, b INT);SELECT * FROM r;SELECT * FROM s;",
-        ),
-        (
-            "a byte that is no blank",
-            "CREATE TABLE r (a INT);SELECT * FROM r;SELECT * FROM r;\u{b}",
-        ),
-    ];
-    for (what, text) in texts {
+    for (what, text) in NOT_FIRST {
         assert!(rt;
             matches!(read(&rt, rt.alloc(), text), Err(FirstFault::NotFirst)),
             "{what}"
