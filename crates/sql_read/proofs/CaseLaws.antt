@@ -10,7 +10,6 @@ use Rattle.sql_model.specs.declared.name.Name.{Name}
 use Rattle.sql_model.specs.declared.schema.Relation.{Relation}
 use Rattle.sql_model.specs.declared.schema.Schema.{Schema}
 use Rattle.sql_model.specs.declared.tree.Query.{Query}
-use Rattle.sql_read.specs.declared.first.TheConstants.{MOST_COLUMNS}
 use Rattle.sql_read.specs.declared.first.FirstCase.{FirstCase}
 use Rattle.sql_read.specs.declared.first.FirstFault.{FirstFault}
 use Rattle.sql_read.specs.declared.first.FirstFault.TheVariants as fault
@@ -18,7 +17,7 @@ use Rattle.sql_read.specs.Views.{Reads}
 use Rattle.sql_read.specs.Words.{is_blank}
 use Rattle.sql_read.specs.FirstText.{TableText, QueryText, CaseText, table_parts, query_parts, case_parts}
 use Rattle.sql_read.specs.FirstTrees.{columns, relations_from, query_tree}
-use Rattle.sql_read.specs.FirstForm.{IsTable, IsBlockOver, IsQuery, IsFirst, IsFirstCase, blocks}
+use Rattle.sql_read.specs.FirstForm.{IsTable, IsBlockOver, IsQuery, IsFirst, IsFirstCase, blocks, most_columns}
 use Rattle.sql_read.specs.ReadingWords.{Rest}
 use Rattle.sql_read.specs.ReadingFirst.{width_of, tables_at, query_at, FirstRead, case_at}
 use Rattle.sql_read.proofs.Tokens.{rest_at}
@@ -125,13 +124,13 @@ same_read text schema other left right p q width w c d =
     let same = same_Some _ _ (sym (case_is_read text schema left right width c) ∙ case_is_read text other p q w d) in
     (ap (λ r. r.tables) same, c.foreign_keys ∙ sym d.foreign_keys, ap (λ r. r.left) same, ap (λ r. r.right) same, ap (λ r. r.width) same)
 
-no_wider : (ts : List TableText) (name : List ℕ) (width : ℕ) → Each IsTable ts → Has (λ t. (t.name ≡ name) × (length (columns t) ≡ width)) ts → width ≤ MOST_COLUMNS
+no_wider : (ts : List TableText) (name : List ℕ) (width : ℕ) → Each IsTable ts → Has (λ t. (t.name ≡ name) × (length (columns t) ≡ width)) ts → width ≤ most_columns
 no_wider [] name width each has = absurd has
 no_wider (t ∷ ts) name width each (inl is) = omega (arith, each.0.columns_fit, is.1)
 no_wider (t ∷ ts) name width each (inr has) = no_wider ts name width each.1 has
 
 -- a query shows no more columns than a table has
-pub width_fits : (rest : Rest) (tables : List (Name × Relation)) (middle : Rest) (tree : Query) (width : ℕ) (after : Rest) → tables_at rest ≡ Some (tables, middle) → query_at tables middle ≡ Some ((tree, width), after) → width ≤ MOST_COLUMNS
+pub width_fits : (rest : Rest) (tables : List (Name × Relation)) (middle : Rest) (tree : Query) (width : ℕ) (after : Rest) → tables_at rest ≡ Some (tables, middle) → query_at tables middle ≡ Some ((tree, width), after) → width ≤ most_columns
 width_fits rest tables middle tree width after h k =
     let t = tables_takes rest tables middle h in
     let q = query_takes tables middle (tree, width) after k in

@@ -5,9 +5,8 @@ use Rattle.std.specs.Str.{bytes_eq}
 use Rattle.std.proofs.lemmas.List.{append-nil}
 use Rattle.std.proofs.lemmas.Option.{some_pair_parts}
 use Rattle.data_model.specs.Lists.{Each, EachPair}
-use Rattle.sql_read.specs.declared.first.TheConstants.{MOST_COLUMNS}
 use Rattle.sql_read.specs.FirstText.{ColumnText, column_parts, next_column_parts}
-use Rattle.sql_read.specs.FirstForm.{IsName, IsColumn}
+use Rattle.sql_read.specs.FirstForm.{IsName, IsColumn, most_columns}
 use Rattle.sql_read.specs.ReadingWords.{Rest, word_at, name_at}
 use Rattle.sql_read.specs.ReadingFirst.{column_at, next_column, columns_at}
 use Rattle.sql_read.proofs.Front.{Front, front-append, front-split, bind_then, unless_some, word_takes, word_again, name_takes, name_again}
@@ -91,7 +90,7 @@ pub record TakesColumns (rest : Rest) (names : List (List ℕ)) (after : Rest) :
   pub others : List ColumnText
   pub each : Each IsColumn (first ∷ others)
   pub differ : EachPair (λ c d. c.name ≢ d.name) (first ∷ others)
-  pub few : length (first ∷ others) ≤ MOST_COLUMNS
+  pub few : length (first ∷ others) ≤ most_columns
   pub named : map (λ c. c.name) (first ∷ others) ≡ names
   pub front : Front rest (column_parts first ++ flat_map next_column_parts others) after
 
@@ -100,7 +99,7 @@ unfolding columns_at
 columns_takes rest names after e =
     bind_then (column_at rest) _ (names, after) e (λ found h e1.
     let column = column_takes rest found.0 found.1 h in
-    let items = repeated_takes (codes ",") comma_column next_column_parts with_column ColumnFits next_column_takes (MOST_COLUMNS - 1) (found.0 ∷ []) found.1 names after e1 in
+    let items = repeated_takes (codes ",") comma_column next_column_parts with_column ColumnFits next_column_takes (most_columns - 1) (found.0 ∷ []) found.1 names after e1 in
     let fit = fit_columns (found.0 ∷ []) items.items items.fit in
     let apart = apart_from_fresh (λ c. c.name) (found.0 ∷ []) items.items fit.1 in
     record {
@@ -114,12 +113,12 @@ columns_takes rest names after e =
     })
 
 pub columns_again : (rest : Rest) (first : ColumnText) (others : List ColumnText) (after : Rest) → Front rest (column_parts first ++ flat_map next_column_parts others) after
-    → Each IsColumn (first ∷ others) → EachPair (λ c d. c.name ≢ d.name) (first ∷ others) → length (first ∷ others) ≤ MOST_COLUMNS → word_at (codes ",") after ≡ None
+    → Each IsColumn (first ∷ others) → EachPair (λ c d. c.name ≢ d.name) (first ∷ others) → length (first ∷ others) ≤ most_columns → word_at (codes ",") after ≡ None
     → columns_at rest ≡ Some (map (λ c. c.name) (first ∷ others), after)
 unfolding columns_at
 columns_again rest first others after front each differ few stops =
     let split = front-split rest (column_parts first) (flat_map next_column_parts others) after front in
     let fit = columns_fit (first.name ∷ []) others each.1 (fresh_from_apart (λ c. c.name) (first.name ∷ []) others (differ.0, tt) differ.1) in
     rw (column_again rest first split.0 split.1 each.0)
-    (repeated_again (codes ",") comma_column next_column_parts with_column ColumnFits next_column_again (MOST_COLUMNS - 1) (first.name ∷ []) split.0 others after split.2 fit (omega arith) stops
+    (repeated_again (codes ",") comma_column next_column_parts with_column ColumnFits next_column_again (most_columns - 1) (first.name ∷ []) split.0 others after split.2 fit (omega arith) stops
     ∙ ap (λ n. Some (n, after)) (grown_columns (first.name ∷ []) others))

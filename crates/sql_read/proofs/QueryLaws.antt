@@ -13,10 +13,9 @@ use Rattle.sql_model.specs.declared.schema.Relation.{Relation}
 use Rattle.sql_model.specs.declared.tree.SetOp.TheVariants as op
 use Rattle.sql_model.specs.declared.tree.Query.{Query}
 use Rattle.sql_model.specs.declared.tree.Query.TheVariants as query
-use Rattle.sql_read.specs.declared.first.TheConstants.{MOST_BLOCKS}
 use Rattle.sql_read.specs.FirstText.{Word, TableText, BlockText, NextBlock, QueryText, block_parts, next_block_parts, query_parts}
 use Rattle.sql_read.specs.FirstTrees.{columns, relations_from, block_tree, union_tree, query_tree}
-use Rattle.sql_read.specs.FirstForm.{IsName, blocks}
+use Rattle.sql_read.specs.FirstForm.{IsName, blocks, most_blocks}
 use Rattle.sql_read.specs.ReadingWords.{Rest, word_at, name_at}
 use Rattle.sql_read.specs.ReadingFirst.{repeated, width_of, block_at, next_block, blocks_at, query_at}
 use Rattle.sql_read.proofs.Front.{Front, front-append, front-split, bind_then, guard_some, word_takes, word_again, word_missed, name_takes, name_again}
@@ -148,7 +147,7 @@ module _ (tables : List (Name × Relation)) where
   pub record TakesQuery (rest : Rest) (tree : Query) (width : ℕ) (after : Rest) : Type 0 where
     pub text : QueryText
     pub over : Each (IsOver width) (blocks text)
-    pub few : length (blocks text) ≤ MOST_BLOCKS
+    pub few : length (blocks text) ≤ most_blocks
     pub tree_is : tree ≡ query_tree text
     pub front : Front rest (query_parts text) after
 
@@ -156,10 +155,10 @@ module _ (tables : List (Name × Relation)) where
   unfolding query_at blocks_at
   query_takes rest read after e =
       bind_then (block_at tables rest) _ (read, after) e (λ first h1 e1.
-      bind_then (repeated (codes "union") (next_block tables first.0.1) (MOST_BLOCKS - 1) first.0.0 first.1) _ (read, after) e1 (λ all h2 e2.
+      bind_then (repeated (codes "union") (next_block tables first.0.1) (most_blocks - 1) first.0.0 first.1) _ (read, after) e1 (λ all h2 e2.
       bind_then (word_at (codes ";") all.1) _ (read, after) e2 (λ end h3 e3.
       let b = block_takes rest first.0 first.1 h1 in
-      let items = repeated_takes (codes "union") (next_block tables first.0.1) next_block_parts (with_block first.0.1) (NextFits first.0.1) (next_block_takes first.0.1) (MOST_BLOCKS - 1) first.0.0 first.1 all.0 all.1 h2 in
+      let items = repeated_takes (codes "union") (next_block tables first.0.1) next_block_parts (with_block first.0.1) (NextFits first.0.1) (next_block_takes first.0.1) (most_blocks - 1) first.0.0 first.1 all.0 all.1 h2 in
       let w = word_takes (codes ";") all.1 end.0 end.1 h3 in
       let same = some_pair_parts _ read end.1 after e3 in
       record {
@@ -171,7 +170,7 @@ module _ (tables : List (Name × Relation)) where
             (front-append rest (block_parts b.block) (flat_map next_block_parts items.items) first.1 all.1 b.front items.front) (w.token, end.1, w.next, w.text, same.1);
       })))
 
-  pub query_again : (rest : Rest) (text : QueryText) (width : ℕ) (after : Rest) → Front rest (query_parts text) after → Each (IsOver width) (blocks text) → length (blocks text) ≤ MOST_BLOCKS
+  pub query_again : (rest : Rest) (text : QueryText) (width : ℕ) (after : Rest) → Front rest (query_parts text) after → Each (IsOver width) (blocks text) → length (blocks text) ≤ most_blocks
       → query_at tables rest ≡ Some ((query_tree text, width), after)
   unfolding query_at blocks_at
   query_again rest text width after front over few =
@@ -179,8 +178,8 @@ module _ (tables : List (Name × Relation)) where
       let parts = front-split rest (block_parts text.first) (flat_map next_block_parts text.others) split.0 split.1 in
       let semicolon = split.2 in
       let differs : same_row semicolon.0.text (codes "union") ≡ false = rw semicolon.3 refl in
-      let all : repeated (codes "union") (next_block tables width) (MOST_BLOCKS - 1) (block_tree text.first) parts.0 ≡ Some (query_tree text, split.0) =
-      repeated_again (codes "union") (next_block tables width) next_block_parts (with_block width) (NextFits width) (next_block_again width) (MOST_BLOCKS - 1) (block_tree text.first) parts.0 text.others split.0 parts.2
+      let all : repeated (codes "union") (next_block tables width) (most_blocks - 1) (block_tree text.first) parts.0 ≡ Some (query_tree text, split.0) =
+      repeated_again (codes "union") (next_block tables width) next_block_parts (with_block width) (NextFits width) (next_block_again width) (most_blocks - 1) (block_tree text.first) parts.0 text.others split.0 parts.2
       (blocks_fit width (block_tree text.first) text.others over.1) (omega (arith, length-map text.others (λ next. next.block))) (word_missed (codes "union") split.0 semicolon.0 semicolon.1 semicolon.2 differs)
       ∙ ap (λ t. Some (t, split.0)) (grown_blocks width (block_tree text.first) text.others) in
       rw (block_again rest text.first width parts.0 parts.1 over.0, all, word_again (codes ";") split.0 semicolon.0 semicolon.1 semicolon.2 semicolon.3, semicolon.4) refl

@@ -9,10 +9,9 @@ use Rattle.data_model.specs.Rows.{same_row}
 use Rattle.data_model.specs.Lists.{Each, EachPair}
 use Rattle.sql_model.specs.declared.name.Name.{Name}
 use Rattle.sql_model.specs.declared.schema.Relation.{Relation}
-use Rattle.sql_read.specs.declared.first.TheConstants.{MOST_TABLES}
 use Rattle.sql_read.specs.FirstText.{Word, TableText, column_parts, next_column_parts, table_parts}
 use Rattle.sql_read.specs.FirstTrees.{columns, relations_from}
-use Rattle.sql_read.specs.FirstForm.{IsName, IsTable}
+use Rattle.sql_read.specs.FirstForm.{IsName, IsTable, most_tables}
 use Rattle.sql_read.specs.ReadingWords.{Rest, word_at, name_at}
 use Rattle.sql_read.specs.ReadingFirst.{columns_at, table_at, entry_of, next_table, tables_at}
 use Rattle.sql_read.proofs.ColumnLaws.{columns_takes, columns_again}
@@ -170,14 +169,14 @@ pub record TakesTables (rest : Rest) (entries : List (Name × Relation)) (after 
   pub tables : List TableText
   pub each : Each IsTable tables
   pub differ : EachPair (λ s t. s.name ≢ t.name) tables
-  pub few : length tables ≤ MOST_TABLES
+  pub few : length tables ≤ most_tables
   pub entries_are : entries ≡ relations_from 0 tables
   pub front : Front rest (flat_map table_parts tables) after
 
 pub tables_takes : (rest : Rest) (entries : List (Name × Relation)) (after : Rest) → tables_at rest ≡ Some (entries, after) → TakesTables rest entries after
 unfolding tables_at
 tables_takes rest entries after e =
-    let items = repeated_takes (codes "create") create_table table_parts with_table TableFits next_table_takes MOST_TABLES [] rest entries after e in
+    let items = repeated_takes (codes "create") create_table table_parts with_table TableFits next_table_takes most_tables [] rest entries after e in
     let fit = fit_tables [] items.items items.fit in
     record {
       tables = items.items;
@@ -188,10 +187,10 @@ tables_takes rest entries after e =
       front = items.front;
     }
 
-pub tables_again : (rest : Rest) (ts : List TableText) (after : Rest) → Front rest (flat_map table_parts ts) after → Each IsTable ts → EachPair (λ s t. s.name ≢ t.name) ts → length ts ≤ MOST_TABLES
+pub tables_again : (rest : Rest) (ts : List TableText) (after : Rest) → Front rest (flat_map table_parts ts) after → Each IsTable ts → EachPair (λ s t. s.name ≢ t.name) ts → length ts ≤ most_tables
     → word_at (codes "create") after ≡ None → tables_at rest ≡ Some (relations_from 0 ts, after)
 unfolding tables_at
 tables_again rest ts after front each differ few stops =
-    repeated_again (codes "create") create_table table_parts with_table TableFits next_table_again MOST_TABLES [] rest ts after front
+    repeated_again (codes "create") create_table table_parts with_table TableFits next_table_again most_tables [] rest ts after front
     (tables_fit [] ts each (fresh_from_apart (λ t. t.name) [] ts tt differ)) few stops
     ∙ ap (λ t. Some (t, after)) (grown_tables [] ts)

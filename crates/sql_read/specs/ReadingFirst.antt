@@ -9,7 +9,7 @@ use Rattle.sql_model.specs.declared.schema.Relation.TheVariants as relation
 use Rattle.sql_model.specs.declared.tree.SetOp.TheVariants as op
 use Rattle.sql_model.specs.declared.tree.Query.{Query}
 use Rattle.sql_model.specs.declared.tree.Query.TheVariants as query
-use Rattle.sql_read.specs.declared.first.TheConstants.{MOST_TABLES, MOST_COLUMNS, MOST_BLOCKS}
+use Rattle.sql_read.specs.FirstForm.{most_tables, most_columns, most_blocks}
 use Rattle.sql_read.specs.Words.{is_blank}
 use Rattle.sql_read.specs.FirstTrees.{block_tree}
 use Rattle.sql_read.specs.ReadingWords.{Rest, word_at, name_at, ◌>>=◌}
@@ -45,7 +45,7 @@ next_column names rest = column_at rest >>= λ column.
 unfoldable pub columns_at : Rest → Option (List (List ℕ) × Rest)
 columns_at rest = do
   first ← column_at rest
-  repeated (codes ",") (λ names comma. next_column names comma.1) (MOST_COLUMNS - 1) (first.0 ∷ []) first.1
+  repeated (codes ",") (λ names comma. next_column names comma.1) (most_columns - 1) (first.0 ∷ []) first.1
 
 -- the name and the columns of a table, behind CREATE
 unfoldable pub table_at : Rest → Option ((List ℕ × List (List ℕ)) × Rest)
@@ -67,7 +67,7 @@ next_table tables rest = table_at rest >>= λ table.
     if is_some (lookup (bytes_eq table.0.0) tables) then None else Some (tables ++ entry_of (length tables) table.0 ∷ [], table.1)
 
 unfoldable pub tables_at : Rest → Option (List (Name × Relation) × Rest)
-tables_at rest = repeated (codes "create") (λ tables create. next_table tables create.1) MOST_TABLES [] rest
+tables_at rest = repeated (codes "create") (λ tables create. next_table tables create.1) most_tables [] rest
 
 -- ---- queries
 abbrev pub columns_len : Relation → Option ℕ
@@ -95,7 +95,7 @@ next_block tables width left union = word_at (codes "all") union.1 >>= λ all. b
 
 -- this query and further blocks of its width
 unfoldable pub blocks_at : List (Name × Relation) → ℕ → Query → Rest → Option (Query × Rest)
-blocks_at tables width first rest = repeated (codes "union") (next_block tables width) (MOST_BLOCKS - 1) first rest
+blocks_at tables width first rest = repeated (codes "union") (next_block tables width) (most_blocks - 1) first rest
 
 -- a query and its width
 unfoldable pub query_at : List (Name × Relation) → Rest → Option ((Query × ℕ) × Rest)

@@ -2,12 +2,12 @@ use crate::{
     Boxed, List, NoMemory, U, Val, depth, nodes, same, same_value, value_depth, value_nodes,
 };
 use std::alloc::Global;
-use std::process::Abort;
 use std::test::Fail;
 
-/// The largest numbers of nodes and of depth that a term of a proof may have.
+/// The most nodes that a term of a proof may have.
 const NODES: u64 = 200_000;
 
+/// The greatest depth that a term of a proof may have.
 const DEPTH: u64 = 2_048;
 
 /// `R7(b0,..,b0)` of a width, or the same of another place.
@@ -49,20 +49,26 @@ fn large(alloc: Global, place: u32) -> Result<U, NoMemory> {
     Ok(term)
 }
 
-fn assert_size(rt: &impl Abort, text: &str, term: &U, want_nodes: u64, want_depth: u64) {
-    assert_eq!(rt; nodes(term), want_nodes, "nodes of {text}");
-    assert_eq!(rt; depth(term), want_depth, "depth of {text}");
-}
+/// A term as text, a function that makes it, its nodes and its depth.
+type Sample = (&'static str, fn(Global) -> Result<U, NoMemory>, u64, u64);
 
 #[test]
 fn terms_and_values_count_one_each(rt: HostRuntime) -> Result<(), Fail> {
     let alloc = rt.alloc();
-    assert_size(&rt, "1", &U::One, 1, 1);
-    assert_size(&rt, "P8()", &U::Pred(8, List::new(alloc)), 1, 1);
-    assert_size(&rt, "=(f0,f1)", &U::Eq(Val::Free(0), Val::Free(1)), 3, 2);
-    assert_size(&rt, "=(G1(R7(b0,b0)),F4(c3))", &calls(alloc)?, 7, 4);
-    assert_size(&rt, "#(!(0))", &one_way(alloc)?, 3, 3);
-    assert_size(&rt, "S(*(1,R7(b0)))", &product(alloc)?, 5, 4);
+    let table: [Sample; 6] = [
+        ("1", |_| Ok(U::One), 1, 1),
+        ("P8()", |alloc| Ok(U::Pred(8, List::new(alloc))), 1, 1),
+        ("=(f0,f1)", |_| Ok(U::Eq(Val::Free(0), Val::Free(1))), 3, 2),
+        ("=(G1(R7(b0,b0)),F4(c3))", calls, 7, 4),
+        ("#(!(0))", one_way, 3, 3),
+        ("S(*(1,R7(b0)))", product, 5, 4),
+    ];
+    for (text, make, want_nodes, want_depth) in table {
+        let term = make(alloc)?;
+        assert_eq!(rt; nodes(&term), want_nodes, "nodes of {text}");
+        assert_eq!(rt; depth(&term), want_depth, "depth of {text}");
+        assert!(rt; same(&term, &term.copy(alloc)?), "copy of {text}");
+    }
     Ok(())
 }
 

@@ -1,3 +1,7 @@
+mod cases;
+mod faults;
+mod proofs;
+
 use crate::answer::Status;
 use crate::top::run;
 use std::alloc::{AllocError, Global};
@@ -5,27 +9,12 @@ use std::process::Abort;
 use std::test::Fail;
 use udp_io::{MemSink, MemStore};
 
+// Two tables, and two queries that add their rows in opposite order.
 const SWAP_CASE: &str =
     "CREATE TABLE r (a INT);CREATE TABLE s (a INT);SELECT * FROM r UNION ALL SELECT * FROM s;SELECT * FROM s UNION ALL SELECT * FROM r;";
 
-const SAME_CASE: &str =
-    "CREATE TABLE r (a INT);CREATE TABLE s (a INT);SELECT * FROM r UNION ALL SELECT * FROM s;SELECT * FROM r UNION ALL SELECT * FROM s;";
-
-const JOIN_CASE: &str =
-    "CREATE TABLE r (a INT);CREATE TABLE s (a INT);SELECT * FROM r JOIN ALL SELECT * FROM s;SELECT * FROM s UNION ALL SELECT * FROM r;";
-
 const SWAP_PROOF: &str =
     "udp-proof 1\nouts 1\n/ > add_ac +(S(*(R0(b0),=(b0,f0))),S(*(R1(b0),=(b0,f0)))) +(S(*(R1(b0),=(b0,f0))),S(*(R0(b0),=(b0,f0))))\nend\n";
-
-const STILL_PROOF: &str =
-    "udp-proof 1\nouts 1\n/ > add_ac +(S(*(R0(b0),=(b0,f0))),S(*(R1(b0),=(b0,f0)))) +(S(*(R0(b0),=(b0,f0))),S(*(R1(b0),=(b0,f0))))\nend\n";
-
-const BACK_PROOF: &str =
-    "udp-proof 1\nouts 1\n/ < add_ac +(S(*(R1(b0),=(b0,f0))),S(*(R0(b0),=(b0,f0)))) +(S(*(R0(b0),=(b0,f0))),S(*(R1(b0),=(b0,f0))))\nend\n";
-
-const OTHER_PROOF: &str = "udp-proof 1\nouts 1\n/ > add_ac 0 0\nend\n";
-
-const NO_STEP: &str = "udp-proof 1\nouts 1\nend\n";
 
 fn words(alloc: Global, words: &[&str]) -> Result<Vec<String>, AllocError> {
     let mut owned = Vec::new(alloc);
@@ -49,77 +38,8 @@ fn checks(
     store.add("proof", proof.as_bytes())?;
     let mut sink = MemSink::new(alloc, 65_536, 100)?;
     let words = words(alloc, &["check", "case", "proof"])?;
-    assert_eq!(rt;
-        run(alloc, &words, &mut store, &mut sink),
-        status,
-        "{case} {proof}"
-    );
-    assert_eq!(rt; sink.bytes(), line.as_bytes(), "{case} {proof}");
-    Ok(())
-}
-
-#[test]
-fn the_swap_case_is_proved(rt: HostRuntime) -> Result<(), Fail> {
-    checks(&rt, SWAP_CASE, SWAP_PROOF, Status::Done, "proved\n")?;
-    checks(&rt, SWAP_CASE, BACK_PROOF, Status::Done, "proved\n")
-}
-
-#[test]
-fn equal_queries_need_no_step(rt: HostRuntime) -> Result<(), Fail> {
-    checks(&rt, SAME_CASE, NO_STEP, Status::Done, "proved\n")
-}
-
-#[test]
-fn an_end_that_differs_is_not_proved(rt: HostRuntime) -> Result<(), Fail> {
-    checks(&rt, SWAP_CASE, NO_STEP, Status::NotProved, "end differs\n")?;
-    checks(
-        &rt,
-        SWAP_CASE,
-        STILL_PROOF,
-        Status::NotProved,
-        "end differs\n",
-    )
-}
-
-#[test]
-fn a_step_that_does_not_apply_is_named(rt: HostRuntime) -> Result<(), Fail> {
-    checks(
-        &rt,
-        SWAP_CASE,
-        OTHER_PROOF,
-        Status::NotProved,
-        "step fails at line 3\n",
-    )
-}
-
-#[test]
-fn other_cases_are_refused(rt: HostRuntime) -> Result<(), Fail> {
-    checks(
-        &rt,
-        JOIN_CASE,
-        SWAP_PROOF,
-        Status::CaseRefused,
-        "case refused: E10 at 0\n",
-    )
-}
-
-#[test]
-fn other_proof_texts_are_refused(rt: HostRuntime) -> Result<(), Fail> {
-    for proof in [
-        "",
-        "udp-proof 1\nouts 2\nend\n",
-        "udp-proof 2\nouts 1\nend\n",
-        "udp-proof 1\nouts 1\nend",
-        "udp-proof 1\nouts 1\n/ > add_ac 0\nend\n",
-    ] {
-        checks(
-            &rt,
-            SWAP_CASE,
-            proof,
-            Status::ProofRefused,
-            "proof refused: P1\n",
-        )?;
-    }
+    assert_eq!(rt; run(alloc, &words, &mut store, &mut sink), status);
+    assert_eq!(rt; sink.bytes(), line.as_bytes());
     Ok(())
 }
 
