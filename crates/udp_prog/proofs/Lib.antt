@@ -23,3 +23,6 @@ pub mod FirstTerms
 pub mod Translating
 pub mod Verdicts
 pub mod Forms
+pub mod OneReplay
+pub mod OneVerdict
+pub mod Exact

@@ -1,5 +1,5 @@
 -- What the program answers, and when.
-use Rattle.std.specs.Prelude.{◌≡◌, ℕ, ◌<◌, ◌≤◌, ◌⊎◌, List, [], ◌∷◌, ◌++◌, length, map, codes, string_bytes, String, Option, IfSome}
+use Rattle.std.specs.Prelude.{◌≡◌, ℕ, ◌<◌, ◌≤◌, ◌⊎◌, List, [], ◌∷◌, ◌++◌, length, map, codes, string_bytes, String, Option, Some, IfSome, IsSomeAnd}
 use Rattle.std.specs.Fmt.{decimal}
 use Rattle.std.specs.declared.alloc.Global.{Global}
 use Rattle.sql_model.specs.declared.schema.Schema.{Schema}
@@ -76,6 +76,15 @@ SpellsBoth case proof Of P =
 abbrev pub OfAny : Schema → Query → Query → Type 0
 OfAny schema left right = Unit {0}
 
+-- the text, where it is told, is within its length and spells some case of the form
+abbrev pub SpellsSomeCase : Option (List ℕ) → Type 0
+SpellsSomeCase case = SpellsCase case (λ schema left right width. Unit {0})
+
+-- the text is within its length and spells no case of the form
+abbrev pub SpellsNoCase : List ℕ → Type 0
+SpellsNoCase text =
+    (length text ≤ CASE_LIMIT) × ((schema : Schema) (left right : Query) (width : ℕ) → IsFirstCase text schema left right width → ⊥)
+
 -- What a verdict of a check says of the two texts, where the store tells them, and of the counts of faults at their names before and
 -- after. The first cause in this order decides: the case can't be read, is too long, is not of the form; the same of the proof; the first
 -- step without a result; the end.
@@ -86,17 +95,33 @@ IsJust case proof case_before case_now proof_before proof_now (StepFails number)
 IsJust case proof case_before case_now proof_before proof_now EndDiffers =
     SpellsBoth case proof OfAny EndDiffersIn
 IsJust case proof case_before case_now proof_before proof_now CaseRefused =
-    IfSome case (λ c. (length c ≤ CASE_LIMIT) × ((schema : Schema) (left right : Query) (width : ℕ) → IsFirstCase c schema left right width → ⊥))
+    IfSome case SpellsNoCase
 IsJust case proof case_before case_now proof_before proof_now ProofRefused =
     SpellsBoth case proof OfAny IsNoProofText
 IsJust case proof case_before case_now proof_before proof_now NoSuchForm = ⊥
 IsJust case proof case_before case_now proof_before proof_now CaseFault = Rose case_before case_now
 IsJust case proof case_before case_now proof_before proof_now ProofFault =
-    Rose proof_before proof_now × SpellsCase case (λ schema left right width. Unit {0})
+    Rose proof_before proof_now × SpellsSomeCase case
 IsJust case proof case_before case_now proof_before proof_now CaseTooLong = IfSome case (λ c. CASE_LIMIT < length c)
 IsJust case proof case_before case_now proof_before proof_now ProofTooLong =
-    IfSome proof (λ p. PROOF_LIMIT < length p) × SpellsCase case (λ schema left right width. Unit {0})
+    IfSome proof (λ p. PROOF_LIMIT < length p) × SpellsSomeCase case
 IsJust case proof case_before case_now proof_before proof_now OutOfMemory = Unit {0}
+
+-- Both texts are told, within their lengths, the one spells a case, and this holds of its width, of the terms of its queries and of the proof.
+abbrev pub TellsBoth : Option (List ℕ) → Option (List ℕ) → (ℕ → U → U → List ℕ → Type 0) → Type 0
+TellsBoth case proof P = IsSomeAnd case (λ c. IsSomeAnd proof (λ p. SpellsBoth (Some c) (Some p) OfAny P))
+
+-- The texts that a verdict speaks of are told, and they give cause for it. The causes exclude each other. A fault and want of memory have no cause
+-- in the texts, nor have words that are no form.
+abbrev pub IsCause : Verdict → Option (List ℕ) → Option (List ℕ) → Type 0
+IsCause Proved case proof = TellsBoth case proof Accepted
+IsCause (StepFails number) case proof = TellsBoth case proof (StepFailsIn number)
+IsCause EndDiffers case proof = TellsBoth case proof EndDiffersIn
+IsCause CaseRefused case proof = IsSomeAnd case SpellsNoCase
+IsCause ProofRefused case proof = TellsBoth case proof IsNoProofText
+IsCause CaseTooLong case proof = IsSomeAnd case (λ c. CASE_LIMIT < length c)
+IsCause ProofTooLong case proof = IsSomeAnd case (λ c. SpellsSomeCase (Some c)) × IsSomeAnd proof (λ p. PROOF_LIMIT < length p)
+IsCause _ case proof = ⊥
 
 -- The headline: the case's text, where it is told, spells a schema and two queries of one width, and they are equivalent; and the proof's text, where
 -- it is told, is accepted for their terms.
@@ -117,3 +142,11 @@ IsSaid verdict old new before now answer =
     ((answer ≡ status_of verdict) × Grows old new (text_of verdict))
     ⊎ (((answer ≡ status.WriteFault) × Rose before now × GrowsByPrefix old new (text_of verdict))
     ⊎ ((answer ≡ status.NoMemory) × (new ≡ old)))
+
+-- the store or the sink failed, or there was no memory
+abbrev pub IsFaultOrNoMemory : Status → Type 0
+IsFaultOrNoMemory answer = (answer ≡ status.ReadFault) ⊎ ((answer ≡ status.WriteFault) ⊎ (answer ≡ status.NoMemory))
+
+-- The status of a verdict was answered and exactly its text written, unless the store or the sink failed or there was no memory.
+abbrev pub IsAnswer : Verdict → Option (List ℕ) → Option (List ℕ) → Status → Type 0
+IsAnswer verdict old new answer = ((answer ≡ status_of verdict) × Grows old new (text_of verdict)) ⊎ IsFaultOrNoMemory answer

@@ -1,7 +1,5 @@
 -- What the parts of a run found: contracts of private functions alone cite this.
 use Rattle.std.specs.Prelude.{◌≡◌, ℕ, ◌<◌, ◌≤◌, List, Option, IfSome, length}
-use Rattle.sql_model.specs.declared.schema.Schema.{Schema}
-use Rattle.sql_model.specs.declared.tree.Query.{Query}
 use Rattle.sql_read.specs.declared.first.FirstCase.{FirstCase}
 use Rattle.sql_read.specs.FirstForm.{IsFirstCase}
 use Rattle.udp_io.specs.Faults.{Rose}
@@ -10,6 +8,7 @@ use Rattle.udp_prog.specs.declared.answer.Verdict.{Verdict}
 use Rattle.udp_prog.specs.declared.answer.Verdict.TheVariants.{Proved, StepFails, EndDiffers, CaseRefused, ProofRefused, NoSuchForm, CaseFault, ProofFault, CaseTooLong, ProofTooLong, OutOfMemory}
 use Rattle.udp_prog.specs.Translation.{query_term}
 use Rattle.udp_prog.specs.Checking.{Accepted, StepFailsIn, EndDiffersIn, IsNoProofText}
+use Rattle.udp_prog.specs.Answer.{SpellsNoCase}
 
 -- a case was read from the text, where that is told
 pub record IsCaseRead (case : Option (List ℕ)) (c : FirstCase) : Type 0 where
@@ -22,7 +21,7 @@ pub record IsCaseRead (case : Option (List ℕ)) (c : FirstCase) : Type 0 where
 abbrev pub IsCaseCause : Option (List ℕ) → ℕ → ℕ → Verdict → Type 0
 IsCaseCause case before now CaseFault = Rose before now
 IsCaseCause case before now CaseTooLong = IfSome case (λ c. CASE_LIMIT < length c)
-IsCaseCause case before now CaseRefused = IfSome case (λ c. (length c ≤ CASE_LIMIT) × ((schema : Schema) (left right : Query) (width : ℕ) → IsFirstCase c schema left right width → ⊥))
+IsCaseCause case before now CaseRefused = IfSome case SpellsNoCase
 IsCaseCause case before now OutOfMemory = Unit {0}
 IsCaseCause case before now _ = ⊥
 

@@ -5,6 +5,7 @@ mod answer;
 mod argument;
 mod checker;
 mod fault;
+mod laws;
 mod leaves;
 mod lines;
 mod step;

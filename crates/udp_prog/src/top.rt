@@ -1,9 +1,10 @@
 //! The top call: everything that the program does, over any store and any sink.
-ghost use Rattle.std.specs.Prelude.{◌≡◌, ◌<◌, ◌≤◌, ◌⊎◌, List, ℕ, length, codes, IfSome, IfOk, IfErr};
+ghost use Rattle.std.specs.Prelude.{◌≡◌, ◌<◌, ◌≤◌, ◌⊎◌, List, [], ℕ, length, codes, IfSome, IfOk, IfErr};
 ghost use Rattle.sql_read.specs.FirstForm.{IsFirstCase};
 ghost use Rattle.udp_io.specs.Faults.{Rose};
 ghost use Rattle.udp_io.specs.Writing.{Grows};
-ghost use Rattle.udp_prog.specs.Answer.{IsCheck, IsFound, IsJust, IsSaid, AsksCheck, IsProved, line};
+ghost use Rattle.udp_prog.specs.Checking.{Accepted};
+ghost use Rattle.udp_prog.specs.Answer.{IsCheck, IsFound, IsJust, IsSaid, AsksCheck, AsksNothing, IsProved, IsCause, IsAnswer, TellsBoth, SpellsSomeCase, line};
 ghost use Rattle.udp_prog.specs.Runs.{IsCaseRead, IsCaseCause, IsProofCause, ShowsOf};
 ghost use Rattle.udp_prog.specs.declared.answer.Verdict.{Verdict as TheVerdict};
 
@@ -129,12 +130,36 @@ pub fn run<S: Store, K: Sink>(alloc: Global, words: &[String], store: &mut S, ou
         IsProved (S.text store.old case) (S.text store.old proof)
         × Grows (K.written out.old) (K.written out.new) (line (codes "proved")) }
 
-    // A read fault comes only where the store failed at a name that the words give.
+    // Completeness. Where the store tells a text that spells a case, and one of a proof that is accepted for its terms, both within their
+    // lengths, `proved` is answered.
+    ensures complete { AsksCheck words.now (λ case proof. TellsBoth (S.text store.old case) (S.text store.old proof) Accepted) →
+        IsAnswer Verdict.Proved (K.written out.old) (K.written out.new) result }
+
+    // Where the texts give cause for a verdict, that verdict is answered.
+    ensures exact { (verdict : TheVerdict) →
+        AsksCheck words.now (λ case proof. IsCause verdict (S.text store.old case) (S.text store.old proof)) →
+        IsAnswer verdict (K.written out.old) (K.written out.new) result }
+
+    // `Usage` is answered exactly where the words are no form.
+    ensures usage { result ≡ Status.Usage → AsksNothing words.now }
+    ensures no_form { AsksNothing words.now →
+        IsSaid Verdict.NoSuchForm (K.written out.old) (K.written out.new) (K.faults out.old) (K.faults out.new) result }
+
+    // A read fault comes only where the store failed at the name of the case, or at that of the proof, and then the case is in order.
     ensures read_fault { result ≡ Status.ReadFault → AsksCheck words.now (λ case proof.
-        Rose (S.faults store.old case) (S.faults store.new case) ⊎ Rose (S.faults store.old proof) (S.faults store.new proof)) }
+        Rose (S.faults store.old case) (S.faults store.new case)
+        ⊎ (SpellsSomeCase (S.text store.old case) × Rose (S.faults store.old proof) (S.faults store.new proof))) }
 
     // A write fault comes only where the sink failed.
     ensures write_fault { result ≡ Status.WriteFault → Rose (K.faults out.old) (K.faults out.new) }
+
+    // A limit is passed only by the case, or by the proof, and then the case is in order.
+    ensures limits { result ≡ Status.Limit → AsksCheck words.now (λ case proof.
+        IfSome (S.text store.old case) (λ text. CASE_LIMIT < length text)
+        ⊎ (SpellsSomeCase (S.text store.old case) × IfSome (S.text store.old proof) (λ text. PROOF_LIMIT < length text))) }
+
+    // Without memory nothing was written.
+    ensures memory { result ≡ Status.NoMemory → Grows (K.written out.old) (K.written out.new) [] }
 {
     let verdict = find_verdict(alloc, words, store);
     say(alloc, verdict, out)
