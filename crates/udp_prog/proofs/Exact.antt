@@ -5,7 +5,7 @@ use Rattle.std.specs.declared.alloc.Global.{Global}
 use Rattle.udp_io.specs.Faults.{Rose}
 use Rattle.udp_io.specs.Writing.{Grows}
 use Rattle.udp_io.proofs.WritingLemmas.{Grows-nil}
-use Rattle.udp_prog.specs.declared.TheConstants.{CASE_LIMIT, PROOF_LIMIT}
+use Rattle.udp_prog.specs.Limits.{most_case_bytes, most_proof_bytes}
 use Rattle.udp_prog.specs.declared.answer.Status.{Status}
 use Rattle.udp_prog.specs.declared.answer.Status.TheVariants as status
 use Rattle.udp_prog.specs.declared.answer.Verdict.{Verdict}
@@ -67,7 +67,7 @@ module _ (words : List (String Global)) (text : List ℕ → Option (List ℕ)) 
   -- a text passes its length
   abbrev TooLong : List ℕ → List ℕ → Type 0
   TooLong case proof =
-      IfSome (text case) (λ t. CASE_LIMIT < length t) ⊎ (SpellsSomeCase (text case) × IfSome (text proof) (λ t. PROOF_LIMIT < length t))
+      IfSome (text case) (λ t. most_case_bytes < length t) ⊎ (SpellsSomeCase (text case) × IfSome (text proof) (λ t. most_proof_bytes < length t))
 
   found-limit : (v : Verdict) → status_of v ≡ status.Limit → IsFound words text before now v → AsksCheck words TooLong
   found-limit CaseTooLong e (inl (case, proof, is, long)) = (case, proof, is, inl long)

@@ -9,7 +9,7 @@ use Rattle.sql_model.specs.Compute.{everything}
 use Rattle.sql_read.specs.FirstForm.{IsFirstCase}
 use Rattle.sql_read.proofs.CaseLaws.{same_read}
 use Rattle.u_terms.specs.declared.term.U.{U}
-use Rattle.udp_prog.specs.declared.TheConstants.{CASE_LIMIT, PROOF_LIMIT}
+use Rattle.udp_prog.specs.Limits.{most_case_bytes, most_proof_bytes}
 use Rattle.udp_prog.specs.declared.step.Step.{Step}
 use Rattle.udp_prog.specs.declared.checker.Shown.{Shown}
 use Rattle.udp_prog.specs.declared.checker.Shown.TheVariants as shown
@@ -64,8 +64,8 @@ record Shows (t : ℕ × U × U) (text : List ℕ) (verdict : Verdict) : Type 0 
 -- What decides of a proof: its length, that it is no proof text, or what its steps show.
 abbrev ProofDecides : ℕ × U × U → Verdict → List ℕ → Type 0
 ProofDecides t verdict text =
-    ((PROOF_LIMIT < length text) × (verdict ≡ ProofTooLong))
-    ⊎ ((length text ≤ PROOF_LIMIT) × ((IsNoProofText t.0 t.1 t.2 text × (verdict ≡ ProofRefused)) ⊎ Shows t text verdict))
+    ((most_proof_bytes < length text) × (verdict ≡ ProofTooLong))
+    ⊎ ((length text ≤ most_proof_bytes) × ((IsNoProofText t.0 t.1 t.2 text × (verdict ≡ ProofRefused)) ⊎ Shows t text verdict))
 
 shown-one : (t : ℕ × U × U) (text : List ℕ) (v w : Verdict) → Shows t text v → Shows t text w → v ≡ w
 shown-one t text v w a b =
@@ -86,7 +86,7 @@ proof-one t text v w (inr (within, inr a)) (inr (fits, inr b)) = shown-one t tex
 -- What decides of a case: its length, that it is of no form, or what decides of the proof, as far as its text is known.
 abbrev CaseDecides : ((List ℕ → Type 0) → Type 0) → List ℕ → Verdict → Type 0
 CaseDecides Known text verdict =
-    ((CASE_LIMIT < length text) × (verdict ≡ CaseTooLong))
+    ((most_case_bytes < length text) × (verdict ≡ CaseTooLong))
     ⊎ ((SpellsNoCase text × (verdict ≡ CaseRefused))
     ⊎ SpellsCase (Some text) (λ schema left right width. Known (ProofDecides (terms schema left right width) verdict)))
 
@@ -106,12 +106,12 @@ case-one text (Some proof) v w (inr (inr (schema, left, right, width, spells, a)
 
 -- ---- from what is said of a verdict to what decides
 module _ (t : ℕ × U × U) (text : List ℕ) where
-  shown-decides : (shown : Shown) → (length text ≤ PROOF_LIMIT) × IsShown t.0 t.1 t.2 text (Ok shown) → ProofDecides t (verdict_of shown) text
+  shown-decides : (shown : Shown) → (length text ≤ most_proof_bytes) × IsShown t.0 t.1 t.2 text (Ok shown) → ProofDecides t (verdict_of shown) text
   shown-decides shown.Proved (fits, a) = inr (fits, inr (record { steps = a.steps; spelled = a.text; shown = shown.Proved; shows = a.replays; is = refl }))
   shown-decides (shown.StepFails line) (fits, f) = inr (fits, inr (record { steps = f.0; spelled = f.1; shown = shown.StepFails line; shows = f.2; is = refl }))
   shown-decides shown.EndDiffers (fits, e) = inr (fits, inr (record { steps = e.0; spelled = e.1; shown = shown.EndDiffers; shows = e.2; is = refl }))
 
-  refused-decides : (length text ≤ PROOF_LIMIT) × IsNoProofText t.0 t.1 t.2 text → ProofDecides t ProofRefused text
+  refused-decides : (length text ≤ most_proof_bytes) × IsNoProofText t.0 t.1 t.2 text → ProofDecides t ProofRefused text
   refused-decides (fits, none) = inr (fits, inl (none, refl))
 
 -- where the proof's text is told or not, and where it is told
@@ -120,7 +120,7 @@ IfSome-map None P Q f p = tt
 IfSome-map (Some t) P Q f p = f t p
 
 both-decide : (text : List ℕ) (proof : Option (List ℕ)) (verdict : Verdict) (P : ℕ → U → U → List ℕ → Type 0)
-    → ((t : ℕ × U × U) (p : List ℕ) → (length p ≤ PROOF_LIMIT) × P t.0 t.1 t.2 p → ProofDecides t verdict p)
+    → ((t : ℕ × U × U) (p : List ℕ) → (length p ≤ most_proof_bytes) × P t.0 t.1 t.2 p → ProofDecides t verdict p)
     → TellsBoth (Some text) proof P → CaseDecides (IsSomeAnd proof) text verdict
 both-decide text None verdict P f b = absurd b
 both-decide text (Some p) verdict P f (schema, left, right, width, spells, (any, h)) =

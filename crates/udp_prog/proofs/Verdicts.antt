@@ -10,7 +10,7 @@ use Rattle.sql_model.specs.declared.tree.Query.{Query}
 use Rattle.sql_model.specs.Equivalent.{Equivalent}
 use Rattle.u_terms.specs.declared.term.U.{U}
 use Rattle.udp_io.specs.Faults.{Rose}
-use Rattle.udp_prog.specs.declared.TheConstants.{CASE_LIMIT, PROOF_LIMIT}
+use Rattle.udp_prog.specs.Limits.{most_case_bytes, most_proof_bytes}
 use Rattle.udp_prog.specs.declared.answer.Verdict.{Verdict}
 use Rattle.udp_prog.specs.declared.answer.Verdict.TheVariants.{Proved, StepFails, EndDiffers, CaseRefused, ProofRefused, NoSuchForm, CaseFault, ProofFault, CaseTooLong, ProofTooLong, OutOfMemory}
 use Rattle.udp_prog.specs.Translation.{query_term}
@@ -51,13 +51,13 @@ IsProofCause-earlier proof earlier before now CaseTooLong h u = absurd u
 module _ (case proof : Option (List ℕ)) (c : FirstCase) (read : IsCaseRead case c) where
   spells : (P : Schema → Query → Query → ℕ → Type 0) → P c.schema c.left c.right c.width → SpellsCase case P
   spells P p =
-      (c.schema, c.left, c.right, c.width, told case read.text (λ t. (length t ≤ CASE_LIMIT) × IsFirstCase t c.schema c.left c.right c.width) read.told (read.within, read.spelled), p)
+      (c.schema, c.left, c.right, c.width, told case read.text (λ t. (length t ≤ most_case_bytes) × IsFirstCase t c.schema c.left c.right c.width) read.told (read.within, read.spelled), p)
 
-  module _ (bytes : List ℕ) (proof_told : IfSome proof (λ t. bytes ≡ t)) (within : length bytes ≤ PROOF_LIMIT) where
+  module _ (bytes : List ℕ) (proof_told : IfSome proof (λ t. bytes ≡ t)) (within : length bytes ≤ most_proof_bytes) where
     spells_both : (Of : Schema → Query → Query → Type 0) (P : ℕ → U → U → List ℕ → Type 0) → Of c.schema c.left c.right
         → P c.width (query_term c.schema c.left) (query_term c.schema c.right) bytes → SpellsBoth case proof Of P
     spells_both Of P o p =
-        spells _ (o, told proof bytes (λ t. (length t ≤ PROOF_LIMIT) × P c.width (query_term c.schema c.left) (query_term c.schema c.right) t) proof_told (within, p))
+        spells _ (o, told proof bytes (λ t. (length t ≤ most_proof_bytes) × P c.width (query_term c.schema c.left) (query_term c.schema c.right) t) proof_told (within, p))
 
     pub shown-just : (cb cn pb pn : ℕ) (verdict : Verdict) → ShowsOf c bytes verdict → IsJust case proof cb cn pb pn verdict
     shown-just cb cn pb pn Proved a =

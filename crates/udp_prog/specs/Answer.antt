@@ -9,7 +9,7 @@ use Rattle.sql_read.specs.FirstForm.{IsFirstCase}
 use Rattle.u_terms.specs.declared.term.U.{U}
 use Rattle.udp_io.specs.Faults.{Rose}
 use Rattle.udp_io.specs.Writing.{Grows, GrowsByPrefix}
-use Rattle.udp_prog.specs.declared.TheConstants.{CASE_LIMIT, PROOF_LIMIT}
+use Rattle.udp_prog.specs.Limits.{most_case_bytes, most_proof_bytes}
 use Rattle.udp_prog.specs.declared.answer.Status.{Status}
 use Rattle.udp_prog.specs.declared.answer.Status.TheVariants as status
 use Rattle.udp_prog.specs.declared.answer.Verdict.{Verdict}
@@ -65,13 +65,13 @@ status_of OutOfMemory = status.NoMemory
 abbrev pub SpellsCase : Option (List ℕ) → (Schema → Query → Query → ℕ → Type 0) → Type 0
 SpellsCase case P =
     (schema : Schema) × (left : Query) × (right : Query) × (width : ℕ)
-    × IfSome case (λ c. (length c ≤ CASE_LIMIT) × IsFirstCase c schema left right width) × P schema left right width
+    × IfSome case (λ c. (length c ≤ most_case_bytes) × IsFirstCase c schema left right width) × P schema left right width
 
 -- The same, and the text of the proof, where it is told, is within its length, and this holds of it and of the terms of the queries.
 abbrev pub SpellsBoth : Option (List ℕ) → Option (List ℕ) → (Schema → Query → Query → Type 0) → (ℕ → U → U → List ℕ → Type 0) → Type 0
 SpellsBoth case proof Of P =
     SpellsCase case (λ schema left right width. Of schema left right
-    × IfSome proof (λ p. (length p ≤ PROOF_LIMIT) × P width (query_term schema left) (query_term schema right) p))
+    × IfSome proof (λ p. (length p ≤ most_proof_bytes) × P width (query_term schema left) (query_term schema right) p))
 
 abbrev pub OfAny : Schema → Query → Query → Type 0
 OfAny schema left right = Unit {0}
@@ -83,7 +83,7 @@ SpellsSomeCase case = SpellsCase case (λ schema left right width. Unit {0})
 -- the text is within its length and spells no case of the form
 abbrev pub SpellsNoCase : List ℕ → Type 0
 SpellsNoCase text =
-    (length text ≤ CASE_LIMIT) × ((schema : Schema) (left right : Query) (width : ℕ) → IsFirstCase text schema left right width → ⊥)
+    (length text ≤ most_case_bytes) × ((schema : Schema) (left right : Query) (width : ℕ) → IsFirstCase text schema left right width → ⊥)
 
 -- What a verdict of a check says of the two texts, where the store tells them, and of the counts of faults at their names before and
 -- after. The first cause in this order decides: the case can't be read, is too long, is not of the form; the same of the proof; the first
@@ -102,9 +102,9 @@ IsJust case proof case_before case_now proof_before proof_now NoSuchForm = ⊥
 IsJust case proof case_before case_now proof_before proof_now CaseFault = Rose case_before case_now
 IsJust case proof case_before case_now proof_before proof_now ProofFault =
     Rose proof_before proof_now × SpellsSomeCase case
-IsJust case proof case_before case_now proof_before proof_now CaseTooLong = IfSome case (λ c. CASE_LIMIT < length c)
+IsJust case proof case_before case_now proof_before proof_now CaseTooLong = IfSome case (λ c. most_case_bytes < length c)
 IsJust case proof case_before case_now proof_before proof_now ProofTooLong =
-    IfSome proof (λ p. PROOF_LIMIT < length p) × SpellsSomeCase case
+    IfSome proof (λ p. most_proof_bytes < length p) × SpellsSomeCase case
 IsJust case proof case_before case_now proof_before proof_now OutOfMemory = Unit {0}
 
 -- Both texts are told, within their lengths, the one spells a case, and this holds of its width, of the terms of its queries and of the proof.
@@ -119,8 +119,8 @@ IsCause (StepFails number) case proof = TellsBoth case proof (StepFailsIn number
 IsCause EndDiffers case proof = TellsBoth case proof EndDiffersIn
 IsCause CaseRefused case proof = IsSomeAnd case SpellsNoCase
 IsCause ProofRefused case proof = TellsBoth case proof IsNoProofText
-IsCause CaseTooLong case proof = IsSomeAnd case (λ c. CASE_LIMIT < length c)
-IsCause ProofTooLong case proof = IsSomeAnd case (λ c. SpellsSomeCase (Some c)) × IsSomeAnd proof (λ p. PROOF_LIMIT < length p)
+IsCause CaseTooLong case proof = IsSomeAnd case (λ c. most_case_bytes < length c)
+IsCause ProofTooLong case proof = IsSomeAnd case (λ c. SpellsSomeCase (Some c)) × IsSomeAnd proof (λ p. most_proof_bytes < length p)
 IsCause _ case proof = ⊥
 
 -- The headline: the case's text, where it is told, spells a schema and two queries of one width, and they are equivalent; and the proof's text, where

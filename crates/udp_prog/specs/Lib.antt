@@ -1,3 +1,4 @@
+pub mod Limits
 pub mod Translation
 pub mod Leaves
 pub mod TermText

@@ -8,6 +8,7 @@ use Rattle.u_terms.specs.Size.{nodes, depth}
 use Rattle.udp_prog.specs.declared.step.Direction.{Direction}
 use Rattle.udp_prog.specs.declared.step.Direction.TheVariants.{Forward, Backward}
 use Rattle.udp_prog.specs.declared.step.Step.{Step}
+use Rattle.udp_prog.specs.Limits.{most_steps, most_nodes, most_depth}
 use Rattle.udp_prog.specs.TermText.{term_text, IsPlainTerm}
 
 abbrev pub newline : List ℕ
@@ -30,8 +31,8 @@ proof_text outs steps =
 -- an argument within its limits
 pub record IsArgument (term : U) : Type 0 where
   pub plain : IsPlainTerm term
-  pub small : nodes term ≤ 200000
-  pub flat : depth term ≤ 2048
+  pub small : nodes term ≤ most_nodes
+  pub flat : depth term ≤ most_depth
 
 abbrev pub HasArguments : Step → Type 0
 HasArguments step = IsArgument step.left × IsArgument step.right
@@ -40,4 +41,4 @@ HasArguments step = IsArgument step.left × IsArgument step.right
 pub record IsProofText (outs : ℕ) (bytes : List ℕ) (steps : List Step) : Type 0 where
   pub spelled : bytes ≡ proof_text outs steps
   pub arguments : Each HasArguments steps
-  pub few : length steps ≤ 1000000
+  pub few : length steps ≤ most_steps

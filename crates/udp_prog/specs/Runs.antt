@@ -3,7 +3,7 @@ use Rattle.std.specs.Prelude.{◌≡◌, ℕ, ◌<◌, ◌≤◌, List, Option, 
 use Rattle.sql_read.specs.declared.first.FirstCase.{FirstCase}
 use Rattle.sql_read.specs.FirstForm.{IsFirstCase}
 use Rattle.udp_io.specs.Faults.{Rose}
-use Rattle.udp_prog.specs.declared.TheConstants.{CASE_LIMIT, PROOF_LIMIT}
+use Rattle.udp_prog.specs.Limits.{most_case_bytes, most_proof_bytes}
 use Rattle.udp_prog.specs.declared.answer.Verdict.{Verdict}
 use Rattle.udp_prog.specs.declared.answer.Verdict.TheVariants.{Proved, StepFails, EndDiffers, CaseRefused, ProofRefused, NoSuchForm, CaseFault, ProofFault, CaseTooLong, ProofTooLong, OutOfMemory}
 use Rattle.udp_prog.specs.Translation.{query_term}
@@ -14,13 +14,13 @@ use Rattle.udp_prog.specs.Answer.{SpellsNoCase}
 pub record IsCaseRead (case : Option (List ℕ)) (c : FirstCase) : Type 0 where
   pub text : List ℕ
   pub told : IfSome case (λ t. text ≡ t)
-  pub within : length text ≤ CASE_LIMIT
+  pub within : length text ≤ most_case_bytes
   pub spelled : IsFirstCase text c.schema c.left c.right c.width
 
 -- why no case was read
 abbrev pub IsCaseCause : Option (List ℕ) → ℕ → ℕ → Verdict → Type 0
 IsCaseCause case before now CaseFault = Rose before now
-IsCaseCause case before now CaseTooLong = IfSome case (λ c. CASE_LIMIT < length c)
+IsCaseCause case before now CaseTooLong = IfSome case (λ c. most_case_bytes < length c)
 IsCaseCause case before now CaseRefused = IfSome case SpellsNoCase
 IsCaseCause case before now OutOfMemory = Unit {0}
 IsCaseCause case before now _ = ⊥
@@ -28,7 +28,7 @@ IsCaseCause case before now _ = ⊥
 -- why no proof was read
 abbrev pub IsProofCause : Option (List ℕ) → ℕ → ℕ → Verdict → Type 0
 IsProofCause proof before now ProofFault = Rose before now
-IsProofCause proof before now ProofTooLong = IfSome proof (λ p. PROOF_LIMIT < length p)
+IsProofCause proof before now ProofTooLong = IfSome proof (λ p. most_proof_bytes < length p)
 IsProofCause proof before now OutOfMemory = Unit {0}
 IsProofCause proof before now _ = ⊥
 

@@ -10,7 +10,12 @@ use std::alloc::Global;
 use udp_io::{SureSink, SureStore};
 
 /// Over a store and a sink that never fail, a run ends with the answer that its texts give cause for, or for want of memory.
-pub fn run_surely(alloc: Global, words: &[String], store: &mut SureStore, out: &mut SureSink) -> Status
+pub fn run_surely(
+    alloc: Global,
+    words: &[String],
+    store: &mut SureStore,
+    out: &mut SureSink,
+) -> Status
     // An accepted proof of a case is found to be one.
     ensures complete { AsksCheck words.now (λ case proof. TellsBoth (sure_text store.old case) (sure_text store.old proof) Accepted) →
         (result ≡ Status.Done) ⊎ (result ≡ Status.NoMemory) }

@@ -5,6 +5,7 @@ ghost use Rattle.udp_io.specs.Faults.{Rose};
 ghost use Rattle.udp_io.specs.Writing.{Grows};
 ghost use Rattle.udp_prog.specs.Checking.{Accepted};
 ghost use Rattle.udp_prog.specs.Answer.{IsCheck, IsFound, IsJust, IsSaid, AsksCheck, AsksNothing, IsProved, IsCause, IsAnswer, TellsBoth, SpellsSomeCase, line};
+ghost use Rattle.udp_prog.specs.Limits.{most_case_bytes, most_proof_bytes};
 ghost use Rattle.udp_prog.specs.Runs.{IsCaseRead, IsCaseCause, IsProofCause, ShowsOf};
 ghost use Rattle.udp_prog.specs.declared.answer.Verdict.{Verdict as TheVerdict};
 
@@ -155,8 +156,8 @@ pub fn run<S: Store, K: Sink>(alloc: Global, words: &[String], store: &mut S, ou
 
     // A limit is passed only by the case, or by the proof, and then the case is in order.
     ensures limits { result ≡ Status.Limit → AsksCheck words.now (λ case proof.
-        IfSome (S.text store.old case) (λ text. CASE_LIMIT < length text)
-        ⊎ (SpellsSomeCase (S.text store.old case) × IfSome (S.text store.old proof) (λ text. PROOF_LIMIT < length text))) }
+        IfSome (S.text store.old case) (λ text. most_case_bytes < length text)
+        ⊎ (SpellsSomeCase (S.text store.old case) × IfSome (S.text store.old proof) (λ text. most_proof_bytes < length text))) }
 
     // Without memory nothing was written.
     ensures memory { result ≡ Status.NoMemory → Grows (K.written out.old) (K.written out.new) [] }
