@@ -26,4 +26,7 @@ next n = min (n + 1) (2 ^ 64 - 1)
 
 -- the plan after a call, which failed or did not
 abbrev pub after_call : Plan → Bool → Plan
-after_call plan failed = record { call = next plan.call; failing = plan.failing; faults = if failed then next plan.faults else plan.faults }
+after_call plan failed = record plan {
+  call = next plan.call;
+  faults = if failed then next plan.faults else plan.faults;
+}

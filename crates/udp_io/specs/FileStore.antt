@@ -11,5 +11,5 @@ abbrev pub file_remaining : {R File Dir : Type 0} → (File → Option (List ℕ
 file_remaining remaining store = option_and_then remaining store.selected
 
 -- one count for every name
-abbrev pub file_faults : {R File Dir : Type 0} → FileStore R File Dir → ℕ
-file_faults store = store.faults
+abbrev pub file_faults : {R File Dir : Type 0} → FileStore R File Dir → List ℕ → ℕ
+file_faults store name = store.faults

@@ -41,9 +41,9 @@ IsSelected held name = held.selected ≡ place_of held name
 abbrev pub with_text : NamedTexts → List ℕ → List ℕ → NamedTexts
 with_text held name bytes = record held { texts = held.texts ++ record { name = name; bytes = bytes } ∷ [] }
 
--- the text of this name is selected, and all of it is left
-abbrev pub selecting : NamedTexts → List ℕ → NamedTexts
-selecting held name = record held { selected = place_of held name; left = text_of held name }
+-- the text of this name is the selected one, and all of it is left
+abbrev pub with_selected : NamedTexts → List ℕ → NamedTexts
+with_selected held name = record held { selected = place_of held name; left = text_of held name }
 
 -- how many bytes go into this buffer, of at most `most` at once
 abbrev pub take_count : NamedTexts → ℕ → List ℕ → ℕ

@@ -2,7 +2,8 @@
 ghost use Rattle.std.specs.Prelude.{◌≡◌, ◌≤◌, true, false, OnOk, OnErr};
 ghost use Rattle.udp_io.specs.FaultPlan.{no_plan, fails_next, with_failing, after_call};
 
-use std::alloc::{AllocError, Global};
+use crate::NoMemory;
+use std::alloc::Global;
 use std::marker::Model;
 
 /// Which calls of a store or a sink in memory are to fail. It counts them from 0.
@@ -32,7 +33,7 @@ impl FaultPlan {
         }
     }
 
-    pub fn fail_at(&mut self, call: u64) -> Result<(), AllocError>
+    pub fn fail_at(&mut self, call: u64) -> Result<(), NoMemory>
         ensures ok { OnOk result (self.new ≡ with_failing self.old call) }
         ensures err { OnErr result (self.new ≡ self.old) }
     {

@@ -1,5 +1,5 @@
 //! A store over the files of the system.
-ghost use Rattle.std.specs.Prelude.{◌≡◌, None, OnOk};
+ghost use Rattle.std.specs.Prelude.{◌≡◌, List, ℕ, None, OnOk};
 ghost use Rattle.std.specs.Io.{ReadsAtMost};
 ghost use Rattle.std.specs.Io.KnownBytes.{ReadConsumes};
 ghost use Rattle.udp_io.specs.Faults.{HasCauseAt};
@@ -23,7 +23,7 @@ pub struct FileStore<'a, R: Files> {
 impl<'a, R: Files> FileStore<'a, R> {
     /// The files that the runtime hands out.
     pub fn new(files: &'a R) -> Self
-        ensures { file_faults result ≡ 0 }
+        ensures { (name : List ℕ) → file_faults result name ≡ 0 }
     {
         FileStore {
             files,
@@ -40,7 +40,7 @@ impl<R: Files> Store for FileStore<'_, R> {
 
     ghost usable = { λ s _. HasFile s };
 
-    ghost faults = { λ s _. file_faults s };
+    ghost faults = { file_faults };
 
     fn select(&mut self, name: &str) -> Result<(), StoreFault> {
         self.selected = fs::open(self.files, name).ok();
@@ -57,8 +57,7 @@ impl<R: Files> Store for FileStore<'_, R> {
         ensures bound { ReadsAtMost result buf.new }
         ensures taken { TakesFirst None None result buf.new }
         ensures zero { IsZeroAtEnd None result buf.new }
-        ensures cause { HasCauseAt
-            (λ _. file_faults self.old) (λ _. file_faults self.new) name.now result }
+        ensures cause { HasCauseAt (file_faults self.old) (file_faults self.new) name.now result }
 
         // The bytes are those that the file gave.
         ensures handed { ReadConsumes

@@ -73,7 +73,7 @@ impl Store for MemStore {
     ghost use Rattle.udp_io.specs.Faults.{HasCauseAt};
     ghost use Rattle.udp_io.specs.Reading.{IsZeroAtEnd};
     ghost use Rattle.udp_io.specs.FaultPlan.{fails_next, after_call};
-    ghost use Rattle.udp_io.specs.Texts.{has_name, selecting};
+    ghost use Rattle.udp_io.specs.Texts.{has_name, with_selected};
     ghost use Rattle.udp_io.specs.Texts.{take_count, with_front, without_first};
     ghost use Rattle.udp_io.specs.MemStore.{store_text, store_left, IsUsable, store_faults};
 
@@ -90,7 +90,7 @@ impl Store for MemStore {
         ensures fails { is_err result
             ≡ (fails_next self.old.plan || not (has_name self.old.texts name.now)) }
         ensures after { self.new ≡ record self.old {
-          texts = selecting self.old.texts name.now;
+          texts = with_selected self.old.texts name.now;
           plan = after_call self.old.plan (is_err result);
         } }
         ensures cause { HasCauseAt (store_faults self.old) (store_faults self.new) name.now result }

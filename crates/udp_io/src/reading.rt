@@ -3,7 +3,8 @@ ghost use Rattle.std.specs.Prelude.{◌≡◌, ◌<◌, ◌≤◌, ◌+◌, List
 ghost use Rattle.std.specs.Prelude.{IfOk, IfSome, OnOk, IsErrOf};
 ghost use Rattle.std.specs.Io.KnownBytes.{Keeps};
 ghost use Rattle.udp_io.specs.Faults.{Rose};
-ghost use Rattle.udp_io.specs.Piece.{TakesPiece, TakesAtMost};
+ghost use Rattle.udp_io.specs.Reading.{TakesAtMost};
+ghost use Rattle.udp_io.specs.Piece.{TakesPiece};
 
 use crate::Store;
 use std::alloc::Global;
@@ -61,8 +62,8 @@ fn take_piece<S: Store>(
 
 /// Reads the whole text under this name, of at most `limit` bytes.
 ///
-/// It takes pieces of at most 4,096 bytes, and asks for at most `limit + 1` bytes in all. Each byte
-/// is taken once.
+/// It takes pieces of at most 4,096 bytes, and asks for at most `limit + 1` bytes in all. Its cost
+/// is linear in the bytes that it takes.
 pub fn read_all<S: Store>(
     alloc: Global,
     store: &mut S,

@@ -29,8 +29,8 @@ pub trait Store {
         ensures same_texts { (other : List ℕ) → text self.new other ≡ text self.old other }
         ensures cause { HasCauseAt (faults self.old) (faults self.new) name.now result };
 
-    /// Takes the first bytes of what is left into the front of the buffer, and answers how many.
-    /// What the rest of the buffer then holds is left open.
+    /// Moves the first bytes of what is left to the front of the buffer, and answers how many. What
+    /// the rest of the buffer holds then, and all of it after a fault, is left open.
     fn take(&mut self, name: &str, buf: &mut [u8]) -> Result<usize, StoreFault>
         requires { usable self.old name.now }
         ensures usable { OnOk result (usable self.new name.now) }

@@ -5,7 +5,7 @@ use crate::{NoMemory, Store, StoreFault};
 use std::alloc::Global;
 use std::marker::Model;
 
-/// Texts in memory, of which none fails. An absent name has the empty text.
+/// Texts in memory. No call fails, and an absent name has the empty text.
 #[derive(Drop)]
 pub struct SureStore {
     texts: Texts,
@@ -56,7 +56,7 @@ impl Store for SureStore {
     ghost use Rattle.std.specs.Prelude.{◌≡◌, IsOk};
     ghost use Rattle.std.specs.Result.{result_unwrap_or};
     ghost use Rattle.udp_io.specs.Reading.{IsZeroAtEnd};
-    ghost use Rattle.udp_io.specs.Texts.{selecting, take_count, with_front, without_first};
+    ghost use Rattle.udp_io.specs.Texts.{with_selected, take_count, with_front, without_first};
     ghost use Rattle.udp_io.specs.SureStore.{sure_text, sure_left, IsSureUsable};
 
     ghost text = { sure_text };
@@ -69,7 +69,7 @@ impl Store for SureStore {
 
     fn select(&mut self, name: &str) -> Result<(), StoreFault>
         ensures sure { IsOk result }
-        ensures after { self.new ≡ record self.old { texts = selecting self.old.texts name.now } }
+        ensures after { self.new ≡ record self.old { texts = with_selected self.old.texts name.now } }
     {
         let _ = self.texts.select(name);
         Ok(())

@@ -1,9 +1,10 @@
 //! Texts by name in memory, of which one is selected and taken piece by piece.
 ghost use Rattle.std.specs.Prelude.{◌≡◌, false, OnOk, OnErr};
-ghost use Rattle.udp_io.specs.Texts.{no_texts, has_name, with_text, selecting};
+ghost use Rattle.udp_io.specs.Texts.{no_texts, has_name, with_text, with_selected};
 ghost use Rattle.udp_io.specs.Texts.{take_count, with_front, without_first};
 
-use std::alloc::{AllocError, Global};
+use crate::NoMemory;
+use std::alloc::Global;
 use std::marker::Model;
 
 #[derive(Drop)]
@@ -60,7 +61,7 @@ impl Texts {
     }
 
     /// Puts a text under a name that has none.
-    pub fn add(&mut self, name: &str, bytes: &[u8]) -> Result<(), AllocError>
+    pub fn add(&mut self, name: &str, bytes: &[u8]) -> Result<(), NoMemory>
         requires { has_name self.old name.now ≡ false }
         ensures ok { OnOk result (self.new ≡ with_text self.old name.now bytes.now) }
         ensures err { OnErr result (self.new ≡ self.old) }
@@ -74,7 +75,7 @@ impl Texts {
     /// Selects the text under this name, and answers whether there is one.
     pub fn select(&mut self, name: &str) -> bool
         ensures found { result ≡ has_name self.old name.now }
-        ensures selected { self.new ≡ selecting self.old name.now }
+        ensures selected { self.new ≡ with_selected self.old name.now }
     {
         self.selected = self.texts.iter().position(|t| t.name.as_str() == name);
         self.taken = 0;

@@ -1,5 +1,5 @@
-use Rattle.std.proofs.Common.{arith, length}
-use Rattle.udp_io.proofs.PieceLemmas.{TakesAtMost-after}
+use Rattle.std.proofs.Common.{arith}
+use Rattle.udp_io.proofs.ReadingLemmas.{TakesAtMost-after}
 use Rattle.udp_io.proofs.reading.read_all.Goals as goal
 
 pub returns-in_err-take_piece-clause-bound : goal.returns-in_err-take_piece-clause-bound

@@ -6,12 +6,12 @@ use Rattle.udp_io.proofs.texts.Texts.select.Goals.{After-is_some}
 use Rattle.udp_io.proofs.texts.Texts.select.Goals as goal
 
 -- the place that was found among the fields is that of the name
-here : (c : After-is_some) → c.position-self-inside.result ≡ position (λ t. bytes_eq t.name c.args.name.now) c.self.inside.texts.items
-here c =
+place-inside : (c : After-is_some) → c.position-self-inside.result ≡ position (λ t. bytes_eq t.name c.args.name.now) c.self.inside.texts.items
+place-inside c =
     rw c.deref.ensures.value at (position_from_yields_List (λ t. bytes_eq t.name c.args.name.now) _ _ c.position-self-inside.result c.position-self-inside.ensures.ran (YieldsList-from_slice _ c.iter.ensures.rest) (λ x b q k. search (rules, tests)))
 
 place : (c : After-is_some) → c.position-self-inside.result ≡ place_of c.args.self.now c.args.name.now
-place c = here c ∙ ap (λ (held : NamedTexts). place_of held c.args.name.now) c.self.view_is
+place c = place-inside c ∙ ap (λ (held : NamedTexts). place_of held c.args.name.now) c.self.view_is
 
 pub returns-clause-found : goal.returns-clause-found
 returns-clause-found c = c.is_some.ensures ∙ ap is_some (place c)
