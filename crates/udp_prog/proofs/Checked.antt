@@ -1,5 +1,5 @@
 -- From what was read of a proof text to what it shows.
-use Rattle.std.proofs.Common.{◌≡◌, ℕ, ◌<◌, ◌^◌, List, Option, Some, None, Result, Ok, Err, refl, sym, ap, ◌∙◌}
+use Rattle.std.proofs.Common.{◌≡◌, ℕ, ◌<◌, ◌^◌, List, Some, None, Ok, Err, refl, sym, ap, ◌∙◌}
 use Rattle.u_terms.specs.declared.term.U.{U}
 use Rattle.udp_prog.specs.declared.fault.ProofFault.{ProofFault}
 use Rattle.udp_prog.specs.declared.fault.ProofFault.TheVariants.{Malformed, NoMemory}
@@ -8,7 +8,6 @@ use Rattle.udp_prog.specs.declared.checker.Replay.{Replay}
 use Rattle.udp_prog.specs.declared.checker.Shown.{Shown}
 use Rattle.udp_prog.specs.declared.checker.Shown.TheVariants.{Proved, StepFails, EndDiffers}
 use Rattle.udp_prog.specs.declared.checker.TheConstants.{MOST_STEPS}
-use Rattle.udp_prog.specs.ProofText.{IsProofText}
 use Rattle.udp_prog.specs.Checking.{StepsShow, IsShown}
 use Rattle.udp_prog.specs.Reading.{◌>>=◌, Fails, heading_at, steps_at, proof_at}
 use Rattle.udp_prog.specs.Replay.{IsReplay, IsReplayed}

@@ -1,16 +1,13 @@
 -- Each answer of a run comes exactly where its cause holds, faults and want of memory left aside.
-use Rattle.std.proofs.Common.{◌≡◌, ℕ, ◌<◌, List, [], ◌∷◌, Option, Some, None, length, refl, sym, ap, ◌∙◌, subst, inl, inr, codes, String}
+use Rattle.std.proofs.Common.{◌≡◌, ℕ, ◌<◌, List, [], ◌∷◌, Option, length, sym, ◌∙◌, subst, inl, inr, codes, String}
 use Rattle.std.specs.Prelude.{◌⊎◌, IfSome}
 use Rattle.std.specs.declared.alloc.Global.{Global}
-use Rattle.udp_io.specs.Faults.{Rose}
-use Rattle.udp_io.specs.Writing.{Grows}
-use Rattle.udp_io.proofs.WritingLemmas.{Grows-nil}
 use Rattle.udp_prog.specs.Limits.{most_case_bytes, most_proof_bytes}
 use Rattle.udp_prog.specs.declared.answer.Status.{Status}
 use Rattle.udp_prog.specs.declared.answer.Status.TheVariants as status
 use Rattle.udp_prog.specs.declared.answer.Verdict.{Verdict}
-use Rattle.udp_prog.specs.declared.answer.Verdict.TheVariants.{Proved, StepFails, EndDiffers, CaseRefused, ProofRefused, NoSuchForm, CaseFault, ProofFault, CaseTooLong, ProofTooLong, OutOfMemory}
-use Rattle.udp_prog.specs.Answer.{IsCheck, AsksNothing, AsksCheck, IsFound, IsSaid, IsCause, IsAnswer, IsJust, SpellsSomeCase, status_of, text_of}
+use Rattle.udp_prog.specs.declared.answer.Verdict.TheVariants.{NoSuchForm, CaseTooLong, ProofTooLong}
+use Rattle.udp_prog.specs.Answer.{IsCheck, AsksNothing, AsksCheck, IsFound, IsSaid, IsCause, IsAnswer, IsJust, SpellsSomeCase, status_of}
 use Rattle.udp_prog.proofs.OneVerdict.{IsFault, one_verdict}
 
 -- ---- the words

@@ -1,5 +1,5 @@
 -- Of a case of the first form: two queries with terms that mean the same are equivalent.
-use Rattle.std.proofs.Common.{◌≡◌, ℕ, zero, suc, ◌+◌, ◌<◌, ◌≤◌, Bool, true, false, cond, List, [], ◌∷◌, ◌++◌, map, length, Option, Some, None, refl, ap, sym, ◌∙◌, arith, subst, inl, inr}
+use Rattle.std.proofs.Common.{◌≡◌, ℕ, ◌+◌, true, false, List, [], ◌∷◌, map, length, Some, None, refl, ap, sym, ◌∙◌, arith, subst, inl, inr}
 use Rattle.std.specs.Prelude.{◌⊎◌, ◌≢◌, nat_eq}
 use Rattle.std.proofs.lemmas.Bool.{cases_Bool}
 use Rattle.std.proofs.lemmas.Bool.Decides.{nat_tests}
@@ -19,7 +19,7 @@ use Rattle.sql_model.specs.Meets.{Meets}
 use Rattle.sql_model.specs.Equivalent.{Equivalent}
 use Rattle.sql_read.specs.FirstText.{TableText, BlockText, NextBlock, QueryText}
 use Rattle.sql_read.specs.FirstTrees.{columns, relations_from, block_tree, union_tree, query_tree}
-use Rattle.sql_read.specs.FirstForm.{IsBlockOver, IsQuery, IsFirst, IsFirstCase, blocks}
+use Rattle.sql_read.specs.FirstForm.{IsBlockOver, IsQuery, IsFirstCase}
 use Rattle.u_terms.specs.Meaning.{meaning}
 use Rattle.udp_prog.specs.Translation.{query_term}
 use Rattle.udp_prog.proofs.QueryTerms.{Counts, Counts-select_star, Counts-union_all}

@@ -1,7 +1,6 @@
 -- Loops that read list after list: what was read so far stands before what is read of the rest.
-use Rattle.std.proofs.Common.{◌≡◌, ℕ, zero, suc, ◌-◌, ◌<◌, List, [], ◌∷◌, ◌++◌, Bool, true, false, Option, Some, None, refl, sym, ap, ◌∙◌, arith, append_assoc}
+use Rattle.std.proofs.Common.{◌≡◌, ℕ, zero, suc, ◌-◌, ◌<◌, List, [], ◌∷◌, ◌++◌, true, false, Option, Some, None, refl, sym, ap, ◌∙◌, arith, append_assoc}
 use Rattle.std.specs.Prelude.{codes, nat_lt}
-use Rattle.u_terms.specs.declared.term.U.{U}
 use Rattle.u_terms.specs.declared.term.Val.{Val}
 use Rattle.std.proofs.lemmas.List.{append-nil}
 use Rattle.udp_prog.specs.declared.step.Step.{Step}

@@ -1,5 +1,5 @@
 -- Steps show one thing of two terms: they lead to one term at most, and only one of them is the first without a result.
-use Rattle.std.proofs.Common.{◌≡◌, ℕ, ◌+◌, List, [], ◌∷◌, ◌++◌, length, refl, sym, ap, ◌∙◌, subst, arith}
+use Rattle.std.proofs.Common.{◌≡◌, ℕ, List, [], ◌∷◌, ◌++◌, length, refl, sym, ap, ◌∙◌, subst, arith}
 use Rattle.u_terms.specs.declared.term.U.{U}
 use Rattle.udp_prog.specs.declared.step.Step.{Step}
 use Rattle.udp_prog.specs.declared.checker.Shown.{Shown}

@@ -1,5 +1,5 @@
 -- Texts have one verdict: what decides of a case, of a proof and of its steps exclude each other.
-use Rattle.std.proofs.Common.{◌≡◌, ℕ, ◌+◌, ◌<◌, ◌≤◌, List, Option, Some, None, Result, Ok, Err, length, refl, sym, ap, ◌∙◌, subst, arith, inl, inr}
+use Rattle.std.proofs.Common.{◌≡◌, ℕ, ◌<◌, ◌≤◌, List, Option, Some, None, Ok, length, refl, sym, ap, ◌∙◌, subst, arith, inl, inr}
 use Rattle.std.specs.Prelude.{◌⊎◌, IfSome, IsSomeAnd, option_and_then}
 use Rattle.std.proofs.lemmas.Option.{same_Some}
 use Rattle.sql_model.specs.declared.schema.Schema.{Schema}

@@ -1,13 +1,11 @@
 -- A query of the first form has the rows that its term means.
-use Rattle.std.proofs.Common.{◌≡◌, ℕ, zero, suc, ◌+◌, ◌<◌, Bool, true, false, cond, List, [], ◌∷◌, ◌++◌, map, length, Option, Some, None, refl, ap, sym, ◌∙◌, arith, subst, inl, inr}
-use Rattle.std.specs.Prelude.{◌⊎◌, ◌≢◌, filter_map}
+use Rattle.std.proofs.Common.{◌≡◌, ℕ, ◌+◌, Bool, true, false, cond, List, [], ◌∷◌, map, length, Some, refl, ap, sym, ◌∙◌, subst, inl, inr}
+use Rattle.std.specs.Prelude.{◌⊎◌, filter_map}
 use Rattle.std.proofs.lemmas.Bool.{cases_Bool}
-use Rattle.std.proofs.lemmas.List.{length-map}
-use Rattle.data_model.specs.Lists.{Each, Has, EachPair}
-use Rattle.data_model.specs.Numbers.{one_if}
+use Rattle.data_model.specs.Lists.{Each}
 use Rattle.data_model.specs.Rows.{Row, AllBelow, IsRow, same_row, occurrences}
 use Rattle.data_model.specs.Reading.{Reading}
-use Rattle.data_model.specs.Database.{Database, TableConstraints, table_rows}
+use Rattle.data_model.specs.Database.{Database, table_rows}
 use Rattle.data_model.proofs.Occurrences.{same_row-is, occurrences-append}
 use Rattle.sql_model.specs.declared.schema.Schema.{Schema}
 use Rattle.sql_model.specs.declared.schema.Table.{Table}
@@ -25,7 +23,7 @@ use Rattle.sql_model.proofs.SetOperators.{rows-union_all}
 use Rattle.u_terms.specs.declared.term.U.TheVariants as u
 use Rattle.u_terms.specs.Meaning.{meaning}
 use Rattle.u_terms.proofs.Meanings.{meaning-Add}
-use Rattle.udp_prog.specs.Translation.{relation_term, shown_name, block_term, set_term, query_term}
+use Rattle.udp_prog.specs.Translation.{relation_term, block_term, set_term, query_term}
 use Rattle.udp_prog.proofs.TableTerms.{table_term-means}
 
 -- ---- terms of the two forms of queries

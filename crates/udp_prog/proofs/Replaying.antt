@@ -1,5 +1,5 @@
 -- One more step after those that lead from a term, or failed.
-use Rattle.std.proofs.Common.{◌≡◌, ℕ, ◌+◌, ◌-◌, List, [], ◌∷◌, ◌++◌, length, Bool, true, false, is_some, Option, Some, None, refl, Result, Ok, Err, ap, sym, ◌∙◌, ◌<◌, arith, subst, append_assoc, length-append}
+use Rattle.std.proofs.Common.{◌≡◌, ℕ, ◌+◌, ◌-◌, List, [], ◌∷◌, ◌++◌, length, true, false, is_some, Option, Some, None, refl, Err, ap, sym, ◌∙◌, ◌<◌, arith, subst, append_assoc, length-append}
 use Rattle.u_terms.specs.declared.term.U.{U}
 use Rattle.udp_prog.specs.declared.fault.ProofFault.{ProofFault}
 use Rattle.udp_prog.specs.declared.fault.ProofFault.TheVariants.{Malformed, NoMemory}

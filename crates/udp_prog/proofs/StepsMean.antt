@@ -1,5 +1,5 @@
 -- Steps keep the meaning of a term.
-use Rattle.std.proofs.Common.{◌≡◌, ℕ, List, [], ◌∷◌, refl, ap, sym, ◌∙◌}
+use Rattle.std.proofs.Common.{◌≡◌, ℕ, List, [], ◌∷◌, ap, sym, ◌∙◌}
 use Rattle.data_model.specs.Reading.{Reading}
 use Rattle.data_model.specs.Database.{Database}
 use Rattle.u_terms.specs.declared.term.U.{U}

@@ -1,9 +1,9 @@
 -- The term of a base table's rows means how often a row occurs in it.
-use Rattle.std.proofs.Common.{◌≡◌, ℕ, zero, suc, ◌+◌, ◌*◌, ◌<◌, List, [], ◌∷◌, ◌++◌, map, length, get_or, refl, ap, sym, ◌∙◌, arith, subst, append_assoc, length-append}
+use Rattle.std.proofs.Common.{◌≡◌, ℕ, zero, suc, ◌+◌, ◌*◌, List, [], ◌∷◌, ◌++◌, length, get_or, refl, ap, sym, ◌∙◌, arith, subst, append_assoc, length-append}
 use Rattle.std.proofs.Math.Nat.{mul_comm}
 use Rattle.std.proofs.lemmas.Bool.Decides.{nat_tests}
-use Rattle.std.specs.Prelude.{nat_eq, ◌&&◌}
-use Rattle.data_model.specs.Numbers.{one_if, sum_below}
+use Rattle.std.specs.Prelude.{nat_eq}
+use Rattle.data_model.specs.Numbers.{one_if}
 use Rattle.data_model.specs.Rows.{Row, IsRow, same_row, occurrences}
 use Rattle.data_model.specs.Reading.{Reading}
 use Rattle.data_model.specs.Database.{Database, table_rows}
@@ -13,7 +13,7 @@ use Rattle.u_terms.specs.declared.term.Val.{Val}
 use Rattle.u_terms.specs.declared.term.U.TheVariants as u
 use Rattle.u_terms.specs.declared.term.Val.TheVariants as v
 use Rattle.u_terms.specs.Meaning.{meaning, value_meaning}
-use Rattle.u_terms.proofs.Meanings.{list_meaning, meaning-One, meaning-Mul, meaning-Sum, meaning-Rel, meaning-Eq, meaning-Bound, meaning-Free}
+use Rattle.u_terms.proofs.Meanings.{list_meaning, meaning-Mul, meaning-Sum, meaning-Rel, meaning-Eq, meaning-Bound, meaning-Free}
 use Rattle.udp_prog.specs.Translation.{places, named_from, product_of, sums, table_term}
 
 -- the values of a row on top of the places, its last value innermost

@@ -1,5 +1,5 @@
 -- From what the parts of a run found to what its verdict says.
-use Rattle.std.proofs.Common.{◌≡◌, ℕ, ◌<◌, ◌≤◌, List, [], ◌∷◌, Option, Some, None, length, refl, sym, ap, ◌∙◌, subst, arith, inl, inr, codes, string_bytes, String}
+use Rattle.std.proofs.Common.{◌≡◌, ℕ, ◌≤◌, List, [], ◌∷◌, Option, Some, None, length, refl, sym, ◌∙◌, subst, arith, inl, inr, codes, String}
 use Rattle.std.specs.declared.alloc.Global.{Global}
 use Rattle.udp_io.specs.Writing.{Grows}
 use Rattle.std.specs.Prelude.{IfSome}

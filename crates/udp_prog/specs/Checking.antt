@@ -1,12 +1,12 @@
 -- What a proof text shows of two terms.
-use Rattle.std.specs.Prelude.{ℕ, ◌≡◌, ◌≢◌, ◌+◌, List, [], ◌∷◌, ◌++◌, length, Result, Ok, Err}
+use Rattle.std.specs.Prelude.{ℕ, ◌≡◌, ◌≢◌, ◌+◌, List, ◌∷◌, ◌++◌, length, Result, Ok, Err}
 use Rattle.u_terms.specs.declared.term.U.{U}
 use Rattle.udp_prog.specs.declared.fault.ProofFault.{ProofFault}
 use Rattle.udp_prog.specs.declared.fault.ProofFault.TheVariants.{Malformed, NoMemory}
 use Rattle.udp_prog.specs.declared.step.Step.{Step}
 use Rattle.udp_prog.specs.declared.checker.Shown.{Shown}
 use Rattle.udp_prog.specs.declared.checker.Shown.TheVariants.{Proved, StepFails, EndDiffers}
-use Rattle.udp_prog.specs.Steps.{LeadsTo, HasNoResult, Replays}
+use Rattle.udp_prog.specs.Steps.{HasNoResult, Replays}
 use Rattle.udp_prog.specs.ProofText.{IsProofText}
 
 -- The bytes are a proof text within the limits, and its steps lead from the one term to the other.

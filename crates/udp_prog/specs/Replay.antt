@@ -6,7 +6,6 @@ use Rattle.udp_prog.specs.declared.fault.ProofFault.TheVariants.{Malformed, NoMe
 use Rattle.udp_prog.specs.declared.step.Step.{Step}
 use Rattle.udp_prog.specs.declared.checker.TheConstants.{MOST_STEPS}
 use Rattle.udp_prog.specs.declared.checker.Replay.{Replay}
-use Rattle.udp_prog.specs.declared.checker.Shown.{Shown}
 use Rattle.udp_prog.specs.Steps.{Replays}
 use Rattle.udp_prog.specs.Checking.{FailsAt}
 use Rattle.udp_prog.specs.Reading.{steps_at}

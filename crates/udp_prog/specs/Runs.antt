@@ -5,7 +5,7 @@ use Rattle.sql_read.specs.FirstForm.{IsFirstCase}
 use Rattle.udp_io.specs.Faults.{Rose}
 use Rattle.udp_prog.specs.Limits.{most_case_bytes, most_proof_bytes}
 use Rattle.udp_prog.specs.declared.answer.Verdict.{Verdict}
-use Rattle.udp_prog.specs.declared.answer.Verdict.TheVariants.{Proved, StepFails, EndDiffers, CaseRefused, ProofRefused, NoSuchForm, CaseFault, ProofFault, CaseTooLong, ProofTooLong, OutOfMemory}
+use Rattle.udp_prog.specs.declared.answer.Verdict.TheVariants.{Proved, StepFails, EndDiffers, CaseRefused, ProofRefused, CaseFault, ProofFault, CaseTooLong, ProofTooLong, OutOfMemory}
 use Rattle.udp_prog.specs.Translation.{query_term}
 use Rattle.udp_prog.specs.Checking.{Accepted, StepFailsIn, EndDiffersIn, IsNoProofText}
 use Rattle.udp_prog.specs.Answer.{SpellsNoCase}

@@ -1,4 +1,4 @@
-use Rattle.std.proofs.Common.{arith, rules, ◌∙◌, ◌<◌}
+use Rattle.std.proofs.Common.{arith, rules, ◌<◌}
 use Rattle.udp_prog.proofs.Loops.{term_at-step}
 use Rattle.udp_prog.proofs.argument.+term.Goals as goal
 

@@ -1,4 +1,4 @@
-use Rattle.std.proofs.Common.{◌≡◌, ℕ, ◌+◌, ◌*◌, ◌^◌, ◌≤◌, take}
+use Rattle.std.proofs.Common.{◌≡◌, ◌+◌, ◌*◌, ◌^◌, ◌≤◌, take}
 use Rattle.udp_prog.specs.Reading.{value_of}
 use Rattle.udp_prog.proofs.argument.value_of.Given as goal
 

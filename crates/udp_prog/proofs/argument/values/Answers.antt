@@ -1,6 +1,5 @@
-use Rattle.std.proofs.Common.{◌≡◌, ◌<◌, ◌-◌, ◌++◌, ◌∷◌, [], Some, None, arith, rules}
-use Rattle.std.specs.Prelude.{codes}
-use Rattle.udp_prog.specs.Reading.{Gives, rest_after, value_at, values_at, closed_at}
+use Rattle.std.proofs.Common.{◌≡◌, ◌-◌, ◌++◌, ◌∷◌, [], arith, rules}
+use Rattle.udp_prog.specs.Reading.{values_at, closed_at}
 use Rattle.udp_prog.specs.Unread.{unread}
 use Rattle.udp_prog.proofs.Loops.{after_values, values-over, values-no_value, values-next, values-last}
 use Rattle.udp_prog.proofs.argument.values.Goals as goal

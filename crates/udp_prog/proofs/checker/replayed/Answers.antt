@@ -1,6 +1,5 @@
-use Rattle.std.proofs.Common.{◌≡◌, ◌<◌, ◌+◌, ◌-◌, arith, rules, false}
+use Rattle.std.proofs.Common.{arith, rules}
 use Rattle.std.proofs.lemmas.Result.{err_from_is_err_and}
-use Rattle.udp_prog.specs.Reading.{is_end}
 use Rattle.udp_prog.proofs.Loops.{steps-end, steps-over}
 use Rattle.udp_prog.proofs.Replaying.{replayed-fails, Progress-more}
 use Rattle.udp_prog.proofs.checker.replayed.Goals as goal

@@ -1,4 +1,3 @@
-use Rattle.std.proofs.Common.{rules}
 use Rattle.udp_prog.proofs.Verdicts.{shown-just, proof_cause-just, IsProofCause-earlier}
 use Rattle.udp_prog.proofs.top.check_texts.Goals as goal
 

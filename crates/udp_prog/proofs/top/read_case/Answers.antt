@@ -1,4 +1,4 @@
-use Rattle.std.proofs.Common.{◌≡◌, ◌≤◌, ℕ, length, rules, arith}
+use Rattle.std.proofs.Common.{◌≤◌, ℕ, length, rules, arith}
 use Rattle.sql_model.specs.declared.schema.Schema.{Schema}
 use Rattle.sql_model.specs.declared.tree.Query.{Query}
 use Rattle.sql_read.specs.FirstForm.{IsFirstCase}
