@@ -43,19 +43,20 @@ fn checks(
     Ok(())
 }
 
+// These words are no form.
+fn are_no_form(rt: &(impl Abort + AllocGlobal), form: &[&str]) -> Result<(), Fail> {
+    let alloc = rt.alloc();
+    let mut store = MemStore::new(alloc, 1)?;
+    let mut sink = MemSink::new(alloc, 1, 100)?;
+    let words = words(alloc, form)?;
+    assert_eq!(rt; run(alloc, &words, &mut store, &mut sink), Status::Usage);
+    assert_eq!(rt; sink.bytes(), b"usage: no such form of words\n".as_slice());
+    Ok(())
+}
+
 #[test]
 fn other_words_are_no_form(rt: HostRuntime) -> Result<(), Fail> {
-    let alloc = rt.alloc();
-    for form in [
-        [].as_slice(),
-        ["check", "a"].as_slice(),
-        ["prove", "a", "b"].as_slice(),
-    ] {
-        let mut store = MemStore::new(alloc, 1)?;
-        let mut sink = MemSink::new(alloc, 1, 100)?;
-        let words = words(alloc, form)?;
-        assert_eq!(rt; run(alloc, &words, &mut store, &mut sink), Status::Usage);
-        assert_eq!(rt; sink.bytes(), b"usage: no such form of words\n".as_slice());
-    }
-    Ok(())
+    are_no_form(&rt, &[])?;
+    are_no_form(&rt, &["check", "a"])?;
+    are_no_form(&rt, &["prove", "a", "b"])
 }

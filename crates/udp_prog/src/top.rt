@@ -131,12 +131,12 @@ pub fn run<S: Store, K: Sink>(alloc: Global, words: &[String], store: &mut S, ou
         IsProved (S.text store.old case) (S.text store.old proof)
         × Grows (K.written out.old) (K.written out.new) (line (codes "proved")) }
 
-    // Completeness. Where the store tells a text that spells a case, and one of a proof that is accepted for its terms, both within their
-    // lengths, `proved` is answered.
+    // Completeness. Where both texts are told and within their lengths, the case is spelled and the proof is accepted for its terms, the
+    // answer is `proved`, unless the store or the sink fails or memory runs out.
     ensures complete { AsksCheck words.now (λ case proof. TellsBoth (S.text store.old case) (S.text store.old proof) Accepted) →
         IsAnswer Verdict.Proved (K.written out.old) (K.written out.new) result }
 
-    // Where the texts give cause for a verdict, that verdict is answered.
+    // So with every verdict: where the texts give cause for it, it is the answer, with the same exceptions.
     ensures exact { (verdict : TheVerdict) →
         AsksCheck words.now (λ case proof. IsCause verdict (S.text store.old case) (S.text store.old proof)) →
         IsAnswer verdict (K.written out.old) (K.written out.new) result }

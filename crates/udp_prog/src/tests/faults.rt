@@ -1,9 +1,12 @@
+ghost use Rattle.std.specs.Prelude.{◌<◌};
+
 use super::{SWAP_CASE, SWAP_PROOF, words};
 use crate::answer::Status;
+use crate::laws::run_surely;
 use crate::top::run;
 use std::process::Abort;
 use std::test::Fail;
-use udp_io::{MemSink, MemStore};
+use udp_io::{MemSink, MemStore, SureSink, SureStore};
 
 // The swap case in pieces of this size, where one call of the store fails.
 fn checks_with_fault(
@@ -12,7 +15,9 @@ fn checks_with_fault(
     call: u64,
     status: Status,
     line: &[u8],
-) -> Result<(), Fail> {
+) -> Result<(), Fail>
+    requires { 0 < piece }
+{
     let alloc = rt.alloc();
     let mut store = MemStore::new(alloc, piece)?;
     store.add("case", SWAP_CASE.as_bytes())?;
@@ -90,5 +95,21 @@ fn a_failed_call_of_the_sink_leaves_a_prefix(rt: HostRuntime) -> Result<(), Fail
         );
         assert_eq!(rt; sink.bytes(), &line[..kept], "call {call}");
     }
+    Ok(())
+}
+
+#[test]
+fn nothing_fails_over_a_sure_store_and_sink(rt: HostRuntime) -> Result<(), Fail> {
+    let alloc = rt.alloc();
+    let mut store = SureStore::new(alloc, 65_536)?;
+    store.add("case", SWAP_CASE.as_bytes())?;
+    store.add("proof", SWAP_PROOF.as_bytes())?;
+    let mut sink = SureSink::new(alloc, 100)?;
+    let words = words(alloc, &["check", "case", "proof"])?;
+    assert_eq!(rt;
+        run_surely(alloc, &words, &mut store, &mut sink),
+        Status::Done
+    );
+    assert_eq!(rt; sink.bytes(), b"proved\n".as_slice());
     Ok(())
 }
