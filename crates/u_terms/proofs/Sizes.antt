@@ -1,9 +1,9 @@
 -- `nodes` and `depth` at each constructor as code writes it, and of a list.
-use Rattle.std.proofs.Common.{◌≡◌, ℕ, zero, suc, ◌+◌, ◌<◌, ◌≤◌, max, List, [], ◌∷◌, length, get_or, fold, refl, ap, sym, ◌∙◌, arith}
+use Rattle.std.proofs.Common.{◌≡◌, ℕ, zero, suc, ◌+◌, ◌<◌, ◌≤◌, max, List, [], ◌∷◌, ◌++◌, length, get_or, map, take, drop, fold, refl, ap, sym, subst, ◌∙◌, arith}
 use Rattle.std.proofs.lemmas.List.Sums.{sum_by-cons}
 use Rattle.u_terms.specs.declared.term.U.TheVariants as u
 use Rattle.u_terms.specs.declared.term.Val.TheVariants as v
-use Rattle.u_terms.specs.Syntax.{U, Val, row_of, constructors}
+use Rattle.u_terms.specs.Syntax.{U, Zero, One, Add, Mul, Squash, Not, Sum, Rel, Eq, Pred, Val, row_of, constructors}
 use Rattle.u_terms.specs.Size.{nodes, value_nodes, row_nodes, list_nodes, depth, value_depth, row_depth, list_depth}
 
 pub row_nodes-list : (vs : List Val) → row_nodes (row_of vs) ≡ list_nodes vs
@@ -102,6 +102,34 @@ pub value_depth-get_or : (vs : List Val) (i : ℕ) (d : Val) → i < length vs �
 value_depth-get_or [] i d h = absurd (omega arith)
 value_depth-get_or (v ∷ vs) zero d h = omega (arith, list_depth-cons v vs)
 value_depth-get_or (v ∷ vs) (suc i) d h = omega (arith, list_depth-cons v vs, value_depth-get_or vs i d (omega arith))
+
+pub value_depth-item : (vs : List Val) (i : ℕ) (v : Val) → i < length vs → v ≡ get_or vs i v → value_depth v ≤ list_depth vs
+value_depth-item vs i v h is = subst (λ (w : Val). value_depth w ≤ list_depth vs) (sym is) (value_depth-get_or vs i v h)
+
+unchanged-ahead : (f : Val → Val) (vs : List Val) (i : ℕ) (d : Val) → get_or (map f (take i vs) ++ drop i vs) i d ≡ get_or vs i d
+unchanged-ahead f [] zero d = refl
+unchanged-ahead f [] (suc i) d = refl
+unchanged-ahead f (v ∷ vs) zero d = refl
+unchanged-ahead f (v ∷ vs) (suc i) d = unchanged-ahead f vs i d
+
+-- nor is one that a loop, which maps the values in place, has still to reach
+pub value_depth-ahead : (f : Val → Val) (now vs : List Val) (i : ℕ) (v : Val) → i < length vs → now ≡ map f (take i vs) ++ drop i vs
+    → v ≡ get_or now i v → value_depth v ≤ list_depth vs
+value_depth-ahead f now vs i v h invariant is =
+    value_depth-item vs i v h (is ∙ (ap (λ (l : List Val). get_or l i v) invariant ∙ unchanged-ahead f vs i v))
+
+pub depth-positive : (u : U) → 1 ≤ depth u
+unfolding depth
+depth-positive Zero = omega arith
+depth-positive One = omega arith
+depth-positive (Add a b) = omega arith
+depth-positive (Mul a b) = omega arith
+depth-positive (Squash a) = omega arith
+depth-positive (Not a) = omega arith
+depth-positive (Sum body) = omega arith
+depth-positive (Rel table shape arguments) = omega arith
+depth-positive (Eq a b) = omega arith
+depth-positive (Pred symbol shape arguments) = omega arith
 
 pub row_depth-list : (vs : List Val) → row_depth (row_of vs) ≡ list_depth vs
 unfolding depth constructors

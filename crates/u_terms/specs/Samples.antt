@@ -8,6 +8,8 @@ use Rattle.u_terms.specs.declared.term.Val.TheVariants as v
 use Rattle.u_terms.specs.Syntax.{U, Val, constructors}
 use Rattle.u_terms.specs.Size.{nodes, depth}
 use Rattle.u_terms.specs.Places.{IsClosed}
+use Rattle.u_terms.specs.Names.{fresh}
+use Rattle.u_terms.specs.Binding.{mapped, opened, opened_with, closed_at, closed_path, sums_over_names}
 use Rattle.u_terms.specs.Meaning.{put, meaning}
 
 -- c3 is 1, F4(0) is 1, P0 holds of (0, 1), and G1 is 2 of the bag in which 1 occurs twice and 0 and 2 do not
@@ -72,6 +74,42 @@ a_place_past_its_binders_dangles = refl
 an_aggregate_binds : IsClosed 1 (u.Eq (v.Agg 1 (in_table (b 0) (b 1))) (f 0)) ≡ (((0 < 2) × ((1 < 2) × Unit {0})) × Unit {0})
 unfolding IsClosed constructors
 an_aggregate_binds = refl
+
+-- ---- names, opening and closing
+-- *(R7(b0,b1),S(=(b0,b1))): inside the sum the term's place 0 is b1, and the term's place 1 stays as it is
+opening_shifts_no_place : opened (u.Mul (in_table (b 0) (b 1)) (u.Sum (u.Eq (b 0) (b 1)))) 4 ≡ u.Mul (in_table (f 4) (b 1)) (u.Sum (u.Eq (b 0) (f 4)))
+unfolding mapped constructors
+opening_shifts_no_place = refl
+
+-- =(b0,c0)
+a_value_is_put_at_place_zero : opened_with (u.Eq (b 0) (v.Lit 0)) (v.Agg 0 (u.Sum (u.Eq (b 0) (b 1)))) ≡ u.Eq (v.Agg 0 (u.Sum (u.Eq (b 0) (b 1)))) (v.Lit 0)
+unfolding mapped constructors
+a_value_is_put_at_place_zero = refl
+
+-- *(=(f3,f4),=(G1(R7(b0,f3)),f3)): the aggregate binds one value more
+closing_counts_binders : closed_at (u.Mul (u.Eq (f 3) (f 4)) (u.Eq (v.Agg 1 (in_table (b 0) (f 3))) (f 3))) 3
+    ≡ u.Mul (u.Eq (b 0) (f 4)) (u.Eq (v.Agg 1 (in_table (b 0) (b 1))) (b 0))
+unfolding mapped constructors
+closing_counts_binders = refl
+
+-- R0(f1,f2,f0)
+the_last_name_of_a_path_is_the_innermost : closed_path (u.Rel 0 (f 1 ∷ f 2 ∷ f 0 ∷ [])) 1 2 ≡ u.Rel 0 (b 1 ∷ b 0 ∷ f 0 ∷ [])
+unfolding mapped constructors
+the_last_name_of_a_path_is_the_innermost = refl
+
+-- R7(f1,f2)
+one_sum_for_each_name : sums_over_names 1 2 (in_table (f 1) (f 2)) ≡ u.Sum (u.Sum (in_table (b 1) (b 0)))
+unfolding mapped constructors
+one_sum_for_each_name = refl
+
+-- +(S(R7(b0,f4)),=(G1(=(f6,b0)),f2))
+the_least_bound_is_past_the_greatest_name : fresh (u.Add (u.Sum (in_table (b 0) (f 4))) (u.Eq (v.Agg 1 (u.Eq (f 6) (b 0))) (f 2))) ≡ 7
+unfolding fresh constructors
+the_least_bound_is_past_the_greatest_name = refl
+
+a_term_without_names_has_the_bound_zero : fresh (in_table (b 0) (b 1)) ≡ 0
+unfolding fresh constructors
+a_term_without_names_has_the_bound_zero = refl
 
 -- ---- meaning
 -- S(R7(b0,f0)) where f0 is 0
