@@ -22,6 +22,7 @@ impl<T> Model for Boxed<T> {
 }
 
 impl<T> Boxed<T> {
+    /// Lends the value.
     pub fn get(&self) -> &T
         ensures { result.now ≡ self.now }
     {
@@ -36,6 +37,7 @@ impl<T> Boxed<T> {
         &mut self.inner
     }
 
+    /// Hands the value on, and gives its box back.
     pub fn into_inner(self) -> T
         ensures { result ≡ self }
     {
@@ -45,6 +47,7 @@ impl<T> Boxed<T> {
 }
 
 impl<T: Drop> Boxed<T> {
+    /// Boxes the value. Where memory runs out the value is dropped.
     pub fn new(alloc: Global, value: T) -> Result<Boxed<T>, AllocError>
         ensures { IfOk result (λ boxed. boxed ≡ value) }
     {

@@ -23,6 +23,7 @@ impl<T> Model for List<T> {
 }
 
 impl<T> List<T> {
+    /// A list without items, which takes no memory.
     pub fn new(alloc: Global) -> List<T>
         ensures { result ≡ [] }
     {
@@ -46,6 +47,7 @@ impl<T> List<T> {
         items
     }
 
+    /// Lends all items.
     pub fn as_slice(&self) -> &[T]
         ensures { result.now ≡ self.now }
     {
@@ -69,12 +71,14 @@ impl<T> List<T> {
         &mut self.items[at]
     }
 
+    /// How many items there are.
     pub fn len(&self) -> usize
         ensures { result ≡ length self.now }
     {
         self.items.len()
     }
 
+    /// Whether there is no item.
     pub fn is_empty(&self) -> bool
         ensures { IsTrue result ↔ (self.now ≡ []) }
     {
@@ -83,6 +87,7 @@ impl<T> List<T> {
 }
 
 impl<T: Drop> List<T> {
+    /// Appends the item. Where memory runs out the item is dropped.
     pub fn push(&mut self, item: T) -> Result<(), AllocError>
         ensures ok { OnOk result (self.new ≡ self.old ++ item ∷ []) }
         ensures err { OnErr result (self.new ≡ self.old) }

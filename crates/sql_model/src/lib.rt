@@ -3,6 +3,7 @@
 //! The trees are plain data. What they mean is in `specs/`; read there in the order of `specs/Lib.antt`.
 #![tactic(auto)]
 
+mod copying;
 pub mod laws;
 pub mod name;
 pub mod schema;

@@ -33,12 +33,15 @@ impl Name {
         Ok(Name { text })
     }
 
+    /// A name of its own with the same bytes.
     pub fn copy(&self, alloc: Global) -> Result<Name, NoMemory>
         ensures { IfOk result (λ name. name ≡ self.now) }
     {
         Name::new(alloc, self.as_bytes())
     }
 
+    /// The bytes of the name: of one written as a word those after folding, of a quoted one those between its quotes, a doubled
+    /// quote being one.
     pub fn as_bytes(&self) -> &[u8]
         ensures { result.now ≡ self.now }
     {

@@ -28,6 +28,7 @@ pub enum TableRule {
     },
 }
 
+/// A statement `CREATE ..` of a case, with the places of its names.
 #[derive(Debug, Drop)]
 pub enum Statement {
     Table {

@@ -7,6 +7,7 @@ use crate::name::Name;
 use indexmap::IndexSet;
 use std::alloc::Global;
 
+/// How a literal is written: `12.5` is a number, `'12.5'` a text.
 #[derive(Clone, Copy, Debug, PartialEq, Eq, Hash)]
 pub enum LitKind {
     Number,

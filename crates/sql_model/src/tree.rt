@@ -14,6 +14,8 @@ pub enum AggFun {
     Max,
 }
 
+/// An operator between two queries (SQL, ISO/IEC 9075-2, 7.13): `UNION ALL` adds up how often a row occurs, the other three give
+/// each row at most once.
 #[derive(Clone, Copy, Debug, PartialEq, Eq)]
 pub enum SetOp {
     UnionAll,

@@ -1,15 +1,12 @@
 -- The schema and the trees of queries that a description of the first form stands for.
-use Rattle.std.specs.Prelude.{ℕ, ◌+◌, false, List, [], ◌∷◌, map, None}
+use Rattle.std.specs.Prelude.{ℕ, ◌+◌, List, [], ◌∷◌, map, None}
 use Rattle.sql_model.specs.declared.name.Name.{Name}
 use Rattle.sql_model.specs.declared.schema.Relation.{Relation}
 use Rattle.sql_model.specs.declared.schema.Relation.TheVariants as relation
-use Rattle.sql_model.specs.declared.tree.Block.{roll-Block}
-use Rattle.sql_model.specs.declared.tree.Entry.{roll-Entry}
-use Rattle.sql_model.specs.declared.tree.Item.TheVariants as item
-use Rattle.sql_model.specs.declared.tree.Source.TheVariants as source
 use Rattle.sql_model.specs.declared.tree.SetOp.TheVariants as op
 use Rattle.sql_model.specs.declared.tree.Query.{Query}
 use Rattle.sql_model.specs.declared.tree.Query.TheVariants as query
+use Rattle.sql_model.specs.SelectStar.{select_star}
 use Rattle.sql_read.specs.FirstText.{ColumnText, TableText, BlockText, NextBlock, QueryText}
 
 abbrev pub columns : TableText → List ColumnText
@@ -22,16 +19,9 @@ relations_from number (table ∷ tables) =
     (table.name, relation.Table (record { number = number; columns = map (λ c. c.name) (columns table); keys = []; primary = None }))
     ∷ relations_from (number + 1) tables
 
--- the block of SELECT * FROM name
+-- SELECT * FROM name, whose entry has the table's name as alias
 abbrev pub block_tree : BlockText → Query
-block_tree block = query.Block (roll-Block (record {
-  distinct = false;
-  items = item.Star block.star_at ∷ [];
-  entries = roll-Entry (record { source = source.Named block.name block.name_at; alias = block.name; at = block.name_at; joined = false; on = None }) ∷ [];
-  cond = None;
-  groups = None;
-  having = None;
-}))
+block_tree block = select_star block.name block.name block.star_at block.name_at block.name_at
 
 -- UNION ALL associates to the left
 abbrev pub union_tree : Query → List NextBlock → Query

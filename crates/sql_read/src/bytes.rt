@@ -4,6 +4,7 @@ ghost use Rattle.std.specs.List.{prefix_len, list_all};
 ghost use Rattle.sql_read.specs.Words.{begins_word, goes_on_word, is_blank, is_symbol, folded_byte};
 ghost use Rattle.sql_read.specs.ReadingWords.{token_len};
 
+/// Whether the byte may begin a word: a letter of ASCII or `_`.
 pub fn begins_word(byte: u8) -> bool
     ensures { result ≡ begins_word byte }
 {
@@ -28,6 +29,7 @@ fn is_symbol(byte: u8) -> bool
     matches!(byte, b'(' | b')' | b',' | b';' | b'*')
 }
 
+/// Whether all of the bytes are blanks.
 pub fn are_blank(bytes: &[u8]) -> bool
     ensures { result ≡ list_all is_blank bytes.now }
 {
@@ -63,6 +65,7 @@ pub fn token_len(bytes: &[u8]) -> Option<usize>
     }
 }
 
+/// The byte, a capital letter of ASCII made small.
 pub fn folded(byte: u8) -> u8
     ensures { result ≡ folded_byte byte }
 {

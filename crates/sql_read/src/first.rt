@@ -31,6 +31,7 @@ pub struct FirstCase {
     pub width: u32,
 }
 
+/// Why a text was not read.
 #[derive(Clone, Copy, Debug, PartialEq, Eq)]
 pub enum FirstFault {
     /// The text is not of the first form.

@@ -1,6 +1,6 @@
 //! The queries of a case of the first form.
 ghost use Rattle.std.specs.Prelude.{◌≡◌, [], ◌∷◌, IfOk};
-ghost use Rattle.sql_read.specs.FirstTrees.{block_tree};
+ghost use Rattle.sql_model.specs.SelectStar.{select_star};
 ghost use Rattle.sql_read.specs.ReadingFirst.{width_of, block_at, next_block, blocks_at, query_at};
 ghost use Rattle.sql_read.specs.Views.{rest, Gives};
 
@@ -32,7 +32,7 @@ fn one<T: Drop>(alloc: Global, item: T) -> Result<List<T>, AllocError>
 /// The tree of `SELECT * FROM name`, with the places of its star and its name.
 fn tree_of(alloc: Global, star_at: u32, name: Name, name_at: u32) -> Result<Query, AllocError>
     ensures { IfOk result (λ query.
-        query ≡ block_tree (record { star_at = star_at; name = name; name_at = name_at })) }
+        query ≡ select_star name name star_at name_at name_at) }
 {
     let entry = Entry {
         source: Source::Named {

@@ -83,6 +83,7 @@ const LEFT_OUT_WORDS: [&[u8]; 39] = [
     b"with",
 ];
 
+/// Whether the two words are the same after folding.
 pub fn is_same_word(text: &[u8], word: &[u8]) -> bool
     ensures { result ≡ same_row (map folded_byte text.now) (map folded_byte word.now) }
 {
@@ -96,6 +97,7 @@ fn is_among(text: &[u8], words: &[&[u8]]) -> bool
     words.iter().any(|word| is_same_word(text, word))
 }
 
+/// Whether the word is reserved after folding, so that it is no name.
 pub fn is_reserved(text: &[u8]) -> bool
     ensures { result ≡ is_reserved (map folded_byte text.now) }
 {

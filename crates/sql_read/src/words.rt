@@ -59,6 +59,7 @@ impl<'a> Words<'a> {
     ghost use Rattle.sql_read.specs.ReadingWords.{next_token, word_at, name_at};
     ghost use Rattle.sql_read.specs.Views.{rest, start, token, Gives, Eats};
 
+    /// Stands before the first byte of the text.
     pub fn new(text: &'a [u8]) -> Words<'a>
         requires { length text.now < 2 ^ 32 }
         ensures { rest result ≡ start text.now }

@@ -23,6 +23,7 @@ impl Model for FaultPlan {
 }
 
 impl FaultPlan {
+    /// A plan by which no call fails.
     pub fn new(alloc: Global) -> Self
         ensures { result ≡ no_plan }
     {
@@ -33,6 +34,7 @@ impl FaultPlan {
         }
     }
 
+    /// Lets the call of this number fail too. Calls are numbered from 0.
     pub fn fail_at(&mut self, call: u64) -> Result<(), NoMemory>
         ensures ok { OnOk result (self.new ≡ with_failing self.old call) }
         ensures err { OnErr result (self.new ≡ self.old) }

@@ -49,6 +49,7 @@ impl Model for Texts {
 }
 
 impl Texts {
+    /// A store without texts, of which none is selected.
     pub fn new(alloc: Global) -> Self
         ensures { result ≡ no_texts }
     {

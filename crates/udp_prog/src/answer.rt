@@ -56,6 +56,7 @@ impl Verdict {
         String::from_str(alloc, text)
     }
 
+    /// The status that a run with this verdict ends with, the line once written.
     pub fn status(self) -> Status
         ensures { result ≡ status_of self }
     {

@@ -7,9 +7,10 @@ use crate::fault::ProofFault;
 use std::alloc::Global;
 use u_terms::{Boxed, List, U, Val};
 
-/// The most nodes of an argument, and its greatest depth.
+/// The most nodes of an argument.
 pub const MOST_NODES: u64 = 200_000;
 
+/// The greatest depth of an argument.
 pub const MOST_DEPTH: u32 = 2_048;
 
 /// What is left of a text, and how many nodes may still come.
