@@ -31,7 +31,7 @@ pub fn binders_on_a_path()
 pub fn contexts()
     ensures places { (n : ℕ) (reading : Reading) (db : Database) (names places : List ℕ) (c : Context) (s t : U) →
         ((inner : List ℕ) → IsRow n (binders c) inner →
-            meaning n reading db names (inner ++ places) s ≡ meaning n reading db names (inner ++ places) t) →
+        meaning n reading db names (inner ++ places) s ≡ meaning n reading db names (inner ++ places) t) →
         meaning n reading db names places (filled c s) ≡ meaning n reading db names places (filled c t) }
 {}
 
@@ -42,12 +42,12 @@ pub fn contexts_by_names()
     ensures path { (n : ℕ) (reading : Reading) (db : Database) (names places : List ℕ) (c : Context) (s t : U) (first : ℕ) →
         IsClosed 0 s → IsClosed 0 t →
         ((values : List ℕ) → IsRow n (binders c) values →
-            meaning n reading db (put_path names first values) [] s ≡ meaning n reading db (put_path names first values) [] t) →
+        meaning n reading db (put_path names first values) [] s ≡ meaning n reading db (put_path names first values) [] t) →
         meaning n reading db names places (filled c (closed_path s first (binders c)))
-            ≡ meaning n reading db names places (filled c (closed_path t first (binders c))) }
+        ≡ meaning n reading db names places (filled c (closed_path t first (binders c))) }
     ensures all { (n : ℕ) (reading : Reading) (db : Database) (names places : List ℕ) (c : Context) (s t : U) (first : ℕ) →
         0 < n → AllBelow n names → IsClosed 0 s → IsClosed 0 t →
         ((others : List ℕ) → AllBelow n others → meaning n reading db others [] s ≡ meaning n reading db others [] t) →
         meaning n reading db names places (filled c (closed_path s first (binders c)))
-            ≡ meaning n reading db names places (filled c (closed_path t first (binders c))) }
+        ≡ meaning n reading db names places (filled c (closed_path t first (binders c))) }
 {}

@@ -1,18 +1,18 @@
-ghost use Rattle.std.specs.Prelude.{◌≡◌, ◌-◌, ◌++◌, ◌≤◌, ◌<◌, [], ◌∷◌, length, take, IsOk, OnErr, OnOk};
+ghost use Rattle.std.specs.Prelude.{◌≡◌, ◌-◌, ◌++◌, ◌≤◌, ◌<◌, [], ◌∷◌, length, take, IsOk, IsSome, OnErr, OnOk};
 ghost use Rattle.smallvec.specs.SmallVec.{small_vec_len};
 ghost use Rattle.u_deriv.specs.Normal as spec;
 ghost use Rattle.u_deriv.specs.Normal.{FitsAfter, IsCounted, IsNormal, pushed};
 ghost use Rattle.u_deriv.specs.Turns.{run_turns, turns};
 
+use crate::NoMemory;
 use crate::run::Run;
 use smallvec::SmallVec;
 use std::alloc::Global;
 use std::marker::Model;
-use u_terms::NoMemory;
 
 /// A way from the root of a term downwards. No two neighbours of its runs are both `Left`, both `Right` or both
-/// `Inside`. Up to 4 runs take no memory.
-#[derive(Drop)]
+/// `Inside`.
+#[derive(Debug, Drop)]
 pub struct Path {
     runs: SmallVec<Run, 4>,
 }
@@ -47,8 +47,9 @@ impl Path {
         ensures runs { OnOk result (self.new ≡ pushed self.old run) }
         ensures err { OnErr result (self.new ≡ self.old) }
 
-        // A path of up to 4 runs takes no memory.
+        // A path of up to 4 runs takes no memory, nor does a run that is joined to the last one.
         ensures inline { length (pushed self.old run) ≤ 4 → IsOk result }
+        ensures joined { IsSome (spec.joined_last self.old run) → IsOk result }
     {
         if let Some(both) = joined_last(self.runs.as_slice(), run) {
             replace_last(&mut self.runs, both);

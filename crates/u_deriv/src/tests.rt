@@ -1,3 +1,7 @@
+ghost use Rattle.std.specs.Prelude.{◌+◌, ◌^◌, ◌<◌, IsTrue};
+ghost use Rattle.u_deriv.specs.Normal.{IsLike};
+ghost use Rattle.u_deriv.specs.Turns.{count_of};
+
 use crate::{NoMemory, Path, Run, at};
 use std::alloc::Global;
 use std::test::Fail;
@@ -14,10 +18,14 @@ fn aggregate(alloc: Global, x: U) -> Result<Val, NoMemory> {
     Ok(Val::Agg(1, Boxed::new(alloc, x)?))
 }
 
+/// `R7(b0,b1)`
+fn body(alloc: Global) -> Result<U, NoMemory> {
+    row(alloc, Val::Bound(0), Val::Bound(1))
+}
+
 /// `#(R7(b0,b1))`
 fn squash(alloc: Global) -> Result<U, NoMemory> {
-    let inner = row(alloc, Val::Bound(0), Val::Bound(1))?;
-    Ok(U::Squash(Boxed::new(alloc, inner)?))
+    Ok(U::Squash(Boxed::new(alloc, body(alloc)?)?))
 }
 
 /// `=(b0,G1(#(R7(b0,b1))))`
@@ -51,15 +59,27 @@ fn parts(alloc: Global) -> Result<U, NoMemory> {
     ))
 }
 
-/// Appends a run, if its count is at least 1 and fits after the last run.
+/// Whether one run could hold both, where they are alike.
+fn fits(last: Run, run: Run) -> bool
+    ensures { IsTrue result → IsLike last run → count_of last + count_of run < 2 ^ 32 }
+{
+    match (last, run) {
+        (Run::Left(m), Run::Left(n)) => m <= u32::MAX - n,
+        (Run::Right(m), Run::Right(n)) => m <= u32::MAX - n,
+        (Run::Inside(m), Run::Inside(n)) => m <= u32::MAX - n,
+        _ => true,
+    }
+}
+
+/// Appends a run, if its count is at least 1 and fits.
 fn push(path: &mut Path, run: Run) -> Result<bool, NoMemory> {
-    let more = u64::from(run.count());
-    let before = match path.runs().last() {
-        Some(last) => u64::from(last.count()),
-        None => 0,
-    };
-    if more == 0 || before + more > u64::from(u32::MAX) {
+    if run.count() == 0 {
         return Ok(false);
+    }
+    if let Some(last) = path.runs().last() {
+        if !fits(*last, run) {
+            return Ok(false);
+        }
     }
     path.push(run)?;
     Ok(true)
@@ -73,22 +93,9 @@ fn path_of(alloc: Global, runs: &[Run]) -> Result<Path, NoMemory> {
     Ok(path)
 }
 
-/// Whether these runs lead to that subterm.
-fn leads_to(alloc: Global, u: &U, runs: &[Run], want: &U) -> Result<bool, NoMemory> {
-    match at(u, &path_of(alloc, runs)?) {
-        Some(found) => Ok(same(found, want)),
-        None => Ok(false),
-    }
-}
-
-/// Whether these runs leave the term or end at a value.
-fn leads_nowhere(alloc: Global, u: &U, runs: &[Run]) -> Result<bool, NoMemory> {
-    Ok(at(u, &path_of(alloc, runs)?).is_none())
-}
-
-/// `#(S(*(R0(b0),*(!(#(S(S(x)))),=(b0,f0)))))`
-fn nested(alloc: Global, x: U) -> Result<U, NoMemory> {
-    let sums = U::Sum(Boxed::new(alloc, U::Sum(Boxed::new(alloc, x)?))?);
+/// `#(S(*(R0(b0),*(!(#(S(S(x)))),=(b0,f0)))))` with `#(R7(b0,b1))` as `x`.
+fn nested(alloc: Global) -> Result<U, NoMemory> {
+    let sums = U::Sum(Boxed::new(alloc, U::Sum(Boxed::new(alloc, squash(alloc)?)?))?);
     let not = U::Not(Boxed::new(alloc, U::Squash(Boxed::new(alloc, sums)?))?);
     let equality = Boxed::new(alloc, U::Eq(Val::Bound(0), Val::Free(0)))?;
     let product = Boxed::new(alloc, U::Mul(Boxed::new(alloc, not)?, equality))?;
@@ -116,51 +123,64 @@ fn aggregates(alloc: Global, x: U) -> Result<U, NoMemory> {
     Ok(term)
 }
 
+type Maker = fn(Global) -> Result<U, NoMemory>;
+
+const I: Run = Run::Inside(1);
+
+const L: Run = Run::Left(1);
+
+const R: Run = Run::Right(1);
+
+const FIRST: Run = Run::Argument(0);
+
+const SECOND: Run = Run::Argument(1);
+
+/// A term, the runs of a path, and the subterm that it leads to.
+type Row = (Maker, &'static [Run], Maker);
+
 #[test]
-fn a_path_leads_through_sums_and_aggregates(rt: HostRuntime) -> Result<(), Fail> {
+fn a_path_leads_to_a_subterm(rt: HostRuntime) -> Result<(), Fail> {
     let alloc = rt.alloc();
-    let u = sum(alloc)?;
-    let [i, r, a] = [Run::Inside(1), Run::Right(1), Run::Argument(1)];
-    let body = row(alloc, Val::Bound(0), Val::Bound(1))?;
-    assert!(rt; leads_to(alloc, &u, &[], &u)?);
-    assert!(rt; leads_to(alloc, &u, &[i, r], &equality(alloc)?)?);
-    assert!(rt; leads_to(alloc, &u, &[i, r, a, i], &squash(alloc)?)?);
-    assert!(rt; leads_to(alloc, &u, &[i, r, a, i, i], &body)?);
-    let u = nested(alloc, squash(alloc)?)?;
-    let path = [Run::Inside(2), r, Run::Left(1), Run::Inside(4)];
-    assert!(rt; leads_to(alloc, &u, &path, &squash(alloc)?)?);
+    let table: [Row; 9] = [
+        (sum, &[], sum),
+        (sum, &[I, R], equality),
+        (sum, &[I, R, SECOND, I], squash),
+        (sum, &[I, R, SECOND, I, I], body),
+        (nested, &[Run::Inside(2), R, L, Run::Inside(4)], squash),
+        (parts, &[Run::Left(2)], |_| Ok(U::Zero)),
+        (parts, &[L, R], |_| Ok(U::One)),
+        (parts, &[R], predicate),
+        (parts, &[R, FIRST, SECOND, Run::Inside(2)], |_| Ok(U::Zero)),
+    ];
+    for (make, runs, want) in table {
+        let term = make(alloc)?;
+        let want = want(alloc)?;
+        let path = path_of(alloc, runs)?;
+        assert!(rt; at(&term, &path).is_some_and(|found| same(found, &want)));
+    }
     Ok(())
 }
 
 #[test]
-fn a_path_leads_to_parts_and_arguments(rt: HostRuntime) -> Result<(), Fail> {
+fn a_path_that_leaves_the_term_or_ends_at_a_value_leads_nowhere(
+    rt: HostRuntime,
+) -> Result<(), Fail> {
     let alloc = rt.alloc();
-    let u = parts(alloc)?;
-    let [l, r] = [Run::Left(1), Run::Right(1)];
-    let [first, second] = [Run::Argument(0), Run::Argument(1)];
-    assert!(rt; leads_to(alloc, &u, &[Run::Left(2)], &U::Zero)?);
-    assert!(rt; leads_to(alloc, &u, &[l, r], &U::One)?);
-    assert!(rt; leads_to(alloc, &u, &[r], &predicate(alloc)?)?);
-    assert!(rt; leads_to(alloc, &u, &[r, first, second, Run::Inside(2)], &U::Zero)?);
-    Ok(())
-}
-
-#[test]
-fn no_path_leads_to_a_value_or_out_of_the_term(rt: HostRuntime) -> Result<(), Fail> {
-    let alloc = rt.alloc();
-    let u = parts(alloc)?;
-    let [r, first, second] = [Run::Right(1), Run::Argument(0), Run::Argument(1)];
-    assert!(rt; leads_nowhere(alloc, &u, &[r, first])?);
-    assert!(rt; leads_nowhere(alloc, &u, &[r, first, second])?);
-    assert!(rt; leads_nowhere(alloc, &u, &[r, second])?);
-    assert!(rt; leads_nowhere(alloc, &u, &[r, first, first, Run::Inside(1)])?);
-    assert!(rt; leads_nowhere(alloc, &u, &[Run::Left(3)])?);
-    assert!(rt; leads_nowhere(alloc, &u, &[Run::Right(u32::MAX)])?);
-    assert!(rt; leads_nowhere(alloc, &u, &[Run::Inside(1)])?);
-    let u = equality(alloc)?;
-    assert!(rt; leads_nowhere(alloc, &u, &[first])?);
-    assert!(rt; leads_nowhere(alloc, &u, &[Run::Argument(2), Run::Inside(1)])?);
-    assert!(rt; leads_nowhere(alloc, &u, &[second, Run::Left(1)])?);
+    let table: [(Maker, &'static [Run]); 9] = [
+        (parts, &[R, FIRST]),
+        (parts, &[R, FIRST, FIRST]),
+        (parts, &[R, FIRST, SECOND]),
+        (equality, &[SECOND]),
+        (parts, &[I]),
+        (parts, &[Run::Left(3)]),
+        (parts, &[Run::Right(u32::MAX)]),
+        (parts, &[R, FIRST, FIRST, I]),
+        (equality, &[Run::Argument(2), I]),
+    ];
+    for (make, runs) in table {
+        let term = make(alloc)?;
+        assert!(rt; at(&term, &path_of(alloc, runs)?).is_none());
+    }
     Ok(())
 }
 
@@ -186,24 +206,31 @@ fn like_runs_are_joined(rt: HostRuntime) -> Result<(), Fail> {
         Run::Argument(0),
         Run::Inside(7),
     ];
-    assert!(rt; *path.runs() == want);
+    assert!(rt; path.runs() == want.as_slice());
     Ok(())
 }
 
 #[test]
-fn a_path_of_the_greatest_depth_fits_the_stack(rt: HostRuntime) -> Result<(), Fail> {
+fn a_path_through_the_deepest_sums_fits_the_stack(rt: HostRuntime) -> Result<(), Fail> {
     let alloc = rt.alloc();
-    let u = sums(alloc, U::One)?;
-    assert!(rt; leads_to(alloc, &u, &[Run::Inside(2_047)], &U::One)?);
-    assert!(rt; leads_nowhere(alloc, &u, &[Run::Inside(u32::MAX)])?);
-    let u = aggregates(alloc, U::One)?;
+    let term = sums(alloc, U::One)?;
+    let path = path_of(alloc, &[Run::Inside(2_047)])?;
+    assert!(rt; at(&term, &path).is_some_and(|end| same(end, &U::One)));
+    let path = path_of(alloc, &[Run::Inside(u32::MAX)])?;
+    assert!(rt; at(&term, &path).is_none());
+    Ok(())
+}
+
+#[test]
+fn a_path_of_many_runs_fits_the_stack(rt: HostRuntime) -> Result<(), Fail> {
+    let alloc = rt.alloc();
+    let term = aggregates(alloc, U::One)?;
     let mut path = Path::new(alloc);
     for _ in 0..1_023 {
-        assert!(rt; push(&mut path, Run::Argument(0))? && push(&mut path, Run::Inside(1))?);
+        push(&mut path, FIRST)?;
+        push(&mut path, I)?;
     }
     assert_eq!(rt; path.runs().len(), 2_046);
-    assert!(rt; at(&u, &path).is_some_and(|end| same(end, &U::One)));
-    assert!(rt; push(&mut path, Run::Inside(1))?);
-    assert!(rt; at(&u, &path).is_none());
+    assert!(rt; at(&term, &path).is_some_and(|end| same(end, &U::One)));
     Ok(())
 }
