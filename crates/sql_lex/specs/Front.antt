@@ -68,14 +68,18 @@ symbol_piece first rest =
 abbrev pub begins_number : ℕ → List ℕ → Bool
 begins_number first rest = is_digit first || nat_eq first point && first_passes is_digit rest
 
-unfoldable pub piece : List ℕ → Result Piece LexCode
-piece [] = Ok (Gap 0)
-piece (first ∷ rest) =
-    if is_blank first then Ok (Gap (1 + prefix_len is_blank rest))
-    else (if begins_word first then Ok (Lexeme Word (1 + prefix_len goes_on_word rest))
-    else (if begins_number first rest then number_piece (first ∷ rest)
-    else (if nat_eq first quote then text_piece (end_len quote false rest)
+abbrev pub marked_piece : ℕ → List ℕ → Result Piece LexCode
+marked_piece first rest =
+    if nat_eq first quote then text_piece (end_len quote false rest)
     else (if nat_eq first double_quote then name_piece (end_len double_quote false rest)
     else (if nat_eq first 45 && first_passes (nat_eq 45) rest then Ok (Gap (2 + prefix_len is_in_line (drop 1 rest)))
     else (if nat_eq first 47 && first_passes (nat_eq 42) rest then comment_piece (close_len false (drop 1 rest))
-    else symbol_piece first rest))))))
+    else symbol_piece first rest)))
+
+unfoldable pub first_piece : List ℕ → Result Piece LexCode
+first_piece [] = Ok (Gap 0)
+first_piece (first ∷ rest) =
+    if is_blank first then Ok (Gap (1 + prefix_len is_blank rest))
+    else (if begins_word first then Ok (Lexeme Word (1 + prefix_len goes_on_word rest))
+    else (if begins_number first rest then number_piece (first ∷ rest)
+    else marked_piece first rest))

@@ -5,7 +5,7 @@ use Rattle.sql_lex.specs.declared.front.Piece.{Piece}
 use Rattle.sql_lex.specs.declared.front.Piece.TheVariants as pieces
 use Rattle.sql_lex.specs.declared.token.LexCode.{LexCode}
 use Rattle.sql_lex.specs.Lexemes.{Lexed, nothing, with_first}
-use Rattle.sql_lex.specs.Front.{piece}
+use Rattle.sql_lex.specs.Front.{first_piece}
 
 -- what this piece, and then what stands behind it, holds
 abbrev pub with_piece : (ℕ → List ℕ → Lexed) → ℕ → List ℕ → Result Piece LexCode → Lexed
@@ -18,7 +18,7 @@ with_piece others at text (Err code) = record { tokens = []; fault = Some (recor
 unfoldable pub lexed_within : ℕ → ℕ → List ℕ → Lexed
 lexed_within zero at text = nothing
 lexed_within (suc steps) at [] = nothing
-lexed_within (suc steps) at (byte ∷ bytes) = with_piece (lexed_within steps) at (byte ∷ bytes) (piece (byte ∷ bytes))
+lexed_within (suc steps) at (byte ∷ bytes) = with_piece (lexed_within steps) at (byte ∷ bytes) (first_piece (byte ∷ bytes))
 
 -- each piece takes a byte at least
 unfoldable pub lexed : ℕ → List ℕ → Lexed
