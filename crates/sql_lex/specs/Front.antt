@@ -79,7 +79,7 @@ marked_piece first rest =
 unfoldable pub first_piece : List ℕ → Result Piece LexCode
 first_piece [] = Ok (Gap 0)
 first_piece (first ∷ rest) =
-    if is_blank first then Ok (Gap (1 + prefix_len is_blank rest))
+    if is_blank first then Ok (Gap 1)
     else (if begins_word first then Ok (Lexeme Word (1 + prefix_len goes_on_word rest))
     else (if begins_number first rest then number_piece (first ∷ rest)
     else marked_piece first rest))

@@ -1,7 +1,7 @@
 //! What stands at the front of a text.
 ghost use Rattle.std.specs.Prelude.{◌≡◌, ◌<◌, ◌≤◌, ◌^◌, false, length, IfSome, IfOk};
 ghost use Rattle.std.specs.List.{prefix_len};
-ghost use Rattle.sql_lex.specs.Bytes.{goes_on_word, is_blank, is_digit, quote, double_quote};
+ghost use Rattle.sql_lex.specs.Bytes.{goes_on_word, is_digit, quote, double_quote};
 ghost use Rattle.sql_lex.specs.Classes.{is_pair, is_single};
 ghost use Rattle.sql_lex.specs.Gaps.{is_in_line};
 ghost use Rattle.sql_lex.specs.Front.{begins_number, close_len, comment_piece, end_len, first_piece, fraction_len, marked_piece, name_piece, number_len, number_piece, symbol_piece, text_piece};
@@ -11,16 +11,9 @@ use crate::token::{LexCode, TokenKind};
 
 /// What a text begins with, and how many bytes that takes.
 pub enum Piece {
-    /// Blanks, or a comment.
+    /// A blank, or a comment.
     Gap(usize),
     Lexeme(TokenKind, usize),
-}
-
-fn blanks_len(bytes: &[u8]) -> usize
-    ensures value { result ≡ prefix_len is_blank bytes.now }
-    ensures within { result ≤ length bytes.now }
-{
-    bytes.iter().take_while(|byte| is_blank(**byte)).count()
 }
 
 fn tail_len(bytes: &[u8]) -> usize
@@ -204,7 +197,7 @@ pub fn first_piece(bytes: &[u8]) -> Result<Piece, LexCode>
 {
     match bytes {
         [] => Ok(Piece::Gap(0)),
-        [first, rest @ ..] if is_blank(*first) => Ok(Piece::Gap(1 + blanks_len(rest))),
+        [first, ..] if is_blank(*first) => Ok(Piece::Gap(1)),
         [first, rest @ ..] if begins_word(*first) => {
             Ok(Piece::Lexeme(TokenKind::Word, 1 + tail_len(rest)))
         }

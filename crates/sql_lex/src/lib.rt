@@ -4,10 +4,12 @@
 pub mod bytes;
 mod front;
 pub mod laws;
+mod lexer;
 
 
 
 mod token;
 
 
+pub use lexer::Lexer;
 pub use token::{LexCode, LexFault, Token, TokenKind};
