@@ -25,10 +25,10 @@ use Rattle.sql_lex.proofs.Closing.{closed_first, unclosed}
 use Rattle.sql_lex.proofs.Numbers.{drop_front, number_at, number_len-least, begins_number-at}
 
 -- no front of the text that is a token is longer
-abbrev Longest : List ℕ → ℕ → Type 0
+abbrev pub Longest : List ℕ → ℕ → Type 0
 Longest text n = (other : TokenKind) (longer after : List ℕ) → text ≡ longer ++ after → IsToken other longer → length longer ≤ n
 
-abbrev NoFault : List ℕ → Type 0
+abbrev pub NoFault : List ℕ → Type 0
 NoFault text = (code : LexCode) → HasFault code text → ⊥
 
 -- a token of so many bytes stands at the front
@@ -48,7 +48,7 @@ pub record FoundGap (n : ℕ) (text : List ℕ) : Type 0 where
   pub gap : IsGap bytes rest
   pub some : 0 < n
 
-found : (kind : TokenKind) (n : ℕ) (text bytes rest : List ℕ) → text ≡ bytes ++ rest → length bytes ≡ n
+pub found : (kind : TokenKind) (n : ℕ) (text bytes rest : List ℕ) → text ≡ bytes ++ rest → length bytes ≡ n
     → IsToken kind bytes → Longest text n → ¬ BeginsComment text → NoFault text → Found kind n text
 found kind n text bytes rest parts size token longest no_comment no_fault = record {
   bytes = bytes;
@@ -63,21 +63,21 @@ found kind n text bytes rest parts size token longest no_comment no_fault = reco
   };
 }
 
-false_is_true : {A : Type 0} → false ≡ true → A
+pub false_is_true : {A : Type 0} → false ≡ true → A
 false_is_true e = absurd cc
 
-both : {A : Type 0} (b : Bool) → b ≡ false → b ≡ true → A
+pub both : {A : Type 0} (b : Bool) → b ≡ false → b ≡ true → A
 both b fails passes = false_is_true (sym fails ∙ passes)
 
 -- ---- what the first byte excludes
 -- the token's first byte is the text's
-begins_like : (x : ℕ) (xs : List ℕ) (kind : TokenKind) (y : ℕ) (ys after : List ℕ) → x ∷ xs ≡ (y ∷ ys) ++ after → IsToken kind (y ∷ ys) → begins kind x ≡ true
+pub begins_like : (x : ℕ) (xs : List ℕ) (kind : TokenKind) (y : ℕ) (ys after : List ℕ) → x ∷ xs ≡ (y ∷ ys) ++ after → IsToken kind (y ∷ ys) → begins kind x ≡ true
 begins_like x xs kind y ys after e token = let same : y ≡ x = cc in subst (λ b. begins kind b ≡ true) same (first_byte kind y ys token)
 
-not_bad : (kind : TokenKind) (x : ℕ) (xs bytes rest : List ℕ) → x ∷ xs ≡ bytes ++ rest → IsToken kind bytes → HasBadByte (x ∷ xs) → ⊥
+pub not_bad : (kind : TokenKind) (x : ℕ) (xs bytes rest : List ℕ) → x ∷ xs ≡ bytes ++ rest → IsToken kind bytes → HasBadByte (x ∷ xs) → ⊥
 not_bad kind x xs bytes rest e token bad = bad.3 kind bytes rest e token
 
-comment_first : (x : ℕ) (xs : List ℕ) → BeginsComment (x ∷ xs) → (nat_eq x 45 && first_passes (nat_eq 45) xs || nat_eq x 47 && first_passes (nat_eq 42) xs) ≡ true
+pub comment_first : (x : ℕ) (xs : List ℕ) → BeginsComment (x ∷ xs) → (nat_eq x 45 && first_passes (nat_eq 45) xs || nat_eq x 47 && first_passes (nat_eq 42) xs) ≡ true
 comment_first x xs (inl (after, e)) =
     let first : x ≡ 45 = cc in
     let second : xs ≡ 45 ∷ after = cc in
@@ -110,7 +110,7 @@ word_longest x xs w other (y ∷ ys) after e token =
     let tail : xs ≡ ys ++ after = cc in
     rw tail (omega (arith, prefix_len-least goes_on_word ys after word.1))
 
-word_found : (x : ℕ) (xs : List ℕ) → begins_word x ≡ true → Found Word (1 + prefix_len goes_on_word xs) (x ∷ xs)
+pub word_found : (x : ℕ) (xs : List ℕ) → begins_word x ≡ true → Found Word (1 + prefix_len goes_on_word xs) (x ∷ xs)
 word_found x xs w =
     let n = prefix_len goes_on_word xs in
     let parts : x ∷ xs ≡ (x ∷ take n xs) ++ drop n xs = ap (λ t. x ∷ t) (sym (take-append-drop n xs)) in
@@ -162,7 +162,7 @@ spoiled x xs n fault =
     let most = fault.longest here.number here.rest here.parts here.is_number in
     spoiled_there (x ∷ xs) fault.number fault.rest fault.next fault.parts (omega (arith, least, most, here.size)) fault.spoiled
 
-number_found : (x : ℕ) (xs : List ℕ) → begins_number x xs ≡ true → first_passes spoils_number (drop (number_len (x ∷ xs)) (x ∷ xs)) ≡ false
+pub number_found : (x : ℕ) (xs : List ℕ) → begins_number x xs ≡ true → first_passes spoils_number (drop (number_len (x ∷ xs)) (x ∷ xs)) ≡ false
     → Found Number (number_len (x ∷ xs)) (x ∷ xs)
 number_found x xs n sound =
     let here = number_at x xs n in
@@ -180,7 +180,7 @@ next_byte : (test : ℕ → Bool) (bytes : List ℕ) → first_passes test bytes
 next_byte test [] e = false_is_true e
 next_byte test (x ∷ xs) e = (x, xs, refl, e)
 
-bad_number : (x : ℕ) (xs : List ℕ) → begins_number x xs ≡ true → first_passes spoils_number (drop (number_len (x ∷ xs)) (x ∷ xs)) ≡ true → HasFault BadNumber (x ∷ xs)
+pub bad_number : (x : ℕ) (xs : List ℕ) → begins_number x xs ≡ true → first_passes spoils_number (drop (number_len (x ∷ xs)) (x ∷ xs)) ≡ true → HasFault BadNumber (x ∷ xs)
 bad_number x xs n spoils =
     let here = number_at x xs n in
     let behind : drop (number_len (x ∷ xs)) (x ∷ xs) ≡ here.rest = ap (λ k. drop k (x ∷ xs)) (sym here.size) ∙ front_rest (x ∷ xs) here.number here.rest here.parts in
@@ -228,7 +228,7 @@ text_fault OpenComment e = false_is_true e
 text_fault OpenName e = false_is_true e
 text_fault BadNumber e = false_is_true e
 
-text_found : (xs : List ℕ) (m : ℕ) → end_len quote false xs ≡ Some m → Found Text (1 + m) (quote ∷ xs)
+pub text_found : (xs : List ℕ) (m : ℕ) → end_len quote false xs ≡ Some m → Found Text (1 + m) (quote ∷ xs)
 text_found xs m ends =
     let here = ended quote false xs m ends in
     let parts : quote ∷ xs ≡ between quote here.inside ++ here.rest = ap (λ t. quote ∷ t) here.parts ∙ between_front quote here.inside here.rest in
@@ -241,7 +241,7 @@ text_found xs m ends =
           | inr open_ ↦ let f : HasFault OpenString (quote ∷ xs) = subst (λ c. HasFault c (quote ∷ xs)) open_ fault in not_open quote xs f.0 m ends f.1
         ])
 
-open_text : (xs : List ℕ) → end_len quote false xs ≡ None → HasFault OpenString (quote ∷ xs)
+pub open_text : (xs : List ℕ) → end_len quote false xs ≡ None → HasFault OpenString (quote ∷ xs)
 open_text xs none = let here = unended quote false xs none in (here.0, ap (λ t. quote ∷ t) here.1)
 
 name_longest : (xs : List ℕ) (m : ℕ) → end_len double_quote false xs ≡ Some m → Longest (double_quote ∷ xs) (1 + m)
@@ -276,7 +276,7 @@ no_open_name xs m ends some (inr (rest, e, alone)) =
 not_empty : (inside : List ℕ) (m : ℕ) → length (doubled double_quote inside) + 1 ≡ m → 1 < m → inside ≢ []
 not_empty inside m size some none = let f : length (doubled double_quote inside) ≡ 0 = rw none refl in absurd (omega arith)
 
-name_found : (xs : List ℕ) (m : ℕ) → end_len double_quote false xs ≡ Some m → 1 < m → Found Quoted (1 + m) (double_quote ∷ xs)
+pub name_found : (xs : List ℕ) (m : ℕ) → end_len double_quote false xs ≡ Some m → 1 < m → Found Quoted (1 + m) (double_quote ∷ xs)
 name_found xs m ends some =
     let here = ended double_quote false xs m ends in
     let size : length (doubled double_quote here.inside) + 1 ≡ m = omega (arith, here.size) in
@@ -290,7 +290,7 @@ name_found xs m ends some =
           | inr open_ ↦ no_open_name xs m ends some (subst (λ c. HasFault c (double_quote ∷ xs)) open_ fault)
         ])
 
-open_name : (xs : List ℕ) → end_len double_quote false xs ≡ None → HasFault OpenName (double_quote ∷ xs)
+pub open_name : (xs : List ℕ) → end_len double_quote false xs ≡ None → HasFault OpenName (double_quote ∷ xs)
 open_name xs none = let here = unended double_quote false xs none in inl (here.0, ap (λ t. double_quote ∷ t) here.1)
 
 nothing_inside : (inside : List ℕ) → length (doubled double_quote inside) ≡ 0 → doubled double_quote inside ≡ []
@@ -300,7 +300,7 @@ nothing_inside inside e = none_left (doubled double_quote inside) e
     none_left [] h = refl
     none_left (x ∷ xs) h = absurd (omega arith)
 
-empty_name : (xs : List ℕ) (m : ℕ) → end_len double_quote false xs ≡ Some m → m ≤ 1 → HasFault OpenName (double_quote ∷ xs)
+pub empty_name : (xs : List ℕ) (m : ℕ) → end_len double_quote false xs ≡ Some m → m ≤ 1 → HasFault OpenName (double_quote ∷ xs)
 empty_name xs m ends few =
     let here = ended double_quote false xs m ends in
     let none = nothing_inside here.inside (omega (arith, here.size)) in
@@ -311,7 +311,7 @@ empty_name xs m ends few =
     )
 
 -- ---- comments
-line_gap : (xs : List ℕ) → FoundGap (2 + prefix_len is_in_line xs) (45 ∷ 45 ∷ xs)
+pub line_gap : (xs : List ℕ) → FoundGap (2 + prefix_len is_in_line xs) (45 ∷ 45 ∷ xs)
 line_gap xs =
     let n = prefix_len is_in_line xs in
     record {
@@ -327,7 +327,7 @@ line_gap xs =
     line_ends [] e = tt
     line_ends (byte ∷ rest) e = grind (arith, nat_tests)
 
-block_gap : (xs : List ℕ) (m : ℕ) → close_len false xs ≡ Some m → FoundGap (2 + m) (47 ∷ 42 ∷ xs)
+pub block_gap : (xs : List ℕ) (m : ℕ) → close_len false xs ≡ Some m → FoundGap (2 + m) (47 ∷ 42 ∷ xs)
 block_gap xs m closes =
     let here = closed_first false xs m closes in
     record {
@@ -339,8 +339,8 @@ block_gap xs m closes =
       some = omega arith;
     }
 
-open_comment : (xs : List ℕ) → close_len false xs ≡ None → HasFault OpenComment (47 ∷ 42 ∷ xs)
+pub open_comment : (xs : List ℕ) → close_len false xs ≡ None → HasFault OpenComment (47 ∷ 42 ∷ xs)
 open_comment xs none = (xs, refl, unclosed false xs none)
 
-blank_gap : (x : ℕ) (xs : List ℕ) → is_blank x ≡ true → FoundGap 1 (x ∷ xs)
+pub blank_gap : (x : ℕ) (xs : List ℕ) → is_blank x ≡ true → FoundGap 1 (x ∷ xs)
 blank_gap x xs blank = record { bytes = x ∷ []; rest = xs; parts = refl; size = refl; gap = inl (rw blank refl); some = omega arith }
