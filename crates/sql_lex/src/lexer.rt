@@ -50,7 +50,8 @@ impl<'a> Lexer<'a> {
             let start = self.start;
             match first_piece(self.rest) {
                 Ok(Piece::Gap(len)) => {
-                    self.rest = &self.rest[len..];
+                    let (_, rest) = self.rest.split_at(len);
+                    self.rest = rest;
                     self.start = start + len;
                 }
                 Ok(Piece::Lexeme(kind, len)) => {
