@@ -1,9 +1,9 @@
 -- A comment ends at the first `*/`.
-use Rattle.std.proofs.Common.{◌≡◌, ◌≢◌, ℕ, suc, ◌+◌, ◌≤◌, Bool, true, false, nat_eq, ◌&&◌, List, [], ◌∷◌, ◌++◌, length, Option, Some, None, refl, sym, ap, ◌∙◌, subst, arith, inl, inr, ◌⊎◌, codes, append_assoc}
+use Rattle.std.proofs.Common.{◌≡◌, ℕ, ◌+◌, Bool, true, false, nat_eq, ◌&&◌, List, [], ◌∷◌, ◌++◌, length, Option, Some, None, refl, sym, ap, ◌∙◌, subst, arith, inl, inr, ◌⊎◌, codes}
 use Rattle.std.proofs.lemmas.Bool.{cases_Bool, eqb-true, and_parts}
 use Rattle.std.proofs.lemmas.Bool.Decides.{nat_tests}
 use Rattle.sql_lex.specs.Gaps.{Occurs}
-use Rattle.sql_lex.specs.Front.{close_len, first_passes, one_more}
+use Rattle.sql_lex.specs.Front.{close_len, first_passes}
 use Rattle.sql_lex.proofs.Marks.{one_more-some, one_more-none}
 
 -- a star that stands just before
@@ -103,7 +103,6 @@ close_len-first star (byte ∷ body) rest first = elim (cases_Bool (star && nat_
       let more = close_len-first (nat_eq byte 42) body rest (λ closes. first (starred_later star _ (back byte (body ++ 42 ∷ []) closes))) in
       rw (going, more) (ap Some (omega arith))
 ]
-
 
 -- ---- what was found is the first
 closed_here : (bytes : List ℕ) → Closed true (47 ∷ bytes) 1

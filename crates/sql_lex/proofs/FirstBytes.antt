@@ -1,7 +1,5 @@
 -- What the first byte of a token or a fault tells.
-use Rattle.std.proofs.Common.{◌≡◌, ◌≢◌, ℕ, Bool, true, false, nat_eq, ◌||◌, ◌&&◌, List, [], ◌∷◌, ◌++◌, refl, sym, ◌∙◌, ap, subst, inl, inr, ◌⊎◌, arith}
-use Rattle.std.specs.List.{list_all}
-use Rattle.std.proofs.lemmas.Bool.{false≢true}
+use Rattle.std.proofs.Common.{◌≡◌, ℕ, Bool, true, false, nat_eq, ◌||◌, List, [], ◌∷◌, ◌++◌, refl, sym, subst, inl, inr, ◌⊎◌, arith}
 use Rattle.std.proofs.lemmas.Bool.Decides.{nat_tests}
 use Rattle.sql_lex.specs.declared.token.TokenKind.{TokenKind}
 use Rattle.sql_lex.specs.declared.token.TokenKind.TheVariants.{Word, Quoted, Number, Text, Symbol}
@@ -9,7 +7,7 @@ use Rattle.sql_lex.specs.declared.token.LexCode.{LexCode}
 use Rattle.sql_lex.specs.declared.token.LexCode.TheVariants.{BadByte, OpenString, OpenComment, OpenName, BadNumber}
 use Rattle.sql_lex.specs.Bytes.{begins_word, is_blank, is_digit, quote, double_quote, point}
 use Rattle.sql_lex.specs.Faults.{HasFault}
-use Rattle.sql_lex.specs.Classes.{IsToken, IsNumber, HasWholePart, HasPartAlone, AreDigits, IsSymbol, is_single, is_pair}
+use Rattle.sql_lex.specs.Classes.{IsToken, IsNumber, AreDigits, IsSymbol, is_single, is_pair}
 
 -- the byte may begin a token of the kind
 abbrev pub begins : TokenKind → ℕ → Bool

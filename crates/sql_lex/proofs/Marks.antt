@@ -1,5 +1,5 @@
 -- What a mark begins ends at the first mark that is not doubled.
-use Rattle.std.proofs.Common.{◌≡◌, ◌≢◌, ℕ, suc, ◌+◌, ◌≤◌, Bool, true, false, not, nat_eq, List, [], ◌∷◌, ◌++◌, length, Option, Some, None, refl, sym, ap, ◌∙◌, subst, arith, inl, inr}
+use Rattle.std.proofs.Common.{◌≡◌, ℕ, suc, ◌+◌, ◌≤◌, Bool, true, false, nat_eq, List, [], ◌∷◌, ◌++◌, length, Option, Some, None, refl, sym, ap, ◌∙◌, subst, arith, inl, inr}
 use Rattle.std.proofs.lemmas.Bool.{cases_Bool, eqb-true}
 use Rattle.std.proofs.lemmas.Bool.Decides.{nat_tests}
 use Rattle.std.proofs.lemmas.List.{append-nil}
@@ -39,7 +39,7 @@ module _ (mark : ℕ) where
   end_len-doubled (byte ∷ inside) ys = elim (cases_Bool (nat_eq byte mark)) [
     | inl same ↦
         rw same (rw (equal_self mark, end_len-doubled inside ys)
-            (ap one_more (one_more-later (length (doubled mark inside)) (end_len mark false ys)) ∙ one_more-later (suc (length (doubled mark inside))) (end_len mark false ys)))
+        (ap one_more (one_more-later (length (doubled mark inside)) (end_len mark false ys)) ∙ one_more-later (suc (length (doubled mark inside))) (end_len mark false ys)))
     | inr other ↦ rw (other, other, end_len-doubled inside ys) (one_more-later (length (doubled mark inside)) (end_len mark false ys))
   ]
 

@@ -1,9 +1,9 @@
 -- One piece alone stands at the front of a text.
-use Rattle.std.proofs.Common.{◌≡◌, ◌≢◌, ℕ, suc, ◌+◌, ◌<◌, ◌≤◌, Bool, true, false, nat_eq, ◌&&◌, ◌||◌, List, [], ◌∷◌, ◌++◌, length, Result, Ok, Err, refl, sym, ap, ◌∙◌, subst, arith, inl, inr, ◌⊎◌, codes, append_assoc, if◌then◌else◌}
+use Rattle.std.proofs.Common.{◌≡◌, ℕ, suc, ◌+◌, ◌<◌, ◌≤◌, true, false, nat_eq, List, [], ◌∷◌, ◌++◌, length, Result, Ok, Err, refl, sym, ap, ◌∙◌, subst, arith, inl, inr, ◌⊎◌, codes, append_assoc, if◌then◌else◌}
 use Rattle.std.specs.List.{list_all, prefix_len}
 use Rattle.std.proofs.lemmas.Bool.{eqb-true, and_parts}
 use Rattle.std.proofs.lemmas.Bool.Decides.{nat_tests}
-use Rattle.std.proofs.lemmas.List.{append_cancel_left, length-append}
+use Rattle.std.proofs.lemmas.List.{length-append}
 use Rattle.sql_lex.specs.declared.front.Piece.{Piece}
 use Rattle.sql_lex.specs.declared.front.Piece.TheVariants.{Gap, Lexeme}
 use Rattle.sql_lex.specs.declared.token.LexCode.{LexCode}
@@ -15,11 +15,11 @@ use Rattle.sql_lex.specs.Classes.{IsToken, is_single}
 use Rattle.sql_lex.specs.Gaps.{BeginsComment, IsGap, IsLineComment, IsBlockComment, EndsLine, is_in_line}
 use Rattle.sql_lex.specs.Faults.{HasFault}
 use Rattle.sql_lex.specs.Tokens.{IsTokenBefore}
-use Rattle.sql_lex.specs.Front.{first_piece, first_passes}
-use Rattle.sql_lex.proofs.FirstBytes.{begins, first_byte, no_bytes, blank_begins, number_or_symbol, fault_begins, fault_byte, no_fault_in_nothing, begins_word-kind, quote_kind, double_quote_kind, number_kind}
-use Rattle.sql_lex.proofs.Prefixes.{prefix_len-front, no_front}
+use Rattle.sql_lex.specs.Front.{first_piece}
+use Rattle.sql_lex.proofs.FirstBytes.{begins, first_byte, no_bytes, blank_begins, number_or_symbol, fault_begins, fault_byte, begins_word-kind, quote_kind, double_quote_kind, number_kind}
+use Rattle.sql_lex.proofs.Prefixes.{prefix_len-front}
 use Rattle.sql_lex.proofs.Closing.{close_len-first}
-use Rattle.sql_lex.proofs.Pieces.{Found, FoundGap, both, false_is_true}
+use Rattle.sql_lex.proofs.Pieces.{FoundGap, both, false_is_true}
 use Rattle.sql_lex.proofs.Sound.{Sound, sound}
 
 -- ---- one token

@@ -1,28 +1,26 @@
 -- What the front of a text is found to be, it is.
-use Rattle.std.proofs.Common.{◌≡◌, ◌≢◌, ℕ, suc, ◌+◌, ◌<◌, ◌≤◌, Bool, true, false, nat_eq, nat_le, ◌&&◌, ◌||◌, List, [], ◌∷◌, ◌++◌, length, take, drop, Option, Some, None, Result, Ok, Err, refl, sym, ap, ◌∙◌, subst, arith, inl, inr, ◌⊎◌, codes, append_assoc}
-use Rattle.std.specs.List.{list_all, prefix_len}
-use Rattle.std.proofs.lemmas.Bool.{cases_Bool, eqb-true, and_parts}
+use Rattle.std.proofs.Common.{◌≡◌, ◌≢◌, ℕ, ◌+◌, ◌<◌, ◌≤◌, Bool, true, false, nat_eq, ◌&&◌, ◌||◌, List, [], ◌∷◌, ◌++◌, length, take, drop, Option, Some, None, refl, sym, ap, ◌∙◌, subst, arith, inl, inr, ◌⊎◌, codes, append_assoc}
+use Rattle.std.specs.List.{prefix_len}
+use Rattle.std.proofs.lemmas.Bool.{cases_Bool, eqb-true}
 use Rattle.std.proofs.lemmas.Bool.Decides.{nat_tests}
 use Rattle.std.proofs.lemmas.List.{take-append-drop, length-append}
 use Rattle.std.proofs.lemmas.List.Folds.{length-prefix_len}
 use Rattle.std.proofs.lemmas.List.Prefix.{front_rest}
-use Rattle.sql_lex.specs.declared.front.Piece.{Piece}
-use Rattle.sql_lex.specs.declared.front.Piece.TheVariants.{Gap, Lexeme}
 use Rattle.sql_lex.specs.declared.token.LexCode.{LexCode}
 use Rattle.sql_lex.specs.declared.token.LexCode.TheVariants.{BadByte, OpenString, OpenComment, OpenName, BadNumber}
 use Rattle.sql_lex.specs.declared.token.TokenKind.{TokenKind}
-use Rattle.sql_lex.specs.declared.token.TokenKind.TheVariants.{Word, Quoted, Number, Text, Symbol}
-use Rattle.sql_lex.specs.Bytes.{begins_word, goes_on_word, is_blank, is_digit, quote, double_quote, point}
-use Rattle.sql_lex.specs.Classes.{IsToken, IsNumber, IsSymbol, is_single, is_pair, doubled, between}
+use Rattle.sql_lex.specs.declared.token.TokenKind.TheVariants.{Word, Quoted, Number, Text}
+use Rattle.sql_lex.specs.Bytes.{begins_word, goes_on_word, is_blank, quote, double_quote}
+use Rattle.sql_lex.specs.Classes.{IsToken, doubled, between}
 use Rattle.sql_lex.specs.Gaps.{BeginsComment, IsGap, EndsLine, is_in_line}
-use Rattle.sql_lex.specs.Faults.{HasFault, HasBadByte, NoToken, spoils_number}
+use Rattle.sql_lex.specs.Faults.{HasFault, HasBadByte, spoils_number}
 use Rattle.sql_lex.specs.Tokens.{IsTokenBefore}
-use Rattle.sql_lex.specs.Front.{begins_number, close_len, comment_piece, end_len, first_passes, first_piece, marked_piece, name_piece, number_len, number_piece, symbol_piece, text_piece}
+use Rattle.sql_lex.specs.Front.{begins_number, close_len, end_len, first_passes, number_len}
 use Rattle.sql_lex.proofs.Prefixes.{prefix_len-least, all-front, stops-behind}
 use Rattle.sql_lex.proofs.FirstBytes.{begins, first_byte, no_bytes, begins_word-kind, number_kind, quote_kind, double_quote_kind, number_symbol, fault_begins, fault_byte}
 use Rattle.sql_lex.proofs.Marks.{ended, unended, open-none, end_len-least}
 use Rattle.sql_lex.proofs.Closing.{closed_first, unclosed}
-use Rattle.sql_lex.proofs.Numbers.{drop_front, number_at, number_len-least, begins_number-at}
+use Rattle.sql_lex.proofs.Numbers.{drop_front, number_at, number_len-least}
 
 -- no front of the text that is a token is longer
 abbrev pub Longest : List ℕ → ℕ → Type 0
@@ -116,9 +114,9 @@ word_found x xs w =
     let parts : x ∷ xs ≡ (x ∷ take n xs) ++ drop n xs = ap (λ t. x ∷ t) (sym (take-append-drop n xs)) in
     let token : IsToken Word (x ∷ take n xs) = (w, all-front goes_on_word xs) in
     found Word (1 + n) (x ∷ xs) (x ∷ take n xs) (drop n xs) parts (omega (arith, length-prefix_len goes_on_word xs)) token
-        (word_longest x xs w)
-        (λ comment. both _ (word_comment x w) (comment_byte x xs comment))
-        (λ code fault. not_bad Word x xs (x ∷ take n xs) (drop n xs) parts token (subst (λ c. HasFault c (x ∷ xs)) (word_fault code x w (fault_byte code x xs fault)) fault))
+    (word_longest x xs w)
+    (λ comment. both _ (word_comment x w) (comment_byte x xs comment))
+    (λ code fault. not_bad Word x xs (x ∷ take n xs) (drop n xs) parts token (subst (λ c. HasFault c (x ∷ xs)) (word_fault code x w (fault_byte code x xs fault)) fault))
 
 -- ---- numbers
 number_byte : (x : ℕ) (xs : List ℕ) → begins_number x xs ≡ true → begins Number x ≡ true
@@ -169,12 +167,12 @@ number_found x xs n sound =
     let begin = number_byte x xs n in
     let some : 0 < number_len (x ∷ xs) = omega (arith, some_bytes Number here.number here.is_number, here.size) in
     found Number (number_len (x ∷ xs)) (x ∷ xs) here.number here.rest here.parts here.size here.is_number
-        (number_longest x xs n some)
-        (λ comment. both _ (number_comment x begin) (comment_byte x xs comment))
-        (λ code fault. elim (number_fault code x begin (fault_byte code x xs fault)) [
-          | inl bad ↦ not_bad Number x xs here.number here.rest here.parts here.is_number (subst (λ c. HasFault c (x ∷ xs)) bad fault)
-          | inr bad ↦ both _ sound (spoiled x xs n (subst (λ c. HasFault c (x ∷ xs)) bad fault))
-        ])
+    (number_longest x xs n some)
+    (λ comment. both _ (number_comment x begin) (comment_byte x xs comment))
+    (λ code fault. elim (number_fault code x begin (fault_byte code x xs fault)) [
+      | inl bad ↦ not_bad Number x xs here.number here.rest here.parts here.is_number (subst (λ c. HasFault c (x ∷ xs)) bad fault)
+      | inr bad ↦ both _ sound (spoiled x xs n (subst (λ c. HasFault c (x ∷ xs)) bad fault))
+    ])
 
 next_byte : (test : ℕ → Bool) (bytes : List ℕ) → first_passes test bytes ≡ true → (next : ℕ) × (rest : List ℕ) × (bytes ≡ next ∷ rest) × (test next ≡ true)
 next_byte test [] e = false_is_true e
@@ -234,12 +232,12 @@ text_found xs m ends =
     let parts : quote ∷ xs ≡ between quote here.inside ++ here.rest = ap (λ t. quote ∷ t) here.parts ∙ between_front quote here.inside here.rest in
     let token : IsToken Text (between quote here.inside) = (here.inside, refl) in
     found Text (1 + m) (quote ∷ xs) (between quote here.inside) here.rest parts (omega (arith, length-between quote here.inside, here.size)) token
-        (text_longest xs m ends)
-        (λ comment. false_is_true (comment_byte quote xs comment))
-        (λ code fault. elim (text_fault code (fault_byte code quote xs fault)) [
-          | inl bad ↦ not_bad Text quote xs (between quote here.inside) here.rest parts token (subst (λ c. HasFault c (quote ∷ xs)) bad fault)
-          | inr open_ ↦ let f : HasFault OpenString (quote ∷ xs) = subst (λ c. HasFault c (quote ∷ xs)) open_ fault in not_open quote xs f.0 m ends f.1
-        ])
+    (text_longest xs m ends)
+    (λ comment. false_is_true (comment_byte quote xs comment))
+    (λ code fault. elim (text_fault code (fault_byte code quote xs fault)) [
+      | inl bad ↦ not_bad Text quote xs (between quote here.inside) here.rest parts token (subst (λ c. HasFault c (quote ∷ xs)) bad fault)
+      | inr open_ ↦ let f : HasFault OpenString (quote ∷ xs) = subst (λ c. HasFault c (quote ∷ xs)) open_ fault in not_open quote xs f.0 m ends f.1
+    ])
 
 pub open_text : (xs : List ℕ) → end_len quote false xs ≡ None → HasFault OpenString (quote ∷ xs)
 open_text xs none = let here = unended quote false xs none in (here.0, ap (λ t. quote ∷ t) here.1)
@@ -283,12 +281,12 @@ name_found xs m ends some =
     let parts : double_quote ∷ xs ≡ between double_quote here.inside ++ here.rest = ap (λ t. double_quote ∷ t) here.parts ∙ between_front double_quote here.inside here.rest in
     let token : IsToken Quoted (between double_quote here.inside) = (here.inside, not_empty here.inside m size some, refl) in
     found Quoted (1 + m) (double_quote ∷ xs) (between double_quote here.inside) here.rest parts (omega (arith, length-between double_quote here.inside, here.size)) token
-        (name_longest xs m ends)
-        (λ comment. false_is_true (comment_byte double_quote xs comment))
-        (λ code fault. elim (name_fault code (fault_byte code double_quote xs fault)) [
-          | inl bad ↦ not_bad Quoted double_quote xs (between double_quote here.inside) here.rest parts token (subst (λ c. HasFault c (double_quote ∷ xs)) bad fault)
-          | inr open_ ↦ no_open_name xs m ends some (subst (λ c. HasFault c (double_quote ∷ xs)) open_ fault)
-        ])
+    (name_longest xs m ends)
+    (λ comment. false_is_true (comment_byte double_quote xs comment))
+    (λ code fault. elim (name_fault code (fault_byte code double_quote xs fault)) [
+      | inl bad ↦ not_bad Quoted double_quote xs (between double_quote here.inside) here.rest parts token (subst (λ c. HasFault c (double_quote ∷ xs)) bad fault)
+      | inr open_ ↦ no_open_name xs m ends some (subst (λ c. HasFault c (double_quote ∷ xs)) open_ fault)
+    ])
 
 pub open_name : (xs : List ℕ) → end_len double_quote false xs ≡ None → HasFault OpenName (double_quote ∷ xs)
 open_name xs none = let here = unended double_quote false xs none in inl (here.0, ap (λ t. double_quote ∷ t) here.1)

@@ -1,5 +1,5 @@
 -- The first piece of a text is what stands at its front.
-use Rattle.std.proofs.Common.{◌≡◌, ◌≢◌, ℕ, suc, ◌+◌, ◌<◌, ◌≤◌, Bool, true, false, nat_eq, nat_le, if◌then◌else◌, ◌&&◌, ◌||◌, List, [], ◌∷◌, ◌++◌, length, drop, Option, Some, None, Result, Ok, Err, refl, sym, ap, ◌∙◌, subst, arith, inl, inr, ◌⊎◌}
+use Rattle.std.proofs.Common.{◌≡◌, ◌≢◌, ℕ, ◌+◌, ◌≤◌, Bool, true, false, nat_eq, nat_le, if◌then◌else◌, ◌&&◌, ◌||◌, List, [], ◌∷◌, ◌++◌, length, drop, Option, Some, None, Result, Ok, Err, refl, sym, subst, arith, inl, inr}
 use Rattle.std.specs.List.{prefix_len}
 use Rattle.std.proofs.lemmas.Bool.{cases_Bool, eqb-true, and_parts}
 use Rattle.std.proofs.lemmas.Bool.Decides.{nat_tests}
@@ -16,7 +16,7 @@ use Rattle.sql_lex.specs.Faults.{HasFault, NoToken, spoils_number}
 use Rattle.sql_lex.specs.Front.{begins_number, close_len, comment_piece, end_len, first_passes, first_piece, marked_piece, name_piece, number_len, number_piece, symbol_piece, text_piece}
 use Rattle.sql_lex.proofs.FirstBytes.{no_bytes, fault_byte}
 use Rattle.sql_lex.proofs.Numbers.{begins_number-at}
-use Rattle.sql_lex.proofs.Pieces.{Found, FoundGap, Longest, NoFault, found, both, false_is_true, begins_like, not_bad, comment_first, word_found, number_found, bad_number, text_found, open_text, name_found, open_name, empty_name, line_gap, block_gap, open_comment, blank_gap}
+use Rattle.sql_lex.proofs.Pieces.{Found, FoundGap, Longest, found, both, false_is_true, begins_like, not_bad, comment_first, word_found, number_found, bad_number, text_found, open_text, name_found, open_name, empty_name, line_gap, block_gap, open_comment, blank_gap}
 
 abbrev pub Sound : List ℕ → Result Piece LexCode → Type 0
 Sound text (Ok (Gap n)) = FoundGap n text
@@ -57,7 +57,7 @@ other_fault x xs other BadNumber fault = both _ other.no_number (begins_number-a
 other_found : (x : ℕ) (xs : List ℕ) → Other x xs → (n : ℕ) (bytes rest : List ℕ) → x ∷ xs ≡ bytes ++ rest → length bytes ≡ n → IsSymbol bytes → Longest (x ∷ xs) n → Found Symbol n (x ∷ xs)
 other_found x xs other n bytes rest parts size symbol longest =
     found Symbol n (x ∷ xs) bytes rest parts size symbol longest (other_comment x xs other)
-        (λ code fault. not_bad Symbol x xs bytes rest parts symbol (subst (λ c. HasFault c (x ∷ xs)) (other_fault x xs other code fault) fault))
+    (λ code fault. not_bad Symbol x xs bytes rest parts symbol (subst (λ c. HasFault c (x ∷ xs)) (other_fault x xs other code fault) fault))
 
 symbol_size : (bytes : List ℕ) → IsSymbol bytes → length bytes ≤ 2
 symbol_size [] symbol = absurd symbol
@@ -151,14 +151,14 @@ line_sound x [] e = let h = and_parts (nat_eq x 45) false e in false_is_true h.1
 line_sound x (y ∷ ys) e =
     let h = and_parts (nat_eq x 45) (nat_eq 45 y) e in
     subst (λ a. FoundGap (2 + prefix_len is_in_line ys) (a ∷ y ∷ ys)) (same_byte x 45 h.0)
-        (subst (λ b. FoundGap (2 + prefix_len is_in_line ys) (45 ∷ b ∷ ys)) (eqb-true 45 y h.1) (line_gap ys))
+    (subst (λ b. FoundGap (2 + prefix_len is_in_line ys) (45 ∷ b ∷ ys)) (eqb-true 45 y h.1) (line_gap ys))
 
 block_sound : (x : ℕ) (xs : List ℕ) → nat_eq x 47 && first_passes (nat_eq 42) xs ≡ true → Sound (x ∷ xs) (comment_piece (close_len false (drop 1 xs)))
 block_sound x [] e = let h = and_parts (nat_eq x 47) false e in false_is_true h.1
 block_sound x (y ∷ ys) e =
     let h = and_parts (nat_eq x 47) (nat_eq 42 y) e in
     subst (λ a. Sound (a ∷ y ∷ ys) (comment_piece (close_len false ys))) (same_byte x 47 h.0)
-        (subst (λ b. Sound (47 ∷ b ∷ ys) (comment_piece (close_len false ys))) (eqb-true 42 y h.1) (comment_sound ys (close_len false ys) refl))
+    (subst (λ b. Sound (47 ∷ b ∷ ys) (comment_piece (close_len false ys))) (eqb-true 42 y h.1) (comment_sound ys (close_len false ys) refl))
 
 marked_sound : (x : ℕ) (xs : List ℕ) → is_blank x ≡ false → begins_word x ≡ false → begins_number x xs ≡ false → Sound (x ∷ xs) (marked_piece x xs)
 marked_sound x xs blank word number = elim (cases_Bool (nat_eq x quote)) [
@@ -170,7 +170,14 @@ marked_sound x xs blank word number = elim (cases_Bool (nat_eq x quote)) [
       | inr no_line ↦ elim (cases_Bool (nat_eq x 47 && first_passes (nat_eq 42) xs)) [
         | inl block ↦ rw (no_text, no_name, no_line, block) (block_sound x xs block)
         | inr no_block ↦ rw (no_text, no_name, no_line, no_block) (symbol_sound x xs (record {
-            no_blank = blank; no_word = word; no_number = number; no_text = no_text; no_name = no_name; no_line = no_line; no_block = no_block }))
+          no_blank = blank;
+          no_word = word;
+          no_number = number;
+          no_text = no_text;
+          no_name = no_name;
+          no_line = no_line;
+          no_block = no_block;
+        }))
       ]
     ]
   ]

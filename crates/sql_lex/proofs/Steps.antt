@@ -1,5 +1,5 @@
 -- A walk over the bytes of a text, one at a time.
-use Rattle.std.proofs.Common.{◌≡◌, ℕ, suc, ◌+◌, ◌<◌, ◌≤◌, Bool, true, false, not, nat_eq, ◌&&◌, List, [], ◌∷◌, length, drop, get_or, Option, Some, None, IfSome, refl, sym, ap, ◌∙◌, arith, drop-cons, add-one}
+use Rattle.std.proofs.Common.{◌≡◌, ℕ, suc, ◌+◌, ◌<◌, Bool, true, false, not, nat_eq, ◌&&◌, List, length, drop, get_or, Option, Some, None, refl, ap, arith, drop-cons, add-one}
 use Rattle.sql_lex.specs.Front.{one_more, end_len, close_len}
 
 -- behind so many bytes
@@ -38,4 +38,5 @@ pub close_len-step : (star : Bool) (bytes : List ℕ) (i : ℕ) → i < length b
 close_len-step star bytes i h e = rw (drop-cons bytes i 0 h, e, add-one) (later-one_more i _)
 
 pub ruleset ends = (later-none, end_len-mark, end_len-other, end_len-ended)
+
 pub ruleset closes = (later-none, close_len-closed, close_len-step)

@@ -1,9 +1,10 @@
 -- What is found from a place of a text on are its tokens and its first fault, and there are no others.
-use Rattle.std.proofs.Common.{◌≡◌, ◌==◌, ◌≢◌, ℕ, zero, suc, ◌+◌, ◌<◌, ◌≤◌, Bool, true, false, List, [], ◌∷◌, ◌++◌, length, take, drop, Option, Some, None, Result, Ok, Err, refl, sym, ap, ◌∙◌, subst, arith, inl, inr, ◌⊎◌, append_assoc, add-zero, add_assoc}
-use Rattle.std.specs.List.{list_all, concat}
+use Rattle.std.proofs.Common.{◌≡◌, ◌==◌, ℕ, zero, suc, ◌+◌, ◌<◌, ◌≤◌, true, false, List, [], ◌∷◌, ◌++◌, length, take, drop, Option, Some, None, Result, Ok, Err, refl, sym, ap, ◌∙◌, subst, arith, inl, inr, ◌⊎◌, append_assoc, add-zero}
+use Rattle.std.specs.List.{All, list_all, concat}
 use Rattle.std.proofs.lemmas.Bool.{and_parts}
 use Rattle.std.proofs.lemmas.Bool.Decides.{nat_tests}
 use Rattle.std.proofs.lemmas.List.{length-append}
+use Rattle.std.proofs.lemmas.List.Elements.{All-nil, All-cons}
 use Rattle.std.proofs.lemmas.List.Prefix.{front_rest}
 use Rattle.std.proofs.Math.Seq.{take-append_seam}
 use Rattle.sql_lex.specs.declared.front.Piece.{Piece}
@@ -15,7 +16,7 @@ use Rattle.sql_lex.specs.Bytes.{is_blank}
 use Rattle.sql_lex.specs.Lexemes.{Lexeme, Lexed, nothing, with_first, fault_alone}
 use Rattle.sql_lex.specs.Gaps.{AreGaps, IsGap}
 use Rattle.sql_lex.specs.Faults.{HasFault}
-use Rattle.sql_lex.specs.Tokens.{HasGap, Ends, IsTokenBefore, Lexes, TokensOf, IsFirstFault, IsSliceOf, AreInOrder}
+use Rattle.sql_lex.specs.Tokens.{HasGap, IsTokenBefore, Lexes, TokensOf, IsFirstFault, IsSliceOf, AreInOrder}
 use Rattle.sql_lex.specs.Front.{first_piece}
 use Rattle.sql_lex.specs.Lexing.{with_piece, lexed_within, lexed}
 use Rattle.sql_lex.proofs.FirstBytes.{no_bytes, no_fault_in_nothing}
@@ -66,7 +67,7 @@ enough zero t at (x ∷ xs) h k = absurd (omega arith)
 enough (suc s) zero at (x ∷ xs) h k = absurd (omega arith)
 enough (suc s) (suc t) at (x ∷ xs) h k =
     same_behind (lexed_within s) (lexed_within t) at (x ∷ xs) (first_piece (x ∷ xs)) (takes x xs)
-        (λ place rest less. enough s t place rest (omega arith) (omega arith))
+    (λ place rest less. enough s t place rest (omega arith) (omega arith))
 
 pub lexed-nothing : (at : ℕ) → lexed at [] ≡ nothing
 unfolding lexed lexed_within
@@ -77,7 +78,7 @@ pub lexed-piece : (at x : ℕ) (xs : List ℕ) → lexed at (x ∷ xs) ≡ with_
 unfolding lexed lexed_within
 lexed-piece at x xs =
     same_behind (lexed_within (length xs)) lexed at (x ∷ xs) (first_piece (x ∷ xs)) (takes x xs)
-        (λ place rest less. enough (length xs) (length rest) place rest (omega arith) (omega arith))
+    (λ place rest less. enough (length xs) (length rest) place rest (omega arith) (omega arith))
 
 -- ---- what is found is there
 abbrev LexesTo : ℕ → List ℕ → Lexed → Type 0
@@ -112,7 +113,7 @@ token_lexes at n kind text behind here more =
     let front : take n text ≡ here.bytes = ap (λ k. take k text) (sym here.size) ∙ ap (take (length here.bytes)) here.parts ∙ take-append_seam here.bytes here.rest in
     let there : LexesTo (at + length here.bytes) here.rest behind = subst (λ k. LexesTo (at + k) here.rest behind) (sym here.size) (subst (λ t. LexesTo (at + n) t behind) left more) in
     subst (λ t. LexesTo at text (with_first (record { kind = kind; text = t; start = at }) behind)) (sym front)
-        (here.rest, subst (λ t. HasGap at text t at) here.parts (no_gap at text), here.before, there)
+    (here.rest, subst (λ t. HasGap at text t at) here.parts (no_gap at text), here.before, there)
 
 piece_lexes : (more : ℕ → List ℕ → Lexed) (at : ℕ) (text : List ℕ) (p : Result Piece LexCode) → Sound text p
     → ((place : ℕ) (rest : List ℕ) → length rest < length text → LexesTo place rest (more place rest)) → LexesTo at text (with_piece more at text p)
@@ -250,3 +251,16 @@ some_token token lexed e = let f : token ∷ lexed.tokens ≡ [] = ap (λ l. l.t
 
 pub some_fault : (fault : LexFault) → fault_alone fault ≡ nothing → ⊥
 some_fault fault e = let f : Some fault ≡ None = ap (λ l. l.fault) e in cc
+
+-- ---- tokens as slices
+-- what stands before the token, from the beginning of the whole text on
+pub slices : (whole front text : List ℕ) (tokens : List Lexeme) (fault : Option LexFault) → whole ≡ front ++ text → Lexes (length front) text tokens fault → All (IsSliceOf whole) tokens
+slices whole front text [] fault e h = All-nil (IsSliceOf whole)
+slices whole front text (token ∷ tokens) fault e (rest, gap, before, others) =
+    let head = front ++ concat gap.pieces in
+    let start : token.start ≡ length head = gap.place ∙ sym (length-append front (concat gap.pieces)) in
+    let parts : whole ≡ head ++ (token.text ++ rest) = e ∙ ap (λ t. front ++ t) gap.parts ∙ sym (append_assoc front (concat gap.pieces) (token.text ++ rest)) in
+    let place : token.start + length token.text ≡ length (head ++ token.text) = ap (λ k. k + length token.text) start ∙ sym (length-append head token.text) in
+    All-cons (IsSliceOf whole) token tokens
+    (head, rest, parts, start)
+    (slices whole (head ++ token.text) rest tokens fault (parts ∙ sym (append_assoc head token.text rest)) (subst (λ k. Lexes k rest tokens fault) place others))

@@ -1,5 +1,5 @@
 -- The faults that may stand at a place of a text where a token, a blank or a comment should begin. Each is at its first byte.
-use Rattle.std.specs.Prelude.{ℕ, ◌≡◌, ◌≢◌, ◌≤◌, ◌++◌, Bool, true, false, ◌||◌, nat_eq, List, [], ◌∷◌, length, IsTrue, ◌⊎◌, codes}
+use Rattle.std.specs.Prelude.{ℕ, ◌≡◌, ◌≢◌, ◌≤◌, ◌++◌, Bool, false, ◌||◌, nat_eq, List, [], ◌∷◌, length, IsTrue, ◌⊎◌, codes}
 use Rattle.sql_lex.specs.declared.token.LexCode.{LexCode}
 use Rattle.sql_lex.specs.declared.token.LexCode.TheVariants.{BadByte, OpenString, OpenComment, OpenName, BadNumber}
 use Rattle.sql_lex.specs.declared.token.TokenKind.{TokenKind}

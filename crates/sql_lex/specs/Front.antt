@@ -1,5 +1,5 @@
 -- The piece at the front of a text, found from its first bytes on; cited by private contracts alone.
-use Rattle.std.specs.Prelude.{ℕ, ◌+◌, Bool, true, false, ◌&&◌, ◌||◌, not, nat_eq, nat_le, if◌then◌else◌, List, [], ◌∷◌, drop, Option, Some, None, Result, Ok, Err}
+use Rattle.std.specs.Prelude.{ℕ, ◌+◌, Bool, false, ◌&&◌, ◌||◌, not, nat_eq, nat_le, if◌then◌else◌, List, [], ◌∷◌, drop, Option, Some, None, Result, Ok, Err}
 use Rattle.std.specs.List.{prefix_len}
 use Rattle.sql_lex.specs.declared.front.Piece.{Piece}
 use Rattle.sql_lex.specs.declared.front.Piece.TheVariants.{Gap, Lexeme}

@@ -1,6 +1,6 @@
 -- What a text holds from a place on, as the lexer finds it, piece by piece. That these are the text's tokens and its first fault is what
 -- the contract of `Lexer::new` says.
-use Rattle.std.specs.Prelude.{ℕ, zero, suc, ◌+◌, List, [], ◌∷◌, length, take, drop, Some, None, Result, Ok, Err}
+use Rattle.std.specs.Prelude.{ℕ, zero, suc, ◌+◌, List, [], ◌∷◌, length, take, drop, Some, Result, Ok, Err}
 use Rattle.sql_lex.specs.declared.front.Piece.{Piece}
 use Rattle.sql_lex.specs.declared.front.Piece.TheVariants as pieces
 use Rattle.sql_lex.specs.declared.token.LexCode.{LexCode}

@@ -5,11 +5,9 @@ pub mod bytes;
 mod front;
 pub mod laws;
 mod lexer;
-
-
-
+#[cfg(test)]
+mod tests;
 mod token;
-
 
 pub use lexer::Lexer;
 pub use token::{LexCode, LexFault, Token, TokenKind};

@@ -1,7 +1,7 @@
-use Rattle.std.proofs.Common.{◌≡◌, ◌≤◌, ◌<◌, ◌+◌, ℕ, List, length, arith, sym, ◌∙◌, ap, refl}
+use Rattle.std.proofs.Common.{◌+◌, arith, sym, ◌∙◌, ap, refl}
 use Rattle.sql_lex.specs.Lexing.{lexed}
 use Rattle.sql_lex.specs.Lexemes.{with_first}
-use Rattle.sql_lex.proofs.WholeTexts.{Passes, passes_gap, Gives, gives_token, gives_fault, gives_nothing, some_token, some_fault, lexed-nothing}
+use Rattle.sql_lex.proofs.WholeTexts.{passes_gap, gives_token, gives_fault, gives_nothing, some_token, some_fault, lexed-nothing}
 use Rattle.sql_lex.proofs.lexer.Lexer.next.Goals as goal
 
 pub split_at-requires : goal.split_at-requires

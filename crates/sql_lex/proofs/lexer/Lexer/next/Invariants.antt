@@ -1,4 +1,4 @@
-use Rattle.std.proofs.Common.{◌≡◌, ℕ, ◌+◌, ◌<◌, ◌^◌, length}
+use Rattle.std.proofs.Common.{◌≡◌, ◌+◌, ◌<◌, ◌^◌, length}
 use Rattle.sql_lex.specs.Lexing.{lexed}
 use Rattle.sql_lex.proofs.lexer.Lexer.next.Given as goal
 
