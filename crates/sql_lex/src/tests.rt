@@ -1,4 +1,4 @@
-use crate::{LexCode, Lexer, TokenKind};
+use crate::{LexCode, LexFault, Lexer, Token, TokenKind};
 use std::alloc::{AllocError, Global};
 use std::test::Fail;
 
@@ -22,28 +22,35 @@ fn digit(code: LexCode) -> char {
     }
 }
 
-/// The tokens of a text as `w0 word `, the fault as `E1 at 0 `, and a point for the end.
+/// A token as `w0 word `, and a fault as `E1 at 0 `.
+fn push_answer(
+    alloc: Global,
+    told: &mut Vec<u8>,
+    answer: Result<Token<'_>, LexFault>,
+) -> Result<(), AllocError> {
+    let head = match answer {
+        Ok(token) => format!(in alloc; "{}{} ", letter(token.kind), token.start)?,
+        Err(fault) => format!(in alloc; "E{} at {}", digit(fault.code), fault.at)?,
+    };
+    told.extend_from_slice(head.as_bytes())?;
+    if let Ok(token) = answer {
+        told.extend_from_slice(token.text)?;
+    }
+    told.push(b' ')?;
+    Ok(())
+}
+
+/// What the lexer answers, one by one, up to a point for the end.
 fn told(alloc: Global, text: &[u8]) -> Result<Vec<u8>, AllocError> {
     let mut lexer = Lexer::new(text);
     let mut told = Vec::new(alloc);
     for _ in 0..u64::MAX {
-        match lexer.next() {
-            Some(Ok(token)) => {
-                let head = format!(in alloc; "{}{} ", letter(token.kind), token.start)?;
-                told.extend_from_slice(head.as_bytes())?;
-                told.extend_from_slice(token.text)?;
-                told.push(b' ')?;
-            }
-            Some(Err(fault)) => {
-                let head = format!(in alloc; "E{} at {} ", digit(fault.code), fault.at)?;
-                told.extend_from_slice(head.as_bytes())?;
-            }
-            None => {
-                told.push(b'.')?;
-                return Ok(told);
-            }
-        }
+        let Some(answer) = lexer.next() else {
+            break;
+        };
+        push_answer(alloc, &mut told, answer)?;
     }
+    told.push(b'.')?;
     Ok(told)
 }
 

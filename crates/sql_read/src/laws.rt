@@ -6,7 +6,7 @@ ghost use Rattle.sql_read.specs.FirstForm.{IsFirstCase};
 ghost use Rattle.sql_read.specs.Words.{Token, HasTokens};
 
 /// No text has two lists of tokens.
-#[tactic(auto, using(crate::proofs::Tokens::same_tokens))]
+#[tactic(auto, using(crate::proofs::FirstTokens::same_tokens))]
 pub fn one_list_of_tokens()
     ensures { (at : ℕ) (text : List ℕ) (a b : List Token) →
         HasTokens at text a → HasTokens at text b → a ≡ b }
