@@ -1,5 +1,5 @@
 -- What is still to come, as the cursor keeps it.
-use Rattle.std.proofs.Common.{◌≡◌, ◌≢◌, ℕ, suc, ◌+◌, ◌<◌, ◌≤◌, ◌^◌, List, [], ◌∷◌, ◌++◌, length, drop, Option, Some, None, Result, Ok, Err, IfSome, IfOk, IfErr, IsNone, ◌↔◌, refl, sym, ap, ◌∙◌, subst, arith}
+use Rattle.std.proofs.Common.{◌≡◌, ◌≢◌, ℕ, suc, ◌+◌, ◌<◌, ◌≤◌, ◌^◌, true, List, [], ◌∷◌, ◌++◌, length, drop, map, Option, Some, None, Result, Ok, Err, IfSome, IfOk, IfErr, IsNone, ◌↔◌, refl, sym, ap, ◌∙◌, subst, arith}
 use Rattle.std.specs.List.{All, slice_index_or}
 use Rattle.std.proofs.lemmas.List.{length-append}
 use Rattle.sql_lex.specs.declared.token.Token.{Token}
@@ -7,7 +7,9 @@ use Rattle.sql_lex.specs.declared.token.LexFault.{LexFault}
 use Rattle.sql_lex.specs.Lexemes.{Lexeme, Lexed, lexeme_of, nothing, with_first, fault_alone}
 use Rattle.sql_lex.specs.Tokens.{IsSliceOf, Lexes}
 use Rattle.sql_lex.proofs.WholeTexts.{slices}
+use Rattle.sql_lex.specs.Bytes.{folded_byte}
 use Rattle.sql_read.specs.Cursor.{to_come}
+use Rattle.sql_read.specs.Refusals.{IsLeftOut, is_left_out_word, refusal_at}
 
 -- what the lexer gave and what it still holds is what it held
 pub to_come-next : (old new : Lexed) (answer : Option (Result Token LexFault))
@@ -50,3 +52,13 @@ pub passed : (next : Option (Result Token LexFault)) (lexer : Lexed) → (to_com
 passed None lexer some = absurd (some refl)
 passed (Some (Ok token)) lexer some = record { tokens = refl; fault = refl }
 passed (Some (Err fault)) lexer some = absurd (some refl)
+
+-- ---- the token that stands next
+pub below_given : (bound : ℕ) (next : Option (Result Token LexFault)) (lexer : Lexed) (given : Result Token LexFault) (token : Token)
+    → next ≡ Some given → given ≡ Ok token → Below bound (to_come next lexer).tokens → token.start < bound
+below_given bound next lexer given token e f below =
+    below_first bound (lexeme_of token) lexer.tokens (subst (λ n. Below bound (to_come n lexer).tokens) (e ∙ ap Some f) below)
+
+-- ---- refusals
+pub left_out_there : (token : Lexeme) → is_left_out_word token.kind token.text ≡ true → IsLeftOut (refusal_at token)
+left_out_there token out = (map folded_byte token.text, token.start, rw out refl)

@@ -30,3 +30,6 @@ refusal_of end (Err fault) = Lex fault
 
 abbrev pub refusal : Cursor → ReadFault
 refusal cursor = refusal_of cursor.end (next_of cursor)
+
+abbrev pub IsLeftOut : ReadFault → Type 0
+IsLeftOut fault = (word : List ℕ) × (at : ℕ) × (fault ≡ LeftOut word at)

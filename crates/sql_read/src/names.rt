@@ -1,11 +1,12 @@
 //! The names and words that tokens spell.
 ghost use Rattle.std.specs.Prelude.{◌≡◌, ◌↔◌, ℕ, List, map, false, IfOk, IfSome, IfNone, IsTrue};
 ghost use Rattle.std.specs.Option.{option_map};
-ghost use Rattle.sql_lex.specs.Bytes.{folded_byte, double_quote};
+ghost use Rattle.sql_lex.specs.Bytes.{folded_byte};
 ghost use Rattle.sql_lex.specs.Names.{SpellsName};
-ghost use Rattle.sql_read.specs.Unquoting.{undoubled};
+ghost use Rattle.sql_read.specs.Refusals.{is_left_out_word};
+ghost use Rattle.sql_read.specs.Unquoting.{quoted_name, some_name, unquoted};
 
-use crate::reserved::is_reserved;
+use crate::reserved::{is_left_out, is_reserved};
 use sql_lex::bytes::folded;
 use sql_lex::{Token, TokenKind};
 use sql_model::{Name, NoMemory};
@@ -19,10 +20,10 @@ pub fn folded_name(alloc: Global, text: &[u8]) -> Result<Name, NoMemory>
     Name::new(alloc, folded.as_slice())
 }
 
-/// The bytes without their doubled marks, each of which becomes one mark; `None` where a mark stands alone.
-#[tactic(auto, using(crate::proofs::Unquoting::undoubling))]
-fn undoubled(alloc: Global, mark: u8, bytes: &[u8]) -> Result<Option<Vec<u8>>, NoMemory>
-    ensures { IfOk result (λ found. option_map (λ inside. inside.items) found ≡ undoubled mark false bytes.now) }
+/// What stands before the mark that ends the bytes, with doubled marks made single; `None` where another mark is not doubled.
+#[tactic(auto, using(crate::proofs::Unquoting::unquoting))]
+fn unquoted(alloc: Global, mark: u8, bytes: &[u8]) -> Result<Option<Vec<u8>>, NoMemory>
+    ensures { IfOk result (λ found. option_map (λ inside. inside.items) found ≡ unquoted mark false bytes.now) }
 {
     let mut inside = Vec::new(alloc);
     let mut marked = false;
@@ -37,17 +38,39 @@ fn undoubled(alloc: Global, mark: u8, bytes: &[u8]) -> Result<Option<Vec<u8>>, N
         }
         inside.push(*byte)?;
     }
-    Ok(if marked { None } else { Some(inside) })
+    Ok(if marked { Some(inside) } else { None })
+}
+
+/// The name with these bytes, if there are any.
+fn some_name(alloc: Global, bytes: &[u8]) -> Result<Option<Name>, NoMemory>
+    ensures { IfOk result (λ found. found ≡ some_name bytes.now) }
+{
+    match bytes {
+        [] => Ok(None),
+        [_, ..] => Ok(Some(Name::new(alloc, bytes)?)),
+    }
 }
 
 /// The name in double quotes that the bytes are, if they are one.
-fn quoted_name(alloc: Global, bytes: &[u8]) -> Result<Option<Name>, NoMemory> {
-    match bytes {
-        [b'"', middle @ .., b'"'] => match undoubled(alloc, b'"', middle)? {
-            Some(inside) if !inside.is_empty() => Ok(Some(Name::new(alloc, inside.as_slice())?)),
-            _ => Ok(None),
-        },
-        _ => Ok(None),
+fn quoted_name(alloc: Global, bytes: &[u8]) -> Result<Option<Name>, NoMemory>
+    ensures { IfOk result (λ found. found ≡ quoted_name bytes.now) }
+{
+    let [b'"', rest @ ..] = bytes else {
+        return Ok(None);
+    };
+    match unquoted(alloc, b'"', rest)? {
+        Some(inside) => some_name(alloc, inside.as_slice()),
+        None => Ok(None),
+    }
+}
+
+/// Whether the token is a word that the grammar leaves out.
+pub fn is_left_out_word(token: &Token<'_>) -> bool
+    ensures { result ≡ is_left_out_word token.now.kind token.now.text.now }
+{
+    match token.kind {
+        TokenKind::Word => is_left_out(token.text),
+        _ => false,
     }
 }
 
@@ -63,9 +86,20 @@ pub fn name_of(alloc: Global, token: &Token<'_>) -> Result<Option<Name>, NoMemor
     }
 }
 
+/// Whether the text folds to this word, which is in lower case.
+fn folds_to(text: &[u8], word: &[u8]) -> bool
+    ensures { IsTrue result ↔ (map folded_byte text.now ≡ word.now) }
+{
+    text.len() == word.len()
+        && text
+            .iter()
+            .zip(word)
+            .all(|(byte, other)| folded(*byte) == *other)
+}
+
 /// Whether the token is a word that folds to this one, which is in lower case.
 pub fn is_word(token: &Token<'_>, word: &[u8]) -> bool
     ensures { IsTrue result ↔ ((token.now.kind ≡ TokenKind.Word) × (map folded_byte token.now.text.now ≡ word.now)) }
 {
-    token.kind == TokenKind::Word && token.text.iter().map(|byte| folded(*byte)).eq(word.iter().copied())
+    token.kind == TokenKind::Word && folds_to(token.text, word)
 }

@@ -1,15 +1,17 @@
 //! The tokens of a text, with what has been numbered and counted on the way.
-ghost use Rattle.std.specs.Prelude.{◌≡◌, ◌≢◌, ◌≤◌, ◌<◌, ◌^◌, [], drop, length, IfOk, None};
+ghost use Rattle.std.specs.Prelude.{◌≡◌, ◌≢◌, ◌≤◌, ◌<◌, ◌^◌, [], drop, length, IfOk, IfSome, None};
 ghost use Rattle.sql_lex.specs.Lexemes.{lexeme_of};
-ghost use Rattle.sql_read.specs.Refusals.{refusal_at};
+ghost use Rattle.sql_read.specs.Refusals.{IsLeftOut, refusal_at};
 
 use crate::fault::ReadFault;
-use crate::names::folded_name;
-use crate::reserved::is_left_out;
-use sql_lex::{LexFault, Lexer, Token, TokenKind};
+use crate::names::{folded_name, is_left_out_word};
+use sql_lex::{LexFault, Lexer, Token};
 use sql_model::{NoMemory, Symbols};
 use std::alloc::Global;
 use std::marker::Model;
+
+#[cfg(test)]
+mod tests;
 
 /// The tokens of a text that are still to come, the numbers of its symbols and literals, and the weight of the values that
 /// were copied.
@@ -62,7 +64,8 @@ impl<'a> Tokens<'a> {
 
     /// The next token, or the fault where one stands next; `None` at the end.
     pub fn peek(&self) -> Result<Option<Token<'a>>, LexFault>
-        ensures { lent result ≡ next_of self.now }
+        ensures next { lent result ≡ next_of self.now }
+        ensures place { IfOk result (λ next. IfSome next (λ token. token.start < 2 ^ 32)) }
     {
         match self.next {
             Some(Ok(token)) => Ok(Some(token)),
@@ -95,24 +98,29 @@ impl<'a> Tokens<'a> {
     /// The refusal of what stands next.
     pub fn fault(&self, alloc: Global) -> ReadFault
         ensures fault { result ≢ ReadFault.NoMemory → result ≡ refusal self.now }
+        // Memory is wanted for a left-out word alone.
+        ensures memory { result ≡ ReadFault.NoMemory → IsLeftOut (refusal self.now) }
     {
-        match self.next {
-            Some(Ok(token)) => refusal(alloc, &token).unwrap_or(ReadFault::NoMemory),
-            Some(Err(fault)) => ReadFault::Lex(fault),
-            None => ReadFault::Unexpected { at: self.end },
+        match self.peek() {
+            Ok(Some(token)) => refusal(alloc, &token),
+            Ok(None) => ReadFault::Unexpected { at: self.end },
+            Err(fault) => ReadFault::Lex(fault),
         }
     }
 }
 
 /// The refusal at a token.
-fn refusal(alloc: Global, token: &Token<'_>) -> Result<ReadFault, NoMemory>
+fn refusal(alloc: Global, token: &Token<'_>) -> ReadFault
     requires { token.now.start < 2 ^ 32 }
-    ensures { IfOk result (λ fault. fault ≡ refusal_at (lexeme_of token.now)) }
+    ensures fault { result ≢ ReadFault.NoMemory → result ≡ refusal_at (lexeme_of token.now) }
+    ensures memory { result ≡ ReadFault.NoMemory → IsLeftOut (refusal_at (lexeme_of token.now)) }
 {
     let at = token.start as u32;
-    if token.kind == TokenKind::Word && is_left_out(token.text) {
-        let word = folded_name(alloc, token.text)?;
-        return Ok(ReadFault::LeftOut { word, at });
+    if !is_left_out_word(token) {
+        return ReadFault::Unexpected { at };
     }
-    Ok(ReadFault::Unexpected { at })
+    match folded_name(alloc, token.text) {
+        Ok(word) => ReadFault::LeftOut { word, at },
+        Err(_) => ReadFault::NoMemory,
+    }
 }
