@@ -28,7 +28,7 @@ pub below_in_text : (text : List ℕ) (tokens : List Lexeme) (fault : Option Lex
 below_in_text text tokens fault bound lexes fits k d h =
     let here = slices text [] text tokens fault refl lexes k d h in
     let size : length text ≡ length here.0 + (length (slice_index_or tokens k d).text + length here.1) =
-        ap length here.2 ∙ length-append here.0 ((slice_index_or tokens k d).text ++ here.1) ∙ ap (λ n. length here.0 + n) (length-append (slice_index_or tokens k d).text here.1) in
+    ap length here.2 ∙ length-append here.0 ((slice_index_or tokens k d).text ++ here.1) ∙ ap (λ n. length here.0 + n) (length-append (slice_index_or tokens k d).text here.1) in
     omega (arith, here.3)
 
 pub below_next : (bound : ℕ) (token : Lexeme) (tokens : List Lexeme) → Below bound (token ∷ tokens) → Below bound tokens

@@ -32,7 +32,12 @@ impl<'a> Model for Tokens<'a> {
     ghost Value = { Cursor };
 
     ghost view = { λ t. record {
-        tokens = (to_come t.next t.lexer).tokens; fault = (to_come t.next t.lexer).fault; end = t.end; numbered = numbered t.symbols; copies = t.copies } };
+      tokens = (to_come t.next t.lexer).tokens;
+      fault = (to_come t.next t.lexer).fault;
+      end = t.end;
+      numbered = numbered t.symbols;
+      copies = t.copies;
+    } };
 
     ghost invariant = { λ t. All (λ token. token.start < 2 ^ 32) (to_come t.next t.lexer).tokens };
 }

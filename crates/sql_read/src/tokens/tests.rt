@@ -2,51 +2,83 @@ use crate::{ReadFault, Tokens, is_word, name_of};
 use sql_lex::{LexCode, LexFault};
 use sql_model::NoMemory;
 use std::alloc::Global;
+use std::process::Abort;
 use std::test::Fail;
 
-/// The name of the next token, which is passed.
+const MOST_BYTES: usize = 1_048_576;
+
+fn tokens_of<'a>(rt: &impl Abort, alloc: Global, text: &'a [u8]) -> Result<Tokens<'a>, NoMemory> {
+    assert!(rt; text.len() <= MOST_BYTES);
+    Tokens::new(alloc, text)
+}
+
+/// The name of the next token, or `-`; the token is passed.
 fn next_name(alloc: Global, tokens: &mut Tokens<'_>) -> Result<Vec<u8>, NoMemory> {
-    let mut name = Vec::new(alloc);
+    let mut told = Vec::new(alloc);
     if let Ok(Some(token)) = tokens.peek() {
-        if let Some(found) = name_of(alloc, &token)? {
-            name.extend_from_slice(found.as_bytes())?;
+        match name_of(alloc, &token)? {
+            Some(name) => told.extend_from_slice(name.as_bytes())?,
+            None => told.push(b'-')?,
         }
         tokens.pass();
     }
-    Ok(name)
+    Ok(told)
 }
 
 #[test]
-fn tokens_are_passed_up_to_a_fault(rt: HostRuntime) -> Result<(), Fail> {
-    let mut tokens = Tokens::new(rt.alloc(), b"Ab \"A\"\"b\" select 'x'/**/1a")?;
-    assert_eq!(rt; next_name(rt.alloc(), &mut tokens)?.as_slice(), b"ab".as_slice());
-    assert_eq!(rt; next_name(rt.alloc(), &mut tokens)?.as_slice(), b"A\"b".as_slice());
-    assert_eq!(rt; next_name(rt.alloc(), &mut tokens)?.as_slice(), b"".as_slice());
-    assert_eq!(rt; next_name(rt.alloc(), &mut tokens)?.as_slice(), b"".as_slice());
-    let fault = LexFault { code: LexCode::BadNumber, at: 24 };
-    assert!(rt; matches!(tokens.peek(), Err(found) if found == fault));
-    assert!(rt; matches!(tokens.fault(rt.alloc()), ReadFault::Lex(found) if found == fault));
-    tokens.stop();
-    assert!(rt; matches!(tokens.peek(), Ok(None)));
+fn names_are_folded_or_unquoted(rt: HostRuntime) -> Result<(), Fail> {
+    let mut tokens = tokens_of(&rt, rt.alloc(), b"Ab_1 \"A\"\"b\" Select 'x' ;")?;
+    for expected in [b"ab_1".as_slice(), b"A\"b", b"-", b"-", b"-", b""] {
+        let name = next_name(rt.alloc(), &mut tokens)?;
+        assert_eq!(rt; name.as_slice(), expected);
+    }
     let symbols = tokens.into_symbols();
     assert_eq!(rt; symbols.syms.len(), 8);
     assert_eq!(rt; symbols.lits.len(), 1);
     Ok(())
 }
 
-/// The refusal of the first token, as it is told.
-fn refusal(alloc: Global, text: &'static [u8]) -> Result<String, NoMemory> {
-    prove!(text.len() <= 1_048_576);
-    let tokens = Tokens::new(alloc, text)?;
+/// The refusal at the first token of a text.
+fn refusal(rt: &impl Abort, alloc: Global, text: &[u8]) -> Result<String, NoMemory> {
+    let tokens = tokens_of(rt, alloc, text)?;
     match tokens.fault(alloc) {
-        ReadFault::LeftOut { word, at } => {
-            let mut told = format!(in alloc; "left out at {at} ")?;
-            for byte in word.as_bytes() {
-                told.push(char::from(*byte))?;
-            }
-            Ok(told)
-        }
+        ReadFault::Lex(fault) => format!(in alloc; "lexical at {}", fault.at),
         ReadFault::Unexpected { at } => format!(in alloc; "unexpected at {at}"),
+        ReadFault::LeftOut { word, at } => {
+            format!(in alloc; "left out at {at} {}", word.as_bytes().len())
+        }
         _ => format!(in alloc; "another"),
     }
+}
+
+#[test]
+fn refusals_name_their_places(rt: HostRuntime) -> Result<(), Fail> {
+    for (text, expected) in [
+        (b" select".as_slice(), "unexpected at 1"),
+        (b" Window", "left out at 1 6"),
+        (b"ALL", "left out at 0 3"),
+        (b"\"window\"", "unexpected at 0"),
+        (b"  -- no more", "unexpected at 12"),
+        (b" 1a", "lexical at 1"),
+    ] {
+        let told = refusal(&rt, rt.alloc(), text)?;
+        assert_eq!(rt; told.as_str(), expected);
+    }
+    Ok(())
+}
+
+#[test]
+fn a_fault_stays_until_the_stop(rt: HostRuntime) -> Result<(), Fail> {
+    let mut tokens = tokens_of(&rt, rt.alloc(), b"SELECT /*")?;
+    assert!(rt; matches!(tokens.peek(), Ok(Some(token)) if is_word(&token, b"select")));
+    assert!(rt; matches!(tokens.peek(), Ok(Some(token)) if !is_word(&token, b"SELECT")));
+    next_name(rt.alloc(), &mut tokens)?;
+    let open = LexFault {
+        code: LexCode::OpenComment,
+        at: 7,
+    };
+    assert!(rt; matches!(tokens.peek(), Err(fault) if fault == open));
+    tokens.stop();
+    assert!(rt; matches!(tokens.peek(), Ok(None)));
+    Ok(())
 }

@@ -7,4 +7,4 @@ invariant_of-result c =
     let next = c.next-next.ensures in
     let held = to_come-next c.new-lexer.result c.next-next.new.self c.next-next.result next.token next.fault next.end in
     subst (λ lexed. Below (2 ^ 32) lexed.tokens) (sym held)
-        (below_in_text c.args.text.now c.new-lexer.result.tokens c.new-lexer.result.fault (2 ^ 32) c.new-lexer.ensures (omega arith))
+    (below_in_text c.args.text.now c.new-lexer.result.tokens c.new-lexer.result.fault (2 ^ 32) c.new-lexer.ensures (omega arith))
