@@ -1,5 +1,5 @@
 //! What stands at the front of a text.
-ghost use Rattle.std.specs.Prelude.{◌≡◌, ◌<◌, ◌≤◌, ◌^◌, false, length, IfSome, IfOk};
+ghost use Rattle.std.specs.Prelude.{◌≡◌, ◌<◌, ◌≤◌, ◌^◌, false, length, IfSome};
 ghost use Rattle.std.specs.List.{prefix_len};
 ghost use Rattle.sql_lex.specs.Bytes.{goes_on_word, is_digit, quote, double_quote};
 ghost use Rattle.sql_lex.specs.Classes.{is_pair, is_single};

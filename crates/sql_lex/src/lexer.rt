@@ -1,5 +1,5 @@
 //! The tokens of a text, one by one.
-ghost use Rattle.std.specs.Prelude.{◌≡◌, ◌+◌, ◌<◌, ◌^◌, ◌↔◌, length, IsNone, IfSome, IfOk, IfErr};
+ghost use Rattle.std.specs.Prelude.{◌≡◌, ◌↔◌, IsNone, IfSome, IfOk, IfErr};
 
 use crate::front::{Piece, first_piece};
 use crate::token::{LexFault, Token};

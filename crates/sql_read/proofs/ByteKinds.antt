@@ -1,7 +1,6 @@
 -- Which bytes are not of two kinds, and what folding leaves.
-use Rattle.std.proofs.Common.{◌≡◌, ℕ, suc, ◌+◌, Bool, true, false, List, [], ◌∷◌, ◌++◌, map, length, take, refl, arith, inl, inr}
-use Rattle.std.specs.List.{list_all, prefix_len}
-use Rattle.std.proofs.lemmas.Bool.{cases_Bool, and_parts, and_from}
+use Rattle.std.proofs.Common.{◌≡◌, ℕ, true, false, List, [], ◌∷◌, map, refl, arith}
+use Rattle.std.specs.List.{list_all}
 use Rattle.std.proofs.lemmas.Bool.Decides.{nat_tests}
 use Rattle.sql_lex.specs.Bytes.{is_blank, begins_word, goes_on_word, folded_byte}
 use Rattle.sql_read.specs.Words.{is_symbol}

@@ -1,11 +1,11 @@
 -- What is still to come, as the cursor keeps it.
-use Rattle.std.proofs.Common.{◌≡◌, ◌≢◌, ℕ, suc, ◌+◌, ◌<◌, ◌≤◌, ◌^◌, true, List, [], ◌∷◌, ◌++◌, length, drop, map, Option, Some, None, Result, Ok, Err, IfSome, IfOk, IfErr, IsNone, ◌↔◌, refl, sym, ap, ◌∙◌, subst, arith}
+use Rattle.std.proofs.Common.{◌≡◌, ◌≢◌, ℕ, suc, ◌+◌, ◌<◌, true, List, [], ◌∷◌, ◌++◌, length, drop, map, Option, Some, None, Result, Ok, Err, IfSome, IfOk, IfErr, IsNone, ◌↔◌, refl, sym, ap, ◌∙◌, subst, arith}
 use Rattle.std.specs.List.{All, slice_index_or}
 use Rattle.std.proofs.lemmas.List.{length-append}
 use Rattle.sql_lex.specs.declared.token.Token.{Token}
 use Rattle.sql_lex.specs.declared.token.LexFault.{LexFault}
 use Rattle.sql_lex.specs.Lexemes.{Lexeme, Lexed, lexeme_of, nothing, with_first, fault_alone}
-use Rattle.sql_lex.specs.Tokens.{IsSliceOf, Lexes}
+use Rattle.sql_lex.specs.Tokens.{Lexes}
 use Rattle.sql_lex.proofs.WholeTexts.{slices}
 use Rattle.sql_lex.specs.Bytes.{folded_byte}
 use Rattle.sql_read.specs.Cursor.{to_come}

@@ -1,5 +1,5 @@
 -- What contracts see of `Tokens`.
-use Rattle.std.specs.Prelude.{ℕ, List, [], ◌∷◌, Option, Some, None, Result, Ok, Err, map}
+use Rattle.std.specs.Prelude.{ℕ, List, [], ◌∷◌, Option, Some, None, Result, Ok, Err}
 use Rattle.sql_model.specs.declared.symbols.Lit.{Lit}
 use Rattle.sql_model.specs.declared.symbols.Symbols.{Symbols}
 use Rattle.sql_model.specs.FixedSymbols.{fixed_literals, fixed_symbols}

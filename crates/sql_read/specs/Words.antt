@@ -1,7 +1,7 @@
 -- The words and symbols of a text, each with its place (SQL, ISO/IEC 9075-2, 5.2: regular identifiers, key words and delimiters;
 -- words are folded to lower case, not to upper case). Here are those alone that the first form of a case is written with: no
 -- comments, quoted names, numbers or texts.
-use Rattle.std.specs.Prelude.{ℕ, ◌≡◌, ◌+◌, ◌++◌, Bool, false, ◌&&◌, ◌||◌, nat_eq, nat_le, if◌then◌else◌, List, [], ◌∷◌, map, length, IsTrue, ◌⊎◌, codes}
+use Rattle.std.specs.Prelude.{ℕ, ◌≡◌, ◌+◌, ◌++◌, Bool, false, nat_eq, List, [], ◌∷◌, map, length, IsTrue, ◌⊎◌, codes}
 use Rattle.std.specs.List.{list_all, list_any}
 use Rattle.sql_lex.specs.Bytes.{goes_on_word, is_blank, folded_byte}
 use Rattle.sql_lex.specs.Classes.{IsWord}

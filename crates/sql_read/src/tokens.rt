@@ -26,7 +26,7 @@ pub struct Tokens<'a> {
 }
 
 impl<'a> Model for Tokens<'a> {
-    ghost use Rattle.std.specs.Prelude.{All, ◌<◌, ◌≤◌, ◌^◌};
+    ghost use Rattle.std.specs.Prelude.{All, ◌<◌, ◌^◌};
     ghost use Rattle.sql_read.specs.Cursor.{Cursor, numbered, to_come};
 
     ghost Value = { Cursor };

@@ -1,4 +1,4 @@
-use Rattle.std.proofs.Common.{arith, subst, sym, ap, ◌^◌}
+use Rattle.std.proofs.Common.{arith, subst, sym, ◌^◌}
 use Rattle.sql_read.proofs.Cursors.{Below, to_come-next, below_in_text}
 use Rattle.sql_read.proofs.tokens.Tokens.new.Goals as goal
 
