@@ -1,9 +1,9 @@
 -- Which bytes are not of two kinds, and what folding leaves.
-use Rattle.std.proofs.Common.{◌≡◌, ℕ, suc, ◌+◌, Bool, true, false, List, [], ◌∷◌, ◌++◌, map, length, take, refl, arith, inl, inr}
-use Rattle.std.specs.List.{list_all, prefix_len}
-use Rattle.std.proofs.lemmas.Bool.{cases_Bool, and_parts, and_from}
+use Rattle.std.proofs.Common.{◌≡◌, ℕ, true, false, List, [], ◌∷◌, map, refl, arith}
+use Rattle.std.specs.List.{list_all}
 use Rattle.std.proofs.lemmas.Bool.Decides.{nat_tests}
-use Rattle.sql_read.specs.Words.{is_blank, is_symbol, begins_word, goes_on_word, folded_byte}
+use Rattle.sql_lex.specs.Bytes.{is_blank, begins_word, goes_on_word, folded_byte}
+use Rattle.sql_read.specs.Words.{is_symbol}
 
 pub symbol_no_blank : (byte : ℕ) → is_symbol byte ≡ true → is_blank byte ≡ false
 symbol_no_blank byte e = grind (arith, nat_tests)
@@ -29,18 +29,3 @@ goes_on-folded byte = grind (arith, nat_tests)
 pub all-folded : (bytes : List ℕ) → list_all goes_on_word (map folded_byte bytes) ≡ list_all goes_on_word bytes
 all-folded [] = refl
 all-folded (byte ∷ bytes) = rw (goes_on-folded byte, all-folded bytes) refl
-
--- ---- the front of a list that passes a test
-module _ (test : ℕ → Bool) where
-  pub prefix_len-front : (xs ys : List ℕ) → list_all test xs ≡ true → prefix_len test ys ≡ 0 → prefix_len test (xs ++ ys) ≡ length xs
-  prefix_len-front [] ys all stops = stops
-  prefix_len-front (x ∷ xs) ys all stops =
-      let h = and_parts (test x) (list_all test xs) all in
-      rw (h.0, prefix_len-front xs ys h.1 stops) (omega arith)
-
-  pub all-front : (xs : List ℕ) → list_all test (take (prefix_len test xs) xs) ≡ true
-  all-front [] = refl
-  all-front (x ∷ xs) = elim (cases_Bool (test x)) [
-    | inl pass ↦ let one : 1 + prefix_len test xs ≡ suc (prefix_len test xs) = omega arith in rw (pass, one) (and_from (test x) _ pass (all-front xs))
-    | inr fail ↦ rw fail refl
-  ]

@@ -14,13 +14,13 @@ use Rattle.sql_read.specs.declared.first.FirstCase.{FirstCase}
 use Rattle.sql_read.specs.declared.first.FirstFault.{FirstFault}
 use Rattle.sql_read.specs.declared.first.FirstFault.TheVariants as fault
 use Rattle.sql_read.specs.Views.{Reads}
-use Rattle.sql_read.specs.Words.{is_blank}
+use Rattle.sql_lex.specs.Bytes.{is_blank}
 use Rattle.sql_read.specs.FirstText.{TableText, QueryText, CaseText, table_parts, query_parts, case_parts}
 use Rattle.sql_read.specs.FirstTrees.{columns, relations_from, query_tree}
 use Rattle.sql_read.specs.FirstForm.{IsTable, IsBlockOver, IsQuery, IsFirst, IsFirstCase, blocks, most_columns}
 use Rattle.sql_read.specs.ReadingWords.{Rest}
 use Rattle.sql_read.specs.ReadingFirst.{width_of, tables_at, query_at, FirstRead, case_at}
-use Rattle.sql_read.proofs.Tokens.{rest_at}
+use Rattle.sql_read.proofs.FirstTokens.{rest_at}
 use Rattle.sql_read.proofs.Front.{tokens_of, front_of, Front, front-append, front-split, bind_then, guard_some, word_missed}
 use Rattle.sql_read.proofs.Differing.{each-weaker}
 use Rattle.sql_read.proofs.TableLaws.{tables_takes, tables_again}

@@ -6,7 +6,7 @@ use Rattle.std.proofs.lemmas.Bool.Decides.{nat_tests}
 use Rattle.data_model.specs.Rows.{same_row}
 use Rattle.data_model.proofs.Occurrences.{same_row-is}
 use Rattle.data_model.proofs.Sums.{equal_self}
-use Rattle.sql_read.specs.Words.{folded_byte}
+use Rattle.sql_lex.specs.Bytes.{folded_byte}
 
 folded-is : (byte : ℕ) → to_ascii_lowercase byte ≡ folded_byte byte
 folded-is byte = grind (arith, nat_tests)

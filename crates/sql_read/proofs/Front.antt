@@ -5,13 +5,15 @@ use Rattle.std.specs.List.{list_all}
 use Rattle.std.proofs.lemmas.Bool.{and_parts, not-true}
 use Rattle.data_model.specs.Rows.{same_row}
 use Rattle.data_model.proofs.Occurrences.{same_row-is}
-use Rattle.sql_read.specs.Words.{Token, HasTokens, IsWord, is_blank}
-use Rattle.sql_read.specs.Reserved.{is_reserved}
+use Rattle.sql_lex.specs.Bytes.{is_blank}
+use Rattle.sql_lex.specs.Classes.{IsWord}
+use Rattle.sql_read.specs.Words.{Token, HasTokens}
+use Rattle.sql_lex.specs.Reserved.{is_reserved}
 use Rattle.sql_read.specs.FirstText.{Part, Stands, AreParts}
 use Rattle.sql_read.specs.FirstForm.{IsName}
 use Rattle.sql_read.specs.ReadingWords.{Rest, next_token, word_at, name_at, is_word, ◌>>=◌}
 use Rattle.sql_read.proofs.Folding.{same_row-self}
-use Rattle.sql_read.proofs.Tokens.{first_token, token_before, word_spelled}
+use Rattle.sql_read.proofs.FirstTokens.{first_token, token_before, word_spelled}
 
 -- from the one place to the other there are tokens that are these parts
 abbrev pub Front : Rest → List Part → Rest → Type 0

@@ -1,7 +1,7 @@
 pub mod ByteKinds
 pub mod Folding
 pub mod Repeated
-pub mod Tokens
+pub mod FirstTokens
 pub mod Front
 pub mod Differing
 pub mod RepeatedLaws
@@ -9,3 +9,5 @@ pub mod ColumnLaws
 pub mod TableLaws
 pub mod QueryLaws
 pub mod CaseLaws
+pub mod Cursors
+pub mod Unquoting

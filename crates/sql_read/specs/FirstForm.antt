@@ -3,8 +3,9 @@ use Rattle.std.specs.Prelude.{ℕ, ◌≡◌, ◌≢◌, ◌≤◌, List, [], �
 use Rattle.data_model.specs.Lists.{Each, Has, EachPair}
 use Rattle.sql_model.specs.declared.schema.Schema.{Schema}
 use Rattle.sql_model.specs.declared.tree.Query.{Query}
-use Rattle.sql_read.specs.Words.{Token, HasTokens, IsWord}
-use Rattle.sql_read.specs.Reserved.{is_reserved}
+use Rattle.sql_lex.specs.Classes.{IsWord}
+use Rattle.sql_read.specs.Words.{Token, HasTokens}
+use Rattle.sql_lex.specs.Reserved.{is_reserved}
 use Rattle.sql_read.specs.FirstText.{ColumnText, TableText, BlockText, QueryText, CaseText, case_parts, AreParts}
 use Rattle.sql_read.specs.FirstTrees.{columns, relations_from, query_tree}
 

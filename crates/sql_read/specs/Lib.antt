@@ -1,8 +1,10 @@
 pub mod Words
-pub mod Reserved
 pub mod FirstText
 pub mod FirstTrees
 pub mod FirstForm
 pub mod ReadingWords
 pub mod ReadingFirst
 pub mod Views
+pub mod Cursor
+pub mod Refusals
+pub mod Unquoting

@@ -10,7 +10,7 @@ use Rattle.sql_model.specs.declared.tree.SetOp.TheVariants as op
 use Rattle.sql_model.specs.declared.tree.Query.{Query}
 use Rattle.sql_model.specs.declared.tree.Query.TheVariants as query
 use Rattle.sql_read.specs.FirstForm.{most_tables, most_columns, most_blocks}
-use Rattle.sql_read.specs.Words.{is_blank}
+use Rattle.sql_lex.specs.Bytes.{is_blank}
 use Rattle.sql_read.specs.FirstTrees.{block_tree}
 use Rattle.sql_read.specs.ReadingWords.{Rest, word_at, name_at, ◌>>=◌}
 

@@ -2,8 +2,9 @@
 use Rattle.std.specs.Prelude.{ℕ, ◌+◌, Bool, false, ◌&&◌, not, if◌then◌else◌, List, [], ◌∷◌, map, take, drop, Option, Some, None, option_and_then}
 use Rattle.std.specs.List.{prefix_len}
 use Rattle.data_model.specs.Rows.{same_row}
-use Rattle.sql_read.specs.Words.{Token, is_blank, is_symbol, begins_word, goes_on_word, folded_byte}
-use Rattle.sql_read.specs.Reserved.{is_reserved}
+use Rattle.sql_lex.specs.Bytes.{is_blank, begins_word, goes_on_word, folded_byte}
+use Rattle.sql_read.specs.Words.{Token, is_symbol}
+use Rattle.sql_lex.specs.Reserved.{is_reserved}
 
 -- what is left of a text, and where that begins
 pub record Rest : Type 0 where

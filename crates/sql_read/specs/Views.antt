@@ -5,7 +5,8 @@ use Rattle.sql_read.specs.declared.first.FirstFault.{FirstFault}
 use Rattle.sql_read.specs.declared.first.FirstFault.TheVariants as fault
 use Rattle.sql_read.specs.declared.words.Token.{Token as WrittenToken}
 use Rattle.sql_read.specs.declared.words.Words.{Words}
-use Rattle.sql_read.specs.Words.{Token, folded_byte}
+use Rattle.sql_lex.specs.Bytes.{folded_byte}
+use Rattle.sql_read.specs.Words.{Token}
 use Rattle.sql_read.specs.ReadingWords.{Rest, word_at}
 use Rattle.sql_read.specs.ReadingFirst.{FirstRead, case_at}
 

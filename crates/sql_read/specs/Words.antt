@@ -1,44 +1,20 @@
 -- The words and symbols of a text, each with its place (SQL, ISO/IEC 9075-2, 5.2: regular identifiers, key words and delimiters;
 -- words are folded to lower case, not to upper case). Here are those alone that the first form of a case is written with: no
 -- comments, quoted names, numbers or texts.
-use Rattle.std.specs.Prelude.{ℕ, ◌≡◌, ◌+◌, ◌++◌, Bool, false, ◌&&◌, ◌||◌, nat_eq, nat_le, if◌then◌else◌, List, [], ◌∷◌, map, length, IsTrue, ◌⊎◌, codes}
+use Rattle.std.specs.Prelude.{ℕ, ◌≡◌, ◌+◌, ◌++◌, Bool, false, nat_eq, List, [], ◌∷◌, map, length, IsTrue, ◌⊎◌, codes}
 use Rattle.std.specs.List.{list_all, list_any}
-
--- ---- bytes
-abbrev pub is_within : ℕ → ℕ → ℕ → Bool
-is_within low high byte = nat_le low byte && nat_le byte high
-
-abbrev pub is_upper : ℕ → Bool
-is_upper = is_within 65 90
-
--- a letter of ASCII or `_`
-abbrev pub begins_word : ℕ → Bool
-begins_word byte = is_upper byte || is_within 97 122 byte || nat_eq byte 95
-
--- the same or a digit
-abbrev pub goes_on_word : ℕ → Bool
-goes_on_word byte = begins_word byte || is_within 48 57 byte
-
--- space, tab, line feed or carriage return
-abbrev pub is_blank : ℕ → Bool
-is_blank byte = nat_eq byte 32 || nat_eq byte 9 || nat_eq byte 10 || nat_eq byte 13
+use Rattle.sql_lex.specs.Bytes.{goes_on_word, is_blank, folded_byte}
+use Rattle.sql_lex.specs.Classes.{IsWord}
 
 -- one of `( ) , ; *`
 abbrev pub is_symbol : ℕ → Bool
 is_symbol byte = list_any (λ symbol. nat_eq symbol byte) (codes "(),;*")
-
-abbrev pub folded_byte : ℕ → ℕ
-folded_byte byte = if is_upper byte then byte + 32 else byte
 
 -- ---- tokens
 -- a word after folding, or a symbol, and the place of its first byte in the text
 pub record Token : Type 0 where
   pub text : List ℕ
   pub at : ℕ
-
-abbrev pub IsWord : List ℕ → Type 0
-IsWord [] = ⊥
-IsWord (first ∷ rest) = IsTrue (begins_word first) × IsTrue (list_all goes_on_word rest)
 
 -- no byte here goes on with a word
 abbrev pub EndsWord : List ℕ → Type 0

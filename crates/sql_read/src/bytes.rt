@@ -1,27 +1,11 @@
 //! What the bytes of a text may begin.
 ghost use Rattle.std.specs.Prelude.{◌≡◌, ◌<◌, ◌≤◌, ◌^◌, length, IfSome};
 ghost use Rattle.std.specs.List.{prefix_len, list_all};
-ghost use Rattle.sql_read.specs.Words.{begins_word, goes_on_word, is_blank, is_symbol, folded_byte};
+ghost use Rattle.sql_lex.specs.Bytes.{begins_word, goes_on_word, is_blank, folded_byte};
+ghost use Rattle.sql_read.specs.Words.{is_symbol};
 ghost use Rattle.sql_read.specs.ReadingWords.{token_len};
 
-/// Whether the byte may begin a word: a letter of ASCII or `_`.
-pub fn begins_word(byte: u8) -> bool
-    ensures { result ≡ begins_word byte }
-{
-    byte.is_ascii_alphabetic() || byte == b'_'
-}
-
-fn goes_on_word(byte: u8) -> bool
-    ensures { result ≡ goes_on_word byte }
-{
-    begins_word(byte) || byte.is_ascii_digit()
-}
-
-fn is_blank(byte: u8) -> bool
-    ensures { result ≡ is_blank byte }
-{
-    matches!(byte, b' ' | b'\t' | b'\n' | b'\r')
-}
+use sql_lex::bytes::{begins_word, goes_on_word, is_blank};
 
 fn is_symbol(byte: u8) -> bool
     ensures { result ≡ is_symbol byte }
@@ -63,11 +47,4 @@ pub fn token_len(bytes: &[u8]) -> Option<usize>
         [first, tail @ ..] if begins_word(*first) => Some(1 + tail_len(tail)),
         _ => None,
     }
-}
-
-/// The byte, a capital letter of ASCII made small.
-pub fn folded(byte: u8) -> u8
-    ensures { result ≡ folded_byte byte }
-{
-    byte.to_ascii_lowercase()
 }

@@ -2,8 +2,8 @@
 ghost use Rattle.std.specs.Prelude.{◌≡◌, map};
 ghost use Rattle.std.specs.List.{list_any};
 ghost use Rattle.data_model.specs.Rows.{same_row};
-ghost use Rattle.sql_read.specs.Words.{folded_byte};
-ghost use Rattle.sql_read.specs.Reserved.{is_reserved};
+ghost use Rattle.sql_lex.specs.Bytes.{folded_byte};
+ghost use Rattle.sql_lex.specs.Reserved.{is_left_out, is_reserved};
 
 /// The words that the grammar of cases uses.
 const USED_WORDS: [&[u8]; 31] = [
@@ -102,4 +102,11 @@ pub fn is_reserved(text: &[u8]) -> bool
     ensures { result ≡ is_reserved (map folded_byte text.now) }
 {
     is_among(text, &USED_WORDS) || is_among(text, &LEFT_OUT_WORDS)
+}
+
+/// Whether a refusal at the word says that the grammar leaves it out.
+pub fn is_left_out(text: &[u8]) -> bool
+    ensures { result ≡ is_left_out (map folded_byte text.now) }
+{
+    is_same_word(text, b"all") || is_same_word(text, b"null") || is_among(text, &LEFT_OUT_WORDS)
 }

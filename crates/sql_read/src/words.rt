@@ -1,9 +1,11 @@
 //! The words and symbols of a text, from its front on.
 ghost use Rattle.std.specs.Prelude.{◌+◌, ◌<◌, ◌^◌, length};
 
-use crate::bytes::{are_blank, begins_word, blanks_len, folded, token_len};
+use crate::bytes::{are_blank, blanks_len, token_len};
 use crate::first::FirstFault;
+use crate::names::folded_name;
 use crate::reserved::{is_reserved, is_same_word};
+use sql_lex::bytes::begins_word;
 use sql_model::Name;
 use std::alloc::{AllocError, Global};
 
@@ -16,7 +18,7 @@ pub struct Token<'a> {
 
 impl Token<'_> {
     ghost use Rattle.std.specs.Prelude.{◌≡◌, ◌&&◌, not, IfOk};
-    ghost use Rattle.sql_read.specs.Reserved.{is_reserved};
+    ghost use Rattle.sql_lex.specs.Reserved.{is_reserved};
     ghost use Rattle.sql_read.specs.ReadingWords.{is_word};
     ghost use Rattle.sql_read.specs.Views.{token};
 
@@ -39,8 +41,7 @@ impl Token<'_> {
     pub fn to_name(&self, alloc: Global) -> Result<Name, AllocError>
         ensures { IfOk result (λ name. name ≡ (token self.now).text) }
     {
-        let folded: Vec<u8> = self.text.iter().map(|byte| folded(*byte)).collect(alloc)?;
-        Name::new(alloc, folded.as_slice())
+        folded_name(alloc, self.text)
     }
 }
 
@@ -55,7 +56,7 @@ pub struct Words<'a> {
 impl<'a> Words<'a> {
     ghost use Rattle.std.specs.Prelude.{◌≡◌, MatchOption, Some, None, map};
     ghost use Rattle.std.specs.List.{list_all};
-    ghost use Rattle.sql_read.specs.Words.{is_blank, folded_byte};
+    ghost use Rattle.sql_lex.specs.Bytes.{is_blank, folded_byte};
     ghost use Rattle.sql_read.specs.ReadingWords.{next_token, word_at, name_at};
     ghost use Rattle.sql_read.specs.Views.{rest, start, token, Gives, Eats};
 

@@ -7,9 +7,12 @@ use Rattle.std.proofs.lemmas.List.Folds.{length-prefix_len}
 use Rattle.std.proofs.lemmas.Option.{some_pair_parts}
 use Rattle.std.proofs.lemmas.List.Prefix.{front_rest}
 use Rattle.std.proofs.lemmas.Bool.{cases_Bool, and_parts, false≢true}
-use Rattle.sql_read.specs.Words.{Token, IsWord, EndsWord, IsSpelling, HasTokens, is_blank, is_symbol, begins_word, goes_on_word, folded_byte}
+use Rattle.sql_lex.specs.Bytes.{is_blank, begins_word, goes_on_word, folded_byte}
+use Rattle.sql_lex.specs.Classes.{IsWord}
+use Rattle.sql_read.specs.Words.{Token, EndsWord, IsSpelling, HasTokens, is_symbol}
 use Rattle.sql_read.specs.ReadingWords.{Rest, past, token_len, token_of, next_token, is_word}
-use Rattle.sql_read.proofs.ByteKinds.{symbol_no_blank, symbol_no_word, word_no_blank, word_no_symbol, folded-symbol, begins-folded, all-folded, prefix_len-front, all-front}
+use Rattle.sql_read.proofs.ByteKinds.{symbol_no_blank, symbol_no_word, word_no_blank, word_no_symbol, folded-symbol, begins-folded, all-folded}
+use Rattle.sql_lex.proofs.Prefixes.{prefix_len-front, all-front}
 
 abbrev pub rest_at : ℕ → List ℕ → Rest
 rest_at at text = record { at = at; text = text }

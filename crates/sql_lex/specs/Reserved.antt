@@ -24,3 +24,7 @@ left_out_words =
 
 abbrev pub is_reserved : List ℕ → Bool
 is_reserved word = list_any (same_row word) used_words || list_any (same_row word) left_out_words
+
+-- Words at which a refusal says that the grammar leaves them out: those of that list, and two that it uses in few places.
+abbrev pub is_left_out : List ℕ → Bool
+is_left_out word = list_any (same_row word) (codes "all" ∷ codes "null" ∷ left_out_words)

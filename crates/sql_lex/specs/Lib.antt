@@ -1,0 +1,10 @@
+pub mod Bytes
+pub mod Reserved
+pub mod Lexemes
+pub mod Classes
+pub mod Gaps
+pub mod Faults
+pub mod Tokens
+pub mod Names
+pub mod Front
+pub mod Lexing

@@ -1,0 +1,64 @@
+-- What is still to come, as the cursor keeps it.
+use Rattle.std.proofs.Common.{◌≡◌, ◌≢◌, ℕ, suc, ◌+◌, ◌<◌, true, List, [], ◌∷◌, ◌++◌, length, drop, map, Option, Some, None, Result, Ok, Err, IfSome, IfOk, IfErr, IsNone, ◌↔◌, refl, sym, ap, ◌∙◌, subst, arith}
+use Rattle.std.specs.List.{All, slice_index_or}
+use Rattle.std.proofs.lemmas.List.{length-append}
+use Rattle.sql_lex.specs.declared.token.Token.{Token}
+use Rattle.sql_lex.specs.declared.token.LexFault.{LexFault}
+use Rattle.sql_lex.specs.Lexemes.{Lexeme, Lexed, lexeme_of, nothing, with_first, fault_alone}
+use Rattle.sql_lex.specs.Tokens.{Lexes}
+use Rattle.sql_lex.proofs.WholeTexts.{slices}
+use Rattle.sql_lex.specs.Bytes.{folded_byte}
+use Rattle.sql_read.specs.Cursor.{to_come}
+use Rattle.sql_read.specs.Refusals.{IsLeftOut, is_left_out_word, refusal_at}
+
+-- what the lexer gave and what it still holds is what it held
+pub to_come-next : (old new : Lexed) (answer : Option (Result Token LexFault))
+    → IfSome answer (λ a. IfOk a (λ token. old ≡ with_first (lexeme_of token) new))
+    → IfSome answer (λ a. IfErr a (λ fault. (old ≡ fault_alone fault) × (new ≡ nothing)))
+    → (IsNone answer ↔ (old ≡ nothing)) → to_come answer new ≡ old
+to_come-next old new None token fault end = sym (end.0 refl)
+to_come-next old new (Some (Ok t)) token fault end = sym token
+to_come-next old new (Some (Err f)) token fault end = sym fault.0
+
+-- ---- places
+abbrev pub Below : ℕ → List Lexeme → Type 0
+Below bound tokens = All (λ token. token.start < bound) tokens
+
+pub below_in_text : (text : List ℕ) (tokens : List Lexeme) (fault : Option LexFault) (bound : ℕ) → Lexes 0 text tokens fault → length text < bound → Below bound tokens
+below_in_text text tokens fault bound lexes fits k d h =
+    let here = slices text [] text tokens fault refl lexes k d h in
+    let size : length text ≡ length here.0 + (length (slice_index_or tokens k d).text + length here.1) =
+    ap length here.2 ∙ length-append here.0 ((slice_index_or tokens k d).text ++ here.1) ∙ ap (λ n. length here.0 + n) (length-append (slice_index_or tokens k d).text here.1) in
+    omega (arith, here.3)
+
+pub below_next : (bound : ℕ) (token : Lexeme) (tokens : List Lexeme) → Below bound (token ∷ tokens) → Below bound tokens
+below_next bound token tokens below k d h = below (suc k) d (omega arith)
+
+pub below_first : (bound : ℕ) (token : Lexeme) (tokens : List Lexeme) → Below bound (token ∷ tokens) → token.start < bound
+below_first bound token tokens below = below 0 token (omega arith)
+
+-- the tokens that the lexer holds are to come, behind the one that it gave
+pub below_held : (bound : ℕ) (next : Option (Result Token LexFault)) (lexer : Lexed) → (to_come next lexer).tokens ≢ [] → Below bound (to_come next lexer).tokens → Below bound lexer.tokens
+below_held bound None lexer some below = absurd (some refl)
+below_held bound (Some (Ok token)) lexer some below = below_next bound (lexeme_of token) lexer.tokens below
+below_held bound (Some (Err fault)) lexer some below = absurd (some refl)
+
+-- ---- passing
+pub record Passed (next : Option (Result Token LexFault)) (lexer : Lexed) : Type 0 where
+  pub tokens : lexer.tokens ≡ drop 1 (to_come next lexer).tokens
+  pub fault : lexer.fault ≡ (to_come next lexer).fault
+
+pub passed : (next : Option (Result Token LexFault)) (lexer : Lexed) → (to_come next lexer).tokens ≢ [] → Passed next lexer
+passed None lexer some = absurd (some refl)
+passed (Some (Ok token)) lexer some = record { tokens = refl; fault = refl }
+passed (Some (Err fault)) lexer some = absurd (some refl)
+
+-- ---- the token that stands next
+pub below_given : (bound : ℕ) (next : Option (Result Token LexFault)) (lexer : Lexed) (given : Result Token LexFault) (token : Token)
+    → next ≡ Some given → given ≡ Ok token → Below bound (to_come next lexer).tokens → token.start < bound
+below_given bound next lexer given token e f below =
+    below_first bound (lexeme_of token) lexer.tokens (subst (λ n. Below bound (to_come n lexer).tokens) (e ∙ ap Some f) below)
+
+-- ---- refusals
+pub left_out_there : (token : Lexeme) → is_left_out_word token.kind token.text ≡ true → IsLeftOut (refusal_at token)
+left_out_there token out = (map folded_byte token.text, token.start, rw out refl)

@@ -1,0 +1,131 @@
+//! The tokens of a text, with what has been numbered and counted on the way.
+ghost use Rattle.std.specs.Prelude.{◌≡◌, ◌≢◌, ◌≤◌, ◌<◌, ◌^◌, [], drop, length, IfOk, IfSome, None};
+ghost use Rattle.sql_lex.specs.Lexemes.{lexeme_of};
+ghost use Rattle.sql_read.specs.Refusals.{IsLeftOut, refusal_at};
+
+use crate::fault::ReadFault;
+use crate::names::{folded_name, is_left_out_word};
+use sql_lex::{LexFault, Lexer, Token};
+use sql_model::{NoMemory, Symbols};
+use std::alloc::Global;
+use std::marker::Model;
+
+#[cfg(test)]
+mod tests;
+
+/// The tokens of a text that are still to come, the numbers of its symbols and literals, and the weight of the values that
+/// were copied.
+#[derive(Drop)]
+pub struct Tokens<'a> {
+    lexer: Lexer<'a>,
+    /// What the lexer gave last.
+    next: Option<Result<Token<'a>, LexFault>>,
+    end: u32,
+    symbols: Symbols,
+    copies: u32,
+}
+
+impl<'a> Model for Tokens<'a> {
+    ghost use Rattle.std.specs.Prelude.{All, ◌<◌, ◌^◌};
+    ghost use Rattle.sql_read.specs.Cursor.{Cursor, numbered, to_come};
+
+    ghost Value = { Cursor };
+
+    ghost view = { λ t. record {
+      tokens = (to_come t.next t.lexer).tokens;
+      fault = (to_come t.next t.lexer).fault;
+      end = t.end;
+      numbered = numbered t.symbols;
+      copies = t.copies;
+    } };
+
+    ghost invariant = { λ t. All (λ token. token.start < 2 ^ 32) (to_come t.next t.lexer).tokens };
+}
+
+impl<'a> Tokens<'a> {
+    ghost use Rattle.sql_lex.specs.Tokens.{Lexes};
+    ghost use Rattle.sql_read.specs.Cursor.{fixed_numbered, lent, next_of, numbered};
+    ghost use Rattle.sql_read.specs.Refusals.{refusal};
+
+    /// Before the first token of the text.
+    pub fn new(alloc: Global, text: &'a [u8]) -> Result<Tokens<'a>, NoMemory>
+        requires { length text.now ≤ 1048576 }
+        ensures tokens { IfOk result (λ tokens. Lexes 0 text.now tokens.tokens tokens.fault) }
+        ensures end { IfOk result (λ tokens. tokens.end ≡ length text.now) }
+        ensures numbered { IfOk result (λ tokens. tokens.numbered ≡ fixed_numbered) }
+        ensures copies { IfOk result (λ tokens. tokens.copies ≡ 0) }
+    {
+        let symbols = Symbols::new(alloc)?;
+        let mut lexer = Lexer::new(text);
+        let next = lexer.next();
+        Ok(Tokens {
+            lexer,
+            next,
+            end: text.len() as u32,
+            symbols,
+            copies: 0,
+        })
+    }
+
+    /// The next token, or the fault where one stands next; `None` at the end.
+    pub fn peek(&self) -> Result<Option<Token<'a>>, LexFault>
+        ensures next { lent result ≡ next_of self.now }
+        ensures place { IfOk result (λ next. IfSome next (λ token. token.start < 2 ^ 32)) }
+    {
+        match self.next {
+            Some(Ok(token)) => Ok(Some(token)),
+            Some(Err(fault)) => Err(fault),
+            None => Ok(None),
+        }
+    }
+
+    /// Passes the next token.
+    pub fn pass(&mut self)
+        requires { self.old.tokens ≢ [] }
+        ensures { self.new ≡ record self.old { tokens = drop 1 self.old.tokens } }
+    {
+        self.next = self.lexer.next();
+    }
+
+    /// Passes all that is left, so that nothing stands next.
+    pub fn stop(&mut self)
+        ensures { self.new ≡ record self.old { tokens = []; fault = None } }
+    {
+        self.next = None;
+    }
+
+    pub fn into_symbols(self) -> Symbols
+        ensures { numbered result ≡ self.entry.numbered }
+    {
+        self.symbols
+    }
+
+    /// The refusal of what stands next.
+    pub fn fault(&self, alloc: Global) -> ReadFault
+        ensures fault { result ≢ ReadFault.NoMemory → result ≡ refusal self.now }
+        // Memory is wanted for a left-out word alone.
+        ensures memory { result ≡ ReadFault.NoMemory → IsLeftOut (refusal self.now) }
+    {
+        match self.peek() {
+            Ok(Some(token)) => refusal(alloc, &token),
+            Ok(None) => ReadFault::Unexpected { at: self.end },
+            Err(fault) => ReadFault::Lex(fault),
+        }
+    }
+}
+
+/// The refusal at a token.
+fn refusal(alloc: Global, token: &Token<'_>) -> ReadFault
+    requires { token.now.start < 2 ^ 32 }
+    ensures fault { result ≢ ReadFault.NoMemory → result ≡ refusal_at (lexeme_of token.now) }
+    ensures memory { result ≡ ReadFault.NoMemory → IsLeftOut (refusal_at (lexeme_of token.now)) }
+{
+    let at = token.start as u32;
+    if !is_left_out_word(token) {
+        return ReadFault::Unexpected { at };
+    }
+    match folded_name(alloc, token.text) {
+        Ok(word) => ReadFault::LeftOut { word, at },
+        Err(_) => ReadFault::NoMemory,
+    }
+}
