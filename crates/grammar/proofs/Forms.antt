@@ -1,5 +1,5 @@
 -- What holds of the languages of names holds of the languages of forms: they have fronts, and grow with the names' languages and the room.
-use Rattle.std.proofs.Common.{◌≡◌, ℕ, zero, suc, ◌≤◌, List, [], ◌∷◌, inl, inr, Some, None, arith}
+use Rattle.std.proofs.Common.{◌≡◌, ℕ, zero, suc, ◌≤◌, List, [], ◌∷◌, inl, inr, Some, None, Option, arith}
 use Rattle.grammar.specs.Language.{Language, Includes, HasFronts, Concatenates, no_language, star_language, upto_language}
 use Rattle.grammar.specs.Form.{Form, Room, IsRoomier, empty, token, seq, alt, star, nest, map, only, counted, fork, ref, form_language, repeated}
 use Rattle.grammar.proofs.Fronts.{empty_fronts, token_fronts, seq_fronts, alt_fronts, star_fronts, upto_fronts, map_fronts, only_fronts, counted_fronts, bind_fronts, branch_fronts, no_fronts}
@@ -24,9 +24,10 @@ concatenates_more S R m ts (v ∷ vs) (x, y, e, s, r) = (x, y, e, m x v s, conca
 -- ---- fronts
 
 module _ {T K N : Type 0} {V : N → Type 0} (kind : T → K) (E : Room → (n : N) → Language T (V n)) (e : (room : Room) (n : N) → HasFronts (E room n)) where
-  repeated_fronts : {A : Type 0} (room : Room) (most : ℕ) (L : Language T A) → HasFronts L → HasFronts (repeated room most L)
+  repeated_fronts : {A : Type 0} (room : Room) (most : Option ℕ) (L : Language T A) → HasFronts L → HasFronts (repeated room most L)
   repeated_fronts None most L l = star_fronts L l
-  repeated_fronts (Some levels) most L l = upto_fronts L l most
+  repeated_fronts (Some levels) None L l = star_fronts L l
+  repeated_fronts (Some levels) (Some most) L l = upto_fronts L l most
 
   pub form_fronts : {A : Type 0} (f : Form T K N V A) (room : Room) → HasFronts (form_language kind E room f)
   form_fronts empty room = empty_fronts
@@ -48,7 +49,7 @@ module _ {T K N : Type 0} {V : N → Type 0} (kind : T → K) (E : Room → (n :
 -- ---- growth
 
 module _ {T A : Type 0} (L M : Language T A) (m : Includes M L) where
-  star_grows : Includes (star_language M) (star_language L)
+  pub star_grows : Includes (star_language M) (star_language L)
   star_grows = record { spells = concatenates_more _ _ m.spells; front = front }
     where
       front : (ts : List T) → (star_language L).front ts → (star_language M).front ts
@@ -69,11 +70,13 @@ module _ {T A : Type 0} (L M : Language T A) (m : Includes M L) where
       front ts (inl e) = inl e
       front ts (inr (x, y, vs, e, s, f, n)) = inr (x, y, vs, e, concatenates_more _ _ m.spells x vs s, m.front y f)
 
-  pub repeated_grows : (most : ℕ) (small large : Room) → IsRoomier small large → Includes (repeated large most M) (repeated small most L)
+  pub repeated_grows : (most : Option ℕ) (small large : Room) → IsRoomier small large → Includes (repeated large most M) (repeated small most L)
   repeated_grows most None None w = star_grows
   repeated_grows most None (Some levels) w = absurd w
-  repeated_grows most (Some few) None w = star_includes_upto most
-  repeated_grows most (Some few) (Some levels) w = upto_grows most
+  repeated_grows None (Some few) None w = star_grows
+  repeated_grows (Some most) (Some few) None w = star_includes_upto most
+  repeated_grows None (Some few) (Some levels) w = star_grows
+  repeated_grows (Some most) (Some few) (Some levels) w = upto_grows most
 
 module _ {T K N : Type 0} {V : N → Type 0} (kind : T → K) (E F : Room → (n : N) → Language T (V n))
     (b : (room : Room) (n : N) → HasFronts (F room n))

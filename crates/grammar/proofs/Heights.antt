@@ -85,7 +85,8 @@ module _ {T K N : Type 0} {V : N → Type 0} (kind : T → K) (rules : Rules T K
   spelled (alt f g) room ts v (inl s) = let p = spelled f room ts v s in (p.0, inl p.1)
   spelled (alt f g) room ts v (inr s) = let p = spelled g room ts v s in (p.0, inr p.1)
   spelled (star most f) None ts v s = all_spelled f None (form_language kind All None f) (spelled f None) ts v s
-  spelled (star most f) (Some levels) ts v s =
+  spelled (star None f) (Some levels) ts v s = all_spelled f (Some levels) (form_language kind All (Some levels) f) (spelled f (Some levels)) ts v s
+  spelled (star (Some most) f) (Some levels) ts v s =
       let p = all_spelled f (Some levels) (form_language kind All (Some levels) f) (spelled f (Some levels)) ts v s.0 in (p.0, (p.1, s.1))
   spelled (nest f) None ts v s = spelled f None ts v s
   spelled (nest f) (Some zero) ts v s = absurd s
@@ -115,8 +116,13 @@ module _ {T K N : Type 0} {V : N → Type 0} (kind : T → K) (rules : Rules T K
   begun (star most f) None ts (inr (x, y, vs, e, s, r)) =
       let p = all_spelled f None (form_language kind All None f) (spelled f None) x vs s in let q = begun f None y r in let a = above p.0 q.0 in
       (a.top, inr (x, y, vs, e, concatenates_more _ _ (lift f None a.left).spells x vs p.1, (lift f None a.right).front y q.1))
-  begun (star most f) (Some levels) ts (inl e) = (zero, inl e)
-  begun (star most f) (Some levels) ts (inr (x, y, vs, e, s, r, n)) =
+  begun (star None f) (Some levels) ts (inl e) = (zero, inl e)
+  begun (star None f) (Some levels) ts (inr (x, y, vs, e, s, r)) =
+      let p = all_spelled f (Some levels) (form_language kind All (Some levels) f) (spelled f (Some levels)) x vs s in
+      let q = begun f (Some levels) y r in let a = above p.0 q.0 in
+      (a.top, inr (x, y, vs, e, concatenates_more _ _ (lift f (Some levels) a.left).spells x vs p.1, (lift f (Some levels) a.right).front y q.1))
+  begun (star (Some most) f) (Some levels) ts (inl e) = (zero, inl e)
+  begun (star (Some most) f) (Some levels) ts (inr (x, y, vs, e, s, r, n)) =
       let p = all_spelled f (Some levels) (form_language kind All (Some levels) f) (spelled f (Some levels)) x vs s in
       let q = begun f (Some levels) y r in let a = above p.0 q.0 in
       (a.top, inr (x, y, vs, e, concatenates_more _ _ (lift f (Some levels) a.left).spells x vs p.1, (lift f (Some levels) a.right).front y q.1, n))

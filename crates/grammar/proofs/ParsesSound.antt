@@ -79,7 +79,10 @@ module _ {T K N : Type 0} {V : N → Type 0} (kind : T → K) (E : Room → (n :
   form_sound (star most f) None ts =
       sound_in (upto_language (length ts) (of f None)) (star_language (of f None)) ts (λ x v s. s.0) (repeated_parses (length ts) (ps f None) ts)
       (repeated_sound (of f None) (ps f None) (form_sound f None) (length ts) ts)
-  form_sound (star most f) (Some levels) ts = repeated_sound (of f (Some levels)) (ps f (Some levels)) (form_sound f (Some levels)) most ts
+  form_sound (star None f) (Some levels) ts =
+      sound_in (upto_language (length ts) (of f (Some levels))) (star_language (of f (Some levels))) ts (λ x v s. s.0) (repeated_parses (length ts) (ps f (Some levels)) ts)
+      (repeated_sound (of f (Some levels)) (ps f (Some levels)) (form_sound f (Some levels)) (length ts) ts)
+  form_sound (star (Some most) f) (Some levels) ts = repeated_sound (of f (Some levels)) (ps f (Some levels)) (form_sound f (Some levels)) most ts
   form_sound (nest f) None ts = form_sound f None ts
   form_sound (nest f) (Some zero) ts = tt
   form_sound (nest f) (Some (suc levels)) ts = form_sound f (Some levels) ts

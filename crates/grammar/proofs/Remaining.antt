@@ -1,5 +1,5 @@
 -- The steps of a reader: how what remains to be read of a form becomes what remains of its parts.
-use Rattle.std.proofs.Common.{◌≡◌, ℕ, zero, suc, Bool, true, not, ◌&&◌, List, [], ◌∷◌, ◌⊎◌, inl, inr, sym, subst, length, ◌+◌, Some, None}
+use Rattle.std.proofs.Common.{◌≡◌, ℕ, zero, Bool, true, not, ◌&&◌, List, [], ◌∷◌, ◌⊎◌, inl, inr, sym, subst, length, ◌+◌, Some, Option, None}
 use Rattle.grammar.specs.Language.{Language, branch}
 use Rattle.grammar.specs.Form.{Form, seq, alt, star, nest, map, counted, fork, ref}
 use Rattle.grammar.specs.Lookahead.{Lookahead, PredictiveGrammar, are_apart, either_lookahead}
@@ -10,6 +10,7 @@ use Rattle.grammar.proofs.Steps.{IsWithin, took_in, failed_in, exceeded_in, map_
 use Rattle.grammar.proofs.Choices as c
 use Rattle.grammar.proofs.Choices.{is_absent}
 use Rattle.grammar.proofs.Repetitions as r
+use Rattle.grammar.proofs.Repetitions.{once_more}
 use Rattle.grammar.proofs.Predictions.{free, bounded, ok, ahead, known, within, produced}
 
 pub remains_whole : {T A : Type 0} (U B : Language T A) (ts : List T) → Remains U B ts U B ts (λ v. v)
@@ -180,7 +181,7 @@ module _ {T K N : Type 0} {V : N → Type 0} (g : PredictiveGrammar T K N V) (d 
 
     -- ---- any number of times
 
-    module _ {C : Type 0} (m : ℕ) (f : Form T K N V C) (o : ok g (star m f) ≡ true) where
+    module _ {C : Type 0} (most : Option ℕ) (f : Form T K N V C) (o : ok g (star most f) ≡ true) where
       abbrev goes_on : Bool
       goes_on = not (ahead g f).nullable && are_apart g.kinds (ahead g f).last (ahead g f).first
 
@@ -195,34 +196,37 @@ module _ {T K N : Type 0} {V : N → Type 0} (g : PredictiveGrammar T K N V) (d 
           (and_right (not (ahead g f).nullable) (are_apart g.kinds (ahead g f).last (ahead g f).first) (and_right (ok g f) goes_on o))
 
       -- none follows
-      pub left_end : (here : List T) (h : List C → A) → Left (star m f) here h → is_absent g.kind (ahead g f) here ≡ true → Took L L' start (h []) here
-      left_end here h l n = l.took [] here (r.star_end g.kind _ _ (ahead g f) star_known (within g d f) never_null star_parted m here n)
+      pub left_end : (here : List T) (h : List C → A) → Left (star most f) here h → is_absent g.kind (ahead g f) here ≡ true → Took L L' start (h []) here
+      left_end here h l n = l.took [] here (r.star_end g.kind _ _ (ahead g f) star_known (within g d f) never_null star_parted d most here n)
 
-    module _ {C : Type 0} (m : ℕ) (f : Form T K N V C) (o : ok g (star (suc m) f) ≡ true) (here : List T) (h : List C → A) (l : Left (star (suc m) f) here h) where
+    module _ {C : Type 0} (most : Option ℕ) (f : Form T K N V C) (o : ok g (star (once_more most) f) ≡ true) (here : List T) (h : List C → A) (l : Left (star (once_more most) f) here h) where
+      p : ok g (star most f) ≡ true
+      p = o
+
       -- one was read
-      pub left_next : (v : C) (mid : List T) → Took (free g f) (bounded g d f) here v mid → Left (star m f) mid (λ vs. h (v ∷ vs))
+      pub left_next : (v : C) (mid : List T) → Took (free g f) (bounded g d f) here v mid → Left (star most f) mid (λ vs. h (v ∷ vs))
       left_next v mid t = record {
-        took = λ vs rest s. l.took (v ∷ vs) rest (r.star_took g.kind _ _ (ahead g f) (star_known m f o) (within g d f) (never_null m f o) (star_parted m f o) m here v mid vs rest t s);
-        failed = λ rest s. l.failed rest (r.star_then_failed g.kind _ _ (ahead g f) (star_known m f o) (within g d f) (never_null m f o) (star_parted m f o) m here v mid rest t s);
-        exceeded = λ rest s. l.exceeded rest (r.star_then_exceeded g.kind _ _ (ahead g f) (star_known m f o) (within g d f) (never_null m f o) (star_parted m f o) m here v mid rest t s);
+        took = λ vs rest s. l.took (v ∷ vs) rest (r.star_took g.kind _ _ (ahead g f) (star_known most f p) (within g d f) (never_null most f p) (star_parted most f p) d most here v mid vs rest t s);
+        failed = λ rest s. l.failed rest (r.star_then_failed g.kind _ _ (ahead g f) (star_known most f p) (within g d f) (never_null most f p) (star_parted most f p) d most here v mid rest t s);
+        exceeded = λ rest s. l.exceeded rest (r.star_then_exceeded g.kind _ _ (ahead g f) (star_known most f p) (within g d f) (never_null most f p) (star_parted most f p) d most here v mid rest t s);
       }
 
       -- one more begins
       pub left_next_failed : (t : T) (more : List T) → here ≡ t ∷ more → (free g f).front (t ∷ []) → (rest : List T) → Failed (free g f) (bounded g d f) here rest → Failed L L' start rest
       left_next_failed t more i b rest s =
-          l.failed rest (subst (λ z. Failed (free g (star (suc m) f)) (bounded g d (star (suc m) f)) z rest) (sym i)
-          (r.star_failed g.kind _ _ (ahead g f) (star_known m f o) (within g d f) (never_null m f o) (star_parted m f o) m t more rest b
+          l.failed rest (subst (λ z. Failed (free g (star (once_more most) f)) (bounded g d (star (once_more most) f)) z rest) (sym i)
+          (r.star_failed g.kind _ _ (ahead g f) (star_known most f p) (within g d f) (never_null most f p) (star_parted most f p) d most t more rest b
           (subst (λ z. Failed (free g f) (bounded g d f) z rest) i s)))
 
       pub left_next_exceeded : (rest : List T) → Exceeded (free g f) (bounded g d f) here rest → Exceeded L L' start rest
-      left_next_exceeded rest s = l.exceeded rest (r.star_exceeded g.kind _ _ (ahead g f) (star_known m f o) (within g d f) (never_null m f o) (star_parted m f o) m here rest s)
+      left_next_exceeded rest s = l.exceeded rest (r.star_exceeded g.kind _ _ (ahead g f) (star_known most f p) (within g d f) (never_null most f p) (star_parted most f p) d most here rest s)
 
     -- so many were read as the limit allows, and one more begins
-    pub left_full : {C : Type 0} (f : Form T K N V C) (o : ok g (star zero f) ≡ true) (here : List T) (h : List C → A) → Left (star zero f) here h
+    pub left_full : {C : Type 0} (f : Form T K N V C) (o : ok g (star (Some zero) f) ≡ true) (here : List T) (h : List C → A) → Left (star (Some zero) f) here h
         → (t : T) (more : List T) → here ≡ t ∷ more → (free g f).front (t ∷ []) → Exceeded L L' start here
     left_full f o here h l t more i b =
-        l.exceeded here (subst (λ z. Exceeded (free g (star zero f)) (bounded g d (star zero f)) z z) (sym i)
-        (r.star_full g.kind _ _ (ahead g f) (star_known zero f o) (within g d f) (never_null zero f o) (star_parted zero f o) t more b))
+        l.exceeded here (subst (λ z. Exceeded (free g (star (Some zero) f)) (bounded g d (star (Some zero) f)) z z) (sym i)
+        (r.star_full g.kind _ _ (ahead g f) (star_known (Some zero) f o) (within g d f) (never_null (Some zero) f o) (star_parted (Some zero) f o) d t more b))
 
   -- with the number of tokens that were taken
   pub took_counted : {C : Type 0} (f : Form T K N V C) (here : List T) (v : C) (rest : List T) (count : ℕ) → length here ≡ count + length rest

@@ -1,5 +1,5 @@
 -- Where a table computes to be right, the language of each name and form is known.
-use Rattle.std.proofs.Common.{◌≡◌, ℕ, zero, suc, Bool, true, not, ◌&&◌, ◌||◌, List, [], ◌∷◌, ◌++◌, Some, None}
+use Rattle.std.proofs.Common.{◌≡◌, ℕ, zero, suc, Bool, true, not, ◌&&◌, ◌||◌, List, [], ◌∷◌, ◌++◌, Some, None, Option}
 use Rattle.grammar.specs.Language.{Language, branch, star_language, upto_language}
 use Rattle.grammar.specs.Form.{Form, Rules, Room, empty, token, seq, alt, star, nest, map, only, counted, fork, ref, form_language, repeated, language_within, language}
 use Rattle.grammar.specs.Lookahead.{Lookahead, AreAll, are_apart, is_inside, is_narrower, is_predictive, is_right, lookahead, either_lookahead, star_lookahead}
@@ -10,10 +10,11 @@ use Rattle.grammar.proofs.Heights.{name_fronts, spelled_at, front_at, spelled_an
 use Rattle.grammar.proofs.Known.{Known, narrowed, no_known, empty_known, token_known, map_known, only_known, counted_known, bind_known, seq_known, alt_known, branch_known, star_known}
 
 module _ {T K : Type 0} (kind : T → K) (kinds : List K) (all : AreAll kinds) where
-  repeated_known : {A : Type 0} (L : Language T A) (a : Lookahead K) (room : Room) (most : ℕ) → Known kind L a → Known kind (star_language L) (star_lookahead a) → Known kind (repeated room most L) (star_lookahead a)
+  repeated_known : {A : Type 0} (L : Language T A) (a : Lookahead K) (room : Room) (most : Option ℕ) → Known kind L a → Known kind (star_language L) (star_lookahead a) → Known kind (repeated room most L) (star_lookahead a)
   repeated_known L a None most l k = k
-  repeated_known L a (Some levels) most l k =
-      narrowed kind (upto_language most L) (star_language L) (star_lookahead a) (repeated_grows L L (includes_itself L) most (Some levels) None tt) (upto_fronts L l.fronts most) k
+  repeated_known L a (Some levels) None l k = k
+  repeated_known L a (Some levels) (Some most) l k =
+      narrowed kind (upto_language most L) (star_language L) (star_lookahead a) (repeated_grows L L (includes_itself L) (Some most) (Some levels) None tt) (upto_fronts L l.fronts most) k
 
   pub weaker : {A : Type 0} (L : Language T A) (a b : Lookahead K) → is_narrower kinds a b ≡ true → Known kind L a → Known kind L b
   weaker L a b n l =

@@ -9,8 +9,8 @@ pub data Form (T K N : Type 0) (V : N → Type 0) : Type 0 → Type 1 where
   token : (K → Bool) → Form T K N V T
   seq : {A B : Type 0} → Form T K N V A → Form T K N V B → Form T K N V (A × B)
   alt : {A : Type 0} → Form T K N V A → Form T K N V A → Form T K N V A
-  -- any number of times, but within the limits at most so often
-  star : {A : Type 0} → ℕ → Form T K N V A → Form T K N V (List A)
+  -- any number of times; within the limits at most so often, where a number is given
+  star : {A : Type 0} → Option ℕ → Form T K N V A → Form T K N V (List A)
   -- one level deeper
   nest : {A : Type 0} → Form T K N V A → Form T K N V A
   -- the same tokens, with another value
@@ -37,9 +37,10 @@ IsRoomier room None = Unit {0}
 IsRoomier None (Some levels) = ⊥
 IsRoomier (Some few) (Some levels) = few ≤ levels
 
-abbrev pub repeated : {T A : Type 0} → Room → ℕ → Language T A → Language T (List A)
+abbrev pub repeated : {T A : Type 0} → Room → Option ℕ → Language T A → Language T (List A)
 repeated None most L = star_language L
-repeated (Some levels) most L = upto_language most L
+repeated (Some levels) None L = star_language L
+repeated (Some levels) (Some most) L = upto_language most L
 
 -- the language of a form with this room, where the names have these languages
 abbrev pub form_language : {T K N : Type 0} {V : N → Type 0} {A : Type 0} →

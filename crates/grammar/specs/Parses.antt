@@ -1,5 +1,5 @@
 -- All ways to read the front of a list of tokens, computed. It is a help for samples: what is computed is spelled.
-use Rattle.std.specs.Prelude.{ℕ, zero, suc, ◌-◌, Bool, true, false, List, [], ◌∷◌, ◌++◌, length, Some, None, ◌⊎◌}
+use Rattle.std.specs.Prelude.{ℕ, zero, suc, ◌-◌, Bool, true, false, List, [], ◌∷◌, ◌++◌, length, Some, None, Option, ◌⊎◌}
 use Rattle.std.proofs.Common.{inl, inr}
 use Rattle.grammar.specs.Form.{Form, Rules, Room, empty, token, seq, alt, star, nest, map, only, counted, fork, ref}
 
@@ -30,9 +30,10 @@ abbrev pub either_parses : {T A B C : Type 0} → Parses T (A → C) → Parses 
 either_parses ps qs (inl a) = with_values (λ k. k a) ps
 either_parses ps qs (inr b) = with_values (λ k. k b) qs
 
-abbrev pub most_times : {T : Type 0} → Room → ℕ → List T → ℕ
+abbrev pub most_times : {T : Type 0} → Room → Option ℕ → List T → ℕ
 most_times None most ts = length ts
-most_times (Some levels) most ts = most
+most_times (Some levels) None ts = length ts
+most_times (Some levels) (Some most) ts = most
 
 abbrev pub parses : {T K N : Type 0} {V : N → Type 0} {A : Type 0} →
     (T → K) → (Room → (n : N) → List T → Parses T (V n)) → Room → Form T K N V A → List T → Parses T A

@@ -14,6 +14,6 @@ then_skip f g = map (λ p. p.0) (seq f g)
 abbrev pub optional : {T K N : Type 0} {V : N → Type 0} {A : Type 0} → Form T K N V A → Form T K N V (Option A)
 optional f = alt (map (λ v. Some v) f) (map (λ v. None) empty)
 
--- f {separator f}, within the limits with at most so many separators
-abbrev pub separated : {T K N : Type 0} {V : N → Type 0} {A B : Type 0} → ℕ → Form T K N V B → Form T K N V A → Form T K N V (A × List A)
+-- f {separator f}, within the limits with at most so many separators, where a number is given
+abbrev pub separated : {T K N : Type 0} {V : N → Type 0} {A B : Type 0} → Option ℕ → Form T K N V B → Form T K N V A → Form T K N V (A × List A)
 separated most separator f = seq f (star most (skip_then separator f))

@@ -33,7 +33,7 @@ sign k = token (λ j. j == k)
 
 -- total := part {+ part}, part := digit | ( total )
 abbrev pub rules : Rules Sign ℕ Name Number
-rules total = map (λ p. p.0 + sum p.1) (separated 2 (sign 1) (ref part))
+rules total = map (λ p. p.0 + sum p.1) (separated (Some 2) (sign 1) (ref part))
 rules part = alt (map digit (sign 0)) (nest (skip_then (sign 2) (then_skip (ref total) (sign 3))))
 
 -- the totals that a list spells, as far as eight names deep

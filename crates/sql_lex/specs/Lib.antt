@@ -1,0 +1,4 @@
+pub mod Bytes
+pub mod Classes
+pub mod Reserved
+pub mod Lexemes
