@@ -6,3 +6,8 @@ pub mod FirstForm
 pub mod ReadingWords
 pub mod ReadingFirst
 pub mod Views
+pub mod Kinds
+pub mod TokenValues
+pub mod Numbering
+pub mod QueryTrees
+pub mod QueryGrammar
