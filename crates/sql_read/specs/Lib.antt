@@ -11,3 +11,5 @@ pub mod TokenValues
 pub mod Numbering
 pub mod QueryTrees
 pub mod QueryGrammar
+pub mod Queries
+pub mod QuerySamples
