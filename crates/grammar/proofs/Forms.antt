@@ -1,8 +1,8 @@
 -- What holds of the languages of names holds of the languages of forms: they have fronts, and grow with the names' languages and the room.
 use Rattle.std.proofs.Common.{◌≡◌, ℕ, zero, suc, ◌≤◌, List, [], ◌∷◌, inl, inr, Some, None, Option, arith}
 use Rattle.grammar.specs.Language.{Language, Includes, HasFronts, Concatenates, no_language, star_language, upto_language}
-use Rattle.grammar.specs.Form.{Form, Room, IsRoomier, empty, token, seq, alt, star, nest, map, only, counted, fork, ref, form_language, repeated}
-use Rattle.grammar.proofs.Fronts.{empty_fronts, token_fronts, seq_fronts, alt_fronts, star_fronts, upto_fronts, map_fronts, only_fronts, counted_fronts, bind_fronts, branch_fronts, no_fronts}
+use Rattle.grammar.specs.Form.{Form, Room, IsRoomier, empty, token, seq, alt, star, nest, map, only, nonempty, counted, fork, ref, form_language, repeated}
+use Rattle.grammar.proofs.Fronts.{empty_fronts, token_fronts, seq_fronts, alt_fronts, star_fronts, upto_fronts, map_fronts, only_fronts, nonempty_fronts, counted_fronts, bind_fronts, branch_fronts, no_fronts}
 
 pub includes_itself : {T A : Type 0} (L : Language T A) → Includes L L
 includes_itself L = record { spells = λ ts v s. s; front = λ ts f. f }
@@ -40,6 +40,7 @@ module _ {T K N : Type 0} {V : N → Type 0} (kind : T → K) (E : Room → (n :
   form_fronts (nest f) (Some (suc levels)) = form_fronts f (Some levels)
   form_fronts (map h f) room = map_fronts h (form_language kind E room f) (form_fronts f room)
   form_fronts (only p f) room = only_fronts (form_language kind E room f) (form_fronts f room) p
+  form_fronts (nonempty f) room = nonempty_fronts (form_language kind E room f) (form_fronts f room)
   form_fronts (counted f) room = counted_fronts (form_language kind E room f) (form_fronts f room)
   form_fronts (fork f g h) room =
       bind_fronts (form_language kind E room f) _ (form_fronts f room)
@@ -101,6 +102,7 @@ module _ {T K N : Type 0} {V : N → Type 0} (kind : T → K) (E F : Room → (n
     spells_more (nest f) (Some (suc few)) (Some (suc levels)) w ts v s = spells_more f (Some few) (Some levels) (omega (arith, w)) ts v s
     spells_more (map h f) small large w ts v (u, s, e) = (u, spells_more f small large w ts u s, e)
     spells_more (only p f) small large w ts v (s, e) = (spells_more f small large w ts v s, e)
+    spells_more (nonempty f) small large w ts v (s, e) = (spells_more f small large w ts v s, e)
     spells_more (counted f) small large w ts v (s, e) = (spells_more f small large w ts v.0 s, e)
     spells_more (fork f g h) small large w ts v (x, y, inl a, e, s, (k, r, i)) =
         (x, y, inl a, e, spells_more f small large w x (inl a) s, (k, spells_more g small large w y k r, i))
@@ -128,6 +130,7 @@ module _ {T K N : Type 0} {V : N → Type 0} (kind : T → K) (E F : Room → (n
     front_more (nest f) (Some (suc few)) (Some (suc levels)) w ts s = front_more f (Some few) (Some levels) (omega (arith, w)) ts s
     front_more (map h f) small large w ts s = front_more f small large w ts s
     front_more (only p f) small large w ts s = front_more f small large w ts s
+    front_more (nonempty f) small large w ts s = front_more f small large w ts s
     front_more (counted f) small large w ts s = front_more f small large w ts s
     front_more (fork f g h) small large w ts (inl s) = inl (front_more f small large w ts s)
     front_more (fork f g h) small large w ts (inr (x, y, inl a, e, s, r)) = inr (x, y, inl a, e, spells_more f small large w x (inl a) s, front_more g small large w y r)

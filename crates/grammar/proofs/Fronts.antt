@@ -1,7 +1,7 @@
 -- In each language that forms mean, a front of a front is a front, and so is a spelling.
 use Rattle.std.proofs.Common.{◌≡◌, ℕ, zero, suc, ◌≤◌, Bool, List, [], ◌∷◌, ◌++◌, length, ◌⊎◌, inl, inr, refl, sym, ◌∙◌, ap, subst, append_assoc, arith}
 use Rattle.std.proofs.lemmas.List.{append-nil}
-use Rattle.grammar.specs.Language.{Language, HasFronts, Concatenates, empty_language, token_language, seq_language, alt_language, star_language, upto_language, map_language, only_language, counted_language, bind_language, branch, no_language}
+use Rattle.grammar.specs.Language.{Language, HasFronts, Concatenates, empty_language, token_language, seq_language, alt_language, star_language, upto_language, map_language, only_language, nonempty_language, counted_language, bind_language, branch, no_language}
 use Rattle.grammar.proofs.Cut.{Cut, longer, same, shorter, cut, nil_left}
 
 pub empty_fronts : {T : Type 0} → HasFronts (empty_language {T = T})
@@ -75,6 +75,9 @@ module _ {T A B : Type 0} (h : A → B) (L : Language T A) (l : HasFronts L) whe
 module _ {T A : Type 0} (L : Language T A) (l : HasFronts L) where
   pub only_fronts : (p : A → Bool) → HasFronts (only_language p L)
   only_fronts p = record { empty = l.empty; shorter = l.shorter; spelled = λ x v s. l.spelled x v s.0 }
+
+  pub nonempty_fronts : HasFronts (nonempty_language L)
+  nonempty_fronts = record { empty = l.empty; shorter = l.shorter; spelled = λ x v s. l.spelled x v s.0 }
 
   pub counted_fronts : HasFronts (counted_language L)
   counted_fronts = record { empty = l.empty; shorter = l.shorter; spelled = λ x v s. l.spelled x v.0 s.0 }

@@ -1,7 +1,7 @@
 -- The language of a name is that of its production, at the names' languages, with every room.
 use Rattle.std.proofs.Common.{ℕ, zero, suc, List, [], ◌∷◌, ◌++◌, inl, inr, refl, Some, None, arith}
 use Rattle.grammar.specs.Language.{Language, Includes, HasFronts, Concatenates}
-use Rattle.grammar.specs.Form.{Form, Rules, Room, IsRoomier, empty, token, seq, alt, star, nest, map, only, counted, fork, ref, form_language, language_within, language}
+use Rattle.grammar.specs.Form.{Form, Rules, Room, IsRoomier, empty, token, seq, alt, star, nest, map, only, nonempty, counted, fork, ref, form_language, language_within, language}
 use Rattle.grammar.proofs.Fronts.{no_fronts}
 use Rattle.grammar.proofs.Forms.{includes_itself, includes_through, includes_nothing, concatenates_more, form_fronts, form_grows}
 
@@ -93,6 +93,7 @@ module _ {T K N : Type 0} {V : N → Type 0} (kind : T → K) (rules : Rules T K
   spelled (nest f) (Some (suc levels)) ts v s = spelled f (Some levels) ts v s
   spelled (map k f) room ts v (u, s, e) = let p = spelled f room ts u s in (p.0, (u, p.1, e))
   spelled (only t f) room ts v (s, e) = let p = spelled f room ts v s in (p.0, (p.1, e))
+  spelled (nonempty f) room ts v (s, e) = let p = spelled f room ts v s in (p.0, (p.1, e))
   spelled (counted f) room ts v (s, e) = let p = spelled f room ts v.0 s in (p.0, (p.1, e))
   spelled (fork f g h) room ts v (x, y, inl c, e, s, (k, r, i)) =
       let p = spelled f room x (inl c) s in let q = spelled g room y k r in let a = above p.0 q.0 in
@@ -131,6 +132,7 @@ module _ {T K N : Type 0} {V : N → Type 0} (kind : T → K) (rules : Rules T K
   begun (nest f) (Some (suc levels)) ts s = begun f (Some levels) ts s
   begun (map k f) room ts s = begun f room ts s
   begun (only t f) room ts s = begun f room ts s
+  begun (nonempty f) room ts s = begun f room ts s
   begun (counted f) room ts s = begun f room ts s
   begun (fork f g h) room ts (inl s) = let p = begun f room ts s in (p.0, inl p.1)
   begun (fork f g h) room ts (inr (x, y, inl c, e, s, r)) =

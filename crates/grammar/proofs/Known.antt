@@ -1,11 +1,11 @@
 -- What is known of a language: it has fronts, its lookahead, and one value for a list of tokens. Each way to put languages together keeps
 -- this where no token both goes on with a part and begins the next.
 use Rattle.std.proofs.Common.{◌≡◌, Bool, true, List, [], ◌∷◌, ◌++◌, ◌⊎◌, inl, inr, refl, sym, ◌∙◌, ap, subst, append_assoc}
-use Rattle.grammar.specs.Language.{Language, Includes, HasFronts, IsUnambiguous, Concatenates, empty_language, token_language, seq_language, alt_language, star_language, map_language, only_language, counted_language, bind_language, branch, no_language}
-use Rattle.grammar.specs.Lookahead.{Lookahead, HasLookahead, empty_lookahead, token_lookahead, seq_lookahead, alt_lookahead, star_lookahead, either_lookahead}
+use Rattle.grammar.specs.Language.{Language, Includes, HasFronts, IsUnambiguous, Concatenates, empty_language, token_language, seq_language, alt_language, star_language, map_language, only_language, nonempty_language, counted_language, bind_language, branch, no_language}
+use Rattle.grammar.specs.Lookahead.{Lookahead, HasLookahead, empty_lookahead, token_lookahead, seq_lookahead, alt_lookahead, star_lookahead, nonempty_lookahead, either_lookahead}
 use Rattle.grammar.proofs.Cut.{Cut, longer, same, shorter, cut, nil_left, nil_right, not_nil}
 use Rattle.grammar.proofs.Sets.{or_left, or_right, and_both}
-use Rattle.grammar.proofs.Fronts.{empty_fronts, token_fronts, seq_fronts, alt_fronts, star_fronts, map_fronts, only_fronts, counted_fronts, bind_fronts, no_fronts}
+use Rattle.grammar.proofs.Fronts.{empty_fronts, token_fronts, seq_fronts, alt_fronts, star_fronts, map_fronts, only_fronts, nonempty_fronts, counted_fronts, bind_fronts, no_fronts}
 
 pub record Known {T K A : Type 0} (kind : T → K) (L : Language T A) (a : Lookahead K) : Type 0 where
   pub fronts : HasFronts L
@@ -89,6 +89,17 @@ module _ {T K : Type 0} (kind : T → K) where
       fronts = only_fronts L l.fronts p;
       ahead = record {
         nullable = λ v s. l.ahead.nullable v s.0;
+        first = l.ahead.first;
+        last = λ x v t y s f. l.ahead.last x v t y s.0 f;
+      };
+      unique = λ x v w s r. l.unique x v w s.0 r.0;
+    }
+
+    pub nonempty_known : Known kind (nonempty_language L) (nonempty_lookahead a)
+    nonempty_known = record {
+      fronts = nonempty_fronts L l.fronts;
+      ahead = record {
+        nullable = λ v s. absurd (s.1 refl);
         first = l.ahead.first;
         last = λ x v t y s f. l.ahead.last x v t y s.0 f;
       };

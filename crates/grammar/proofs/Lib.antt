@@ -13,3 +13,4 @@ pub mod Remaining
 pub mod Longest
 pub mod Outcomes
 pub mod ParsesSound
+pub mod Plans

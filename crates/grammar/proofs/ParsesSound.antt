@@ -1,8 +1,10 @@
 -- What is computed is spelled.
 use Rattle.std.proofs.Common.{◌≡◌, ℕ, zero, suc, ◌-◌, ◌≤◌, Bool, true, false, List, [], ◌∷◌, ◌++◌, length, length-append, append_assoc, ◌⊎◌, inl, inr, refl, sym, ◌∙◌, ap, subst, Some, None, arith}
 use Rattle.std.proofs.lemmas.List.{append-nil}
+use Rattle.std.proofs.lemmas.Bool.{ltb-true}
+use Rattle.std.specs.Prelude.{nat_lt}
 use Rattle.grammar.specs.Language.{Language, star_language, upto_language}
-use Rattle.grammar.specs.Form.{Form, Rules, Room, empty, token, seq, alt, star, nest, map, only, counted, fork, ref, form_language, language_within, language}
+use Rattle.grammar.specs.Form.{Form, Rules, Room, empty, token, seq, alt, star, nest, map, only, nonempty, counted, fork, ref, form_language, language_within, language}
 use Rattle.grammar.specs.Parses.{Parses, where_passes, with_values, then_parses, repeated_parses, either_parses, parses, name_parses, whole_values}
 use Rattle.grammar.proofs.Heights.{in_name}
 
@@ -90,6 +92,12 @@ module _ {T K N : Type 0} {V : N → Type 0} (kind : T → K) (E : Room → (n :
   form_sound (only p f) room ts =
       sound_then (of f room) (of (only p f) room) ts (ps f room ts) (λ v rest. where_passes (p v) (v, rest))
       (λ v rest s. sound_passes (of (only p f) room) ts (p v) (v, rest) (λ e. (s.0, s.1, (s.2, e)))) (form_sound f room ts)
+  form_sound (nonempty f) room ts =
+      sound_then (of f room) (of (nonempty f) room) ts (ps f room ts) (λ v rest. where_passes (nat_lt (length rest) (length ts)) (v, rest))
+      (λ v rest s. sound_passes (of (nonempty f) room) ts (nat_lt (length rest) (length ts)) (v, rest) (λ e. (s.0, s.1, (s.2, some_taken s.0 rest s.1 e)))) (form_sound f room ts)
+    where
+      some_taken : (x rest : List T) → ts ≡ x ++ rest → nat_lt (length rest) (length ts) ≡ true → x ≡ [] → ⊥
+      some_taken x rest e n i = omega (arith, ap length (e ∙ ap (λ z. z ++ rest) i), ltb-true (length rest) (length ts) n)
   form_sound (counted f) room ts =
       sound_then (of f room) (of (counted f) room) ts (ps f room ts) (λ v rest. ((v, length ts - length rest), rest) ∷ [])
       (λ v rest s. ((s.0, s.1, (s.2, taken_count s.0 rest s.1)), tt)) (form_sound f room ts)

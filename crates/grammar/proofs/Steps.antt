@@ -1,7 +1,7 @@
 -- How readings of parts make a reading of the whole. Each lemma speaks of a pair of languages: one with no limits, and the same within them.
 use Rattle.std.proofs.Common.{◌≡◌, ℕ, ◌+◌, Bool, true, false, List, [], ◌∷◌, ◌++◌, length, length-append, inl, inr, refl, sym, ◌∙◌, ap, subst, append_assoc, arith}
 use Rattle.std.proofs.lemmas.List.{append-nil}
-use Rattle.grammar.specs.Language.{Language, Includes, HasFronts, empty_language, token_language, seq_language, map_language, counted_language, bind_language, no_language}
+use Rattle.grammar.specs.Language.{Language, Includes, HasFronts, empty_language, token_language, seq_language, map_language, nonempty_language, counted_language, bind_language, no_language}
 use Rattle.grammar.specs.Lookahead.{Lookahead}
 use Rattle.grammar.specs.Reading.{Stops, Passes, Took, Failed, Exceeded}
 use Rattle.grammar.proofs.Cut.{Cut, longer, same, shorter, cut}
@@ -140,6 +140,32 @@ module _ {T A : Type 0} (U B : Language T A) where
     whole = r.whole;
     begun = r.begun;
     passes = passes_as (counted_language U) (counted_language B) (λ x f. f) (λ x f. f) r.taken rest r.passes;
+  }
+
+  -- where a token was taken
+  pub nonempty_took : (ts : List T) (v : A) (rest : List T) → (ts ≡ rest → ⊥) → Took U B ts v rest → Took (nonempty_language U) (nonempty_language B) ts v rest
+  nonempty_took ts v rest n r = record {
+    taken = r.taken;
+    whole = r.whole;
+    spelled = (r.spelled, λ e. n (r.whole ∙ ap (λ z. z ++ rest) e));
+    stops = stops_as (nonempty_language U) (λ x f. f) r.taken rest r.stops;
+  }
+
+  pub nonempty_failed : (ts rest : List T) → Failed U B ts rest → Failed (nonempty_language U) (nonempty_language B) ts rest
+  nonempty_failed ts rest r = record {
+    taken = r.taken;
+    whole = r.whole;
+    begun = r.begun;
+    unspelled = λ v s. r.unspelled v s.0;
+    stops = stops_as (nonempty_language U) (λ x f. f) r.taken rest r.stops;
+  }
+
+  pub nonempty_exceeded : (ts rest : List T) → Exceeded U B ts rest → Exceeded (nonempty_language U) (nonempty_language B) ts rest
+  nonempty_exceeded ts rest r = record {
+    taken = r.taken;
+    whole = r.whole;
+    begun = r.begun;
+    passes = passes_as (nonempty_language U) (nonempty_language B) (λ x f. f) (λ x f. f) r.taken rest r.passes;
   }
 
 -- ---- no room for one more level

@@ -1,13 +1,13 @@
 -- Where a table computes to be right, the language of each name and form is known.
 use Rattle.std.proofs.Common.{◌≡◌, ℕ, zero, suc, Bool, true, not, ◌&&◌, ◌||◌, List, [], ◌∷◌, ◌++◌, Some, None, Option}
 use Rattle.grammar.specs.Language.{Language, branch, star_language, upto_language}
-use Rattle.grammar.specs.Form.{Form, Rules, Room, empty, token, seq, alt, star, nest, map, only, counted, fork, ref, form_language, repeated, language_within, language}
+use Rattle.grammar.specs.Form.{Form, Rules, Room, empty, token, seq, alt, star, nest, map, only, nonempty, counted, fork, ref, form_language, repeated, language_within, language}
 use Rattle.grammar.specs.Lookahead.{Lookahead, AreAll, are_apart, is_inside, is_narrower, is_predictive, is_right, lookahead, either_lookahead, star_lookahead}
 use Rattle.grammar.proofs.Sets.{and_left, and_right, and_both, not_both, implied, apart, inside}
 use Rattle.grammar.proofs.Fronts.{upto_fronts}
 use Rattle.grammar.proofs.Forms.{includes_itself, repeated_grows}
 use Rattle.grammar.proofs.Heights.{name_fronts, spelled_at, front_at, spelled_and_front, spelled_twice}
-use Rattle.grammar.proofs.Known.{Known, narrowed, no_known, empty_known, token_known, map_known, only_known, counted_known, bind_known, seq_known, alt_known, branch_known, star_known}
+use Rattle.grammar.proofs.Known.{Known, narrowed, no_known, empty_known, token_known, map_known, only_known, nonempty_known, counted_known, bind_known, seq_known, alt_known, branch_known, star_known}
 
 module _ {T K : Type 0} (kind : T → K) (kinds : List K) (all : AreAll kinds) where
   repeated_known : {A : Type 0} (L : Language T A) (a : Lookahead K) (room : Room) (most : Option ℕ) → Known kind L a → Known kind (star_language L) (star_lookahead a) → Known kind (repeated room most L) (star_lookahead a)
@@ -67,6 +67,7 @@ module _ {T K : Type 0} (kind : T → K) (kinds : List K) (all : AreAll kinds) w
       form_known (nest f) (Some (suc levels)) o = form_known f (Some levels) o
       form_known (map h f) room o = map_known kind (of room f) (la f) (form_known f room o) h
       form_known (only p f) room o = only_known kind (of room f) (la f) (form_known f room o) p
+      form_known (nonempty f) room o = nonempty_known kind (of room f) (la f) (form_known f room o)
       form_known (counted f) room o = counted_known kind (of room f) (la f) (form_known f room o)
       form_known (fork f g h) room o =
           let follow = are_apart kinds (la f).last (either_lookahead (la g) (la h)).first in

@@ -1,6 +1,6 @@
 -- Grammars as data: the forms of productions, and the languages that they mean with a limit on depth and length or with none.
 use Rattle.std.specs.Prelude.{ℕ, ◌≤◌, zero, suc, Bool, List, Option, Some, None, ◌⊎◌}
-use Rattle.grammar.specs.Language.{Language, empty_language, token_language, seq_language, alt_language, star_language, upto_language, map_language, only_language, counted_language, bind_language, branch, no_language}
+use Rattle.grammar.specs.Language.{Language, empty_language, token_language, seq_language, alt_language, star_language, upto_language, map_language, only_language, nonempty_language, counted_language, bind_language, branch, no_language}
 
 -- A form over tokens T with kinds K, in which names N of productions with values V may stand; the form's own value comes last.
 pub data Form (T K N : Type 0) (V : N → Type 0) : Type 0 → Type 1 where
@@ -17,6 +17,8 @@ pub data Form (T K N : Type 0) (V : N → Type 0) : Type 0 → Type 1 where
   map : {A B : Type 0} → (A → B) → Form T K N V A → Form T K N V B
   -- only where the value passes the test
   only : {A : Type 0} → (A → Bool) → Form T K N V A → Form T K N V A
+  -- only with a token
+  nonempty : {A : Type 0} → Form T K N V A → Form T K N V A
   -- the value together with the number of its tokens
   counted : {A : Type 0} → Form T K N V A → Form T K N V (A × ℕ)
   -- what follows goes by the first's value, and takes it
@@ -55,6 +57,7 @@ form_language kind E (Some zero) (nest f) = no_language
 form_language kind E (Some (suc levels)) (nest f) = form_language kind E (Some levels) f
 form_language kind E room (map h f) = map_language h (form_language kind E room f)
 form_language kind E room (only p f) = only_language p (form_language kind E room f)
+form_language kind E room (nonempty f) = nonempty_language (form_language kind E room f)
 form_language kind E room (counted f) = counted_language (form_language kind E room f)
 form_language kind E room (fork f g h) = bind_language (form_language kind E room f) (branch (form_language kind E room g) (form_language kind E room h))
 form_language kind E room (ref n) = E room n

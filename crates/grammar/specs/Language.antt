@@ -1,5 +1,5 @@
 -- Languages: which lists of tokens spell which value, and after which lists a text may go on. Both go by splitting lists.
-use Rattle.std.specs.Prelude.{◌≡◌, ℕ, ◌≤◌, ◌<◌, Bool, true, List, [], ◌∷◌, ◌++◌, ◌⊎◌, length}
+use Rattle.std.specs.Prelude.{◌≡◌, ◌≢◌, ℕ, ◌≤◌, ◌<◌, Bool, true, List, [], ◌∷◌, ◌++◌, ◌⊎◌, length}
 use Rattle.std.proofs.Common.{inl, inr}
 
 -- a language over tokens T, with values A
@@ -56,6 +56,10 @@ map_language f L = record { spells = λ ts v. (u : _) × L.spells ts u × (v ≡
 -- only the spellings of a value that passes the test
 abbrev pub only_language : {T A : Type 0} → (A → Bool) → Language T A → Language T A
 only_language p L = record { spells = λ ts v. L.spells ts v × (p v ≡ true); front = L.front }
+
+-- only the spellings with a token
+abbrev pub nonempty_language : {T A : Type 0} → Language T A → Language T A
+nonempty_language L = record { spells = λ ts v. L.spells ts v × (ts ≢ []); front = L.front }
 
 -- the value together with the number of its tokens
 abbrev pub counted_language : {T A : Type 0} → Language T A → Language T (A × ℕ)

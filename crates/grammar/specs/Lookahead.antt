@@ -2,7 +2,7 @@
 use Rattle.std.specs.Prelude.{◌≡◌, ℕ, Bool, true, false, not, ◌&&◌, ◌||◌, List, [], ◌∷◌, ◌++◌, Some, None}
 use Rattle.std.specs.List.{list_all}
 use Rattle.grammar.specs.Language.{Language}
-use Rattle.grammar.specs.Form.{Form, Rules, empty, token, seq, alt, star, nest, map, only, counted, fork, ref, language}
+use Rattle.grammar.specs.Form.{Form, Rules, empty, token, seq, alt, star, nest, map, only, nonempty, counted, fork, ref, language}
 
 pub record Lookahead (K : Type 0) : Type 0 where
   -- whether no tokens may be spelled
@@ -46,6 +46,10 @@ alt_lookahead a b = record {
 abbrev pub star_lookahead : {K : Type 0} → Lookahead K → Lookahead K
 star_lookahead a = record { nullable = true; first = a.first; last = λ k. a.last k || a.first k }
 
+-- that of what has a token
+abbrev pub nonempty_lookahead : {K : Type 0} → Lookahead K → Lookahead K
+nonempty_lookahead a = record { nullable = false; first = a.first; last = a.last }
+
 -- that of either
 abbrev pub either_lookahead : {K : Type 0} → Lookahead K → Lookahead K → Lookahead K
 either_lookahead a b = record { nullable = a.nullable || b.nullable; first = λ k. a.first k || b.first k; last = λ k. a.last k || b.last k }
@@ -59,6 +63,7 @@ lookahead table (star most f) = star_lookahead (lookahead table f)
 lookahead table (nest f) = lookahead table f
 lookahead table (map h f) = lookahead table f
 lookahead table (only p f) = lookahead table f
+lookahead table (nonempty f) = nonempty_lookahead (lookahead table f)
 lookahead table (counted f) = lookahead table f
 lookahead table (fork f g h) = seq_lookahead (lookahead table f) (either_lookahead (lookahead table g) (lookahead table h))
 lookahead table (ref n) = table n
@@ -95,6 +100,7 @@ is_predictive kinds table (star most f) =
 is_predictive kinds table (nest f) = is_predictive kinds table f
 is_predictive kinds table (map h f) = is_predictive kinds table f
 is_predictive kinds table (only p f) = is_predictive kinds table f
+is_predictive kinds table (nonempty f) = is_predictive kinds table f
 is_predictive kinds table (counted f) = is_predictive kinds table f
 is_predictive kinds table (fork f g h) =
     is_predictive kinds table f && (is_predictive kinds table g && (is_predictive kinds table h

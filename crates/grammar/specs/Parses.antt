@@ -1,7 +1,7 @@
 -- All ways to read the front of a list of tokens, computed. It is a help for samples: what is computed is spelled.
-use Rattle.std.specs.Prelude.{ℕ, zero, suc, ◌-◌, Bool, true, false, List, [], ◌∷◌, ◌++◌, length, Some, None, Option, ◌⊎◌}
+use Rattle.std.specs.Prelude.{ℕ, nat_lt, zero, suc, ◌-◌, Bool, true, false, List, [], ◌∷◌, ◌++◌, length, Some, None, Option, ◌⊎◌}
 use Rattle.std.proofs.Common.{inl, inr}
-use Rattle.grammar.specs.Form.{Form, Rules, Room, empty, token, seq, alt, star, nest, map, only, counted, fork, ref}
+use Rattle.grammar.specs.Form.{Form, Rules, Room, empty, token, seq, alt, star, nest, map, only, nonempty, counted, fork, ref}
 
 -- values, each with the tokens that are left
 abbrev pub Parses : Type 0 → Type 0 → Type 0
@@ -48,6 +48,7 @@ parses kind P (Some zero) (nest f) ts = []
 parses kind P (Some (suc levels)) (nest f) ts = parses kind P (Some levels) f ts
 parses kind P room (map h f) ts = with_values h (parses kind P room f ts)
 parses kind P room (only p f) ts = then_parses (parses kind P room f ts) (λ v rest. where_passes (p v) (v, rest))
+parses kind P room (nonempty f) ts = then_parses (parses kind P room f ts) (λ v rest. where_passes (nat_lt (length rest) (length ts)) (v, rest))
 parses kind P room (counted f) ts = then_parses (parses kind P room f ts) (λ v rest. ((v, length ts - length rest), rest) ∷ [])
 parses kind P room (fork f g h) ts = then_parses (parses kind P room f ts) (λ v rest. either_parses (parses kind P room g rest) (parses kind P room h rest) v)
 parses kind P room (ref n) ts = P room n ts
