@@ -9,3 +9,6 @@ pub mod ColumnLaws
 pub mod TableLaws
 pub mod QueryLaws
 pub mod CaseLaws
+pub mod EveryKind
+pub mod QueryPlan
+pub mod QueryTable

@@ -2,7 +2,8 @@
 -- prefix NOT and prefix minus opens a level; within the limits a chain of set operators, of `+ - ||` or of `* /` has at most 63 of them,
 -- and one of AND or OR and a list at most 255.
 use Rattle.std.specs.Prelude.{ℕ, List, [], ◌∷◌, Option, Some, None}
-use Rattle.grammar.specs.Form.{Form, Rules, token, seq, alt, star, nest, map, only, counted, ref}
+use Rattle.std.proofs.Common.{inl, inr}
+use Rattle.grammar.specs.Form.{Form, Rules, empty, token, seq, alt, star, nest, map, only, nonempty, counted, ref}
 use Rattle.grammar.specs.Productions.{skip_then, then_skip, optional, separated}
 use Rattle.sql_model.specs.declared.tree.Expr.{Expr}
 use Rattle.sql_model.specs.declared.tree.Item.{Item}
@@ -14,7 +15,7 @@ use Rattle.sql_read.specs.Kinds as k
 use Rattle.sql_read.specs.Kinds.{Kind, same, among}
 use Rattle.sql_read.specs.Numbering.{Built, plain}
 use Rattle.sql_read.specs.QueryTrees as t
-use Rattle.sql_read.specs.QueryTrees.{Left, Listed, SetWord, not_sub}
+use Rattle.sql_read.specs.QueryTrees.{Left, Listed, SetWord, Inside, not_sub}
 
 pub data Production : Type 0 where
   query : Production
@@ -35,6 +36,12 @@ pub data Production : Type 0 where
   unary : Production
   primary : Production
   agg : Production
+  -- of these the grammar has no need: they are what one token of lookahead can read
+  set_tail : Production
+  and_tail : Production
+  expr_tail : Production
+  inner : Production
+  in_inner : Production
 
 -- what is read of each
 abbrev pub Read : Production → Type 0
@@ -56,6 +63,11 @@ Read term = Built Expr
 Read unary = Built Expr
 Read primary = Built Expr
 Read agg = Built Expr
+Read set_tail = Built Query → Built Query
+Read and_tail = Built Expr → Built Expr
+Read expr_tail = Left → Built Expr
+Read inner = Inside (Unit {0})
+Read in_inner = Inside (List (Built Expr))
 
 abbrev pub The : Type 0 → Type 1
 The A = Form Lexeme Kind Production Read A
@@ -155,9 +167,64 @@ like = map (λ p left. t.like p.0 p.1 left) (seq (optional (a k.Not)) (skip_then
 abbrev pub call : The (Built Expr)
 call = map (λ p. t.call p.0 p.1) (seq called_word (parens (optional (listed (ref expr)))))
 
+-- {INTERSECT operand}
+abbrev pub intersects : The (List (SetWord × Built Query))
+intersects = star (Some 63) (seq intersect (ref operand))
+
+-- {(UNION [ALL] | EXCEPT) part}
+abbrev pub unions : The (List (SetWord × Built Query))
+unions = star (Some 63) (seq union_or_except (ref part))
+
+-- {(* | /) unary}
+abbrev pub products : The (List (Lexeme × Built Expr))
+products = star (Some 63) (seq (one_of (k.Star ∷ k.Slash ∷ [])) (ref unary))
+
+-- {(+ | - | ||) term}
+abbrev pub sums : The (List (Lexeme × Built Expr))
+sums = star (Some 63) (seq (one_of (k.Plus ∷ k.Minus ∷ k.Concat ∷ [])) (ref term))
+
+-- {AND neg}
+abbrev pub ands : The (List (Built Expr))
+ands = star (Some 255) (skip_then (a k.And) (ref neg))
+
+-- {OR conj}
+abbrev pub ors : The (List (Built Expr))
+ors = star (Some 255) (skip_then (a k.Or) (ref conj))
+
+-- NOT neg
+abbrev pub not_neg : The (Built Expr)
+not_neg = map t.not_of (nest (seq (a k.Not) (ref neg)))
+
+-- EXISTS ( query )
+abbrev pub exists : The (Built Expr)
+exists = map t.exists (seq (a k.Exists) (parens (ref query)))
+
+-- - unary
+abbrev pub minus : The (Built Expr)
+minus = map t.minus (nest (seq (a k.Minus) (ref unary)))
+
+-- ( query )
+abbrev pub subquery : The (Built Expr)
+subquery = map t.sub (in_parentheses (ref query))
+
+-- a query that begins with a parenthesis, and goes on behind it
+abbrev pub longer_query : The (Built Query)
+longer_query = map (λ p. p.1 p.0) (seq (parens (ref query)) (nonempty (ref set_tail)))
+
+-- {, expr}
+abbrev pub commas : The (List (Built Expr))
+commas = star (Some 255) (skip_then (a k.Comma) (ref expr))
+
+-- what may stand behind a parenthesis, with what may follow an expression there
+abbrev pub insides : {M : Type 0} → The M → The (Inside M)
+insides more =
+    alt (map (λ q. inl q) (alt (map (λ p. p.1 p.0) (seq (ref block) (ref set_tail))) longer_query))
+    (alt (map (λ p. inr (inl p)) (seq (in_parentheses (ref query)) more))
+    (map (λ p. inr (inr p)) (seq (only not_sub (ref expr)) more)))
+
 abbrev pub rules : Rules Lexeme Kind Production Read
-rules query = map (λ p. t.sets p.0 p.1) (seq (ref part) (star (Some 63) (seq union_or_except (ref part))))
-rules part = map (λ p. t.sets p.0 p.1) (seq (ref operand) (star (Some 63) (seq intersect (ref operand))))
+rules query = map (λ p. t.sets p.0 p.1) (seq (ref part) unions)
+rules part = map (λ p. t.sets p.0 p.1) (seq (ref operand) intersects)
 rules operand = alt (ref block) (parens (ref query))
 rules block =
     map (λ p. t.block_of p.0 p.1.0 p.1.1.0 p.1.1.1.0 p.1.1.1.1.0 p.1.1.1.1.1)
@@ -173,16 +240,16 @@ rules entry =
     alt (map (λ p. t.table_entry p.0 p.1) (seq name (optional alias)))
     (map (λ p. t.query_entry p.0 p.1) (seq (parens (ref query)) alias))
 rules reference = map t.column (seq (optional (then_skip name (a k.Dot))) name)
-rules expr = map (t.chained t.or_node) (separated (Some 255) (a k.Or) (ref conj))
-rules conj = map (t.chained t.and_node) (separated (Some 255) (a k.And) (ref neg))
-rules neg = alt (map t.not_of (nest (seq (a k.Not) (ref neg)))) (ref test)
+rules expr = map (t.chained t.or_node) (seq (ref conj) ors)
+rules conj = map (t.chained t.and_node) (seq (ref neg) ands)
+rules neg = alt not_neg (ref test)
 rules test =
-    alt (map t.exists (seq (a k.Exists) (parens (ref query))))
+    alt exists
     (map (λ p. t.tested p.0 p.1) (seq (counted (ref value)) (optional (ref rest))))
 rules rest = alt comparison (alt in_query (alt in_list (alt between like)))
-rules value = map (λ p. t.operated p.0 p.1) (seq (ref term) (star (Some 63) (seq (one_of (k.Plus ∷ k.Minus ∷ k.Concat ∷ [])) (ref term))))
-rules term = map (λ p. t.operated p.0 p.1) (seq (ref unary) (star (Some 63) (seq (one_of (k.Star ∷ k.Slash ∷ [])) (ref unary))))
-rules unary = alt (map t.minus (nest (seq (a k.Minus) (ref unary)))) (ref primary)
+rules value = map (λ p. t.operated p.0 p.1) (seq (ref term) sums)
+rules term = map (λ p. t.operated p.0 p.1) (seq (ref unary) products)
+rules unary = alt minus (ref primary)
 rules primary =
     alt (map t.number_literal (a k.Number))
     (alt (map t.text_literal (a k.Text))
@@ -190,7 +257,14 @@ rules primary =
     (alt (ref agg)
     (alt call
     (alt (parens (only not_sub (ref expr)))
-    (map t.sub (in_parentheses (ref query))))))))
+    subquery)))))
 rules agg =
     alt (map (λ p. t.count_rows p.0) (seq (a k.Count) (parens (a k.Star))))
     (map (λ p. t.aggregated p.0 p.1.0 p.1.1) (seq aggregate_word (parens (seq (optional (a k.Distinct)) (ref expr)))))
+rules set_tail = map (λ p. t.combined p.0 p.1) (seq intersects unions)
+rules and_tail = map (λ p. t.joined p.0 p.1) (seq ands ors)
+rules expr_tail =
+    map (λ p. t.continued p.0 p.1.0 p.1.1.0 p.1.1.1)
+    (seq (counted (seq products sums)) (seq (optional (ref rest)) (seq ands ors)))
+rules inner = insides empty
+rules in_inner = insides commas
