@@ -12,3 +12,4 @@ pub mod CaseLaws
 pub mod EveryKind
 pub mod QueryPlan
 pub mod QueryTable
+pub mod QueryFronts

@@ -5,6 +5,7 @@ mod bytes;
 mod first;
 pub mod laws;
 mod queries;
+pub mod query_laws;
 mod reserved;
 mod tables;
 #[cfg(test)]
