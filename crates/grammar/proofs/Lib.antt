@@ -14,3 +14,4 @@ pub mod Longest
 pub mod Outcomes
 pub mod ParsesSound
 pub mod Plans
+pub mod Alike

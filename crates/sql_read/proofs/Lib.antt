@@ -13,3 +13,4 @@ pub mod EveryKind
 pub mod QueryPlan
 pub mod QueryTable
 pub mod QueryFronts
+pub mod QuerySplits
