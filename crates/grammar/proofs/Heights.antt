@@ -194,10 +194,14 @@ module _ {T K N : Type 0} {V : N → Type 0} (kind : T → K) (rules : Rules T K
   pub of_form : {A : Type 0} (f : Form T K N V A) (room : Room) → HasFronts (form_language kind All room f)
   of_form f room = form_fronts kind All name_fronts f room
 
+  -- what a form means at a height is part of what it means
+  pub lifted : {A : Type 0} (h : ℕ) (f : Form T K N V A) (room : Room) → Includes (form_language kind All room f) (form_language kind (At h) room f)
+  lifted h f room =
+      form_grows kind (At h) All name_fronts (λ small large w m. includes_through _ _ _ (in_name h small m) (name_grows small large w m)) f room room (same_room room)
+
   opened : (h : ℕ) (room : Room) (n : N) → Includes (form_language kind All room (rules n)) (At h room n)
   opened zero room n = includes_nothing _ (of_form (rules n) room).empty
-  opened (suc h) room n =
-      form_grows kind (At h) All name_fronts (λ small large w m. includes_through _ _ _ (in_name h small m) (name_grows small large w m)) (rules n) room room (same_room room)
+  opened (suc h) room n = lifted h (rules n) room
 
   pub to_rule : (room : Room) (n : N) → Includes (form_language kind All room (rules n)) (All room n)
   to_rule room n = record {

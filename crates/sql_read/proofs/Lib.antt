@@ -14,3 +14,4 @@ pub mod QueryPlan
 pub mod QueryTable
 pub mod QueryFronts
 pub mod QuerySplits
+pub mod QueryInside

@@ -167,29 +167,53 @@ like = map (λ p left. t.like p.0 p.1 left) (seq (optional (a k.Not)) (skip_then
 abbrev pub call : The (Built Expr)
 call = map (λ p. t.call p.0 p.1) (seq called_word (parens (optional (listed (ref expr)))))
 
+-- INTERSECT operand
+abbrev pub next_intersect : The (SetWord × Built Query)
+next_intersect = seq intersect (ref operand)
+
 -- {INTERSECT operand}
 abbrev pub intersects : The (List (SetWord × Built Query))
-intersects = star (Some 63) (seq intersect (ref operand))
+intersects = star (Some 63) next_intersect
+
+-- (UNION [ALL] | EXCEPT) part
+abbrev pub next_union : The (SetWord × Built Query)
+next_union = seq union_or_except (ref part)
 
 -- {(UNION [ALL] | EXCEPT) part}
 abbrev pub unions : The (List (SetWord × Built Query))
-unions = star (Some 63) (seq union_or_except (ref part))
+unions = star (Some 63) next_union
+
+-- (* | /) unary
+abbrev pub next_product : The (Lexeme × Built Expr)
+next_product = seq (one_of (k.Star ∷ k.Slash ∷ [])) (ref unary)
 
 -- {(* | /) unary}
 abbrev pub products : The (List (Lexeme × Built Expr))
-products = star (Some 63) (seq (one_of (k.Star ∷ k.Slash ∷ [])) (ref unary))
+products = star (Some 63) next_product
+
+-- (+ | - | ||) term
+abbrev pub next_sum : The (Lexeme × Built Expr)
+next_sum = seq (one_of (k.Plus ∷ k.Minus ∷ k.Concat ∷ [])) (ref term)
 
 -- {(+ | - | ||) term}
 abbrev pub sums : The (List (Lexeme × Built Expr))
-sums = star (Some 63) (seq (one_of (k.Plus ∷ k.Minus ∷ k.Concat ∷ [])) (ref term))
+sums = star (Some 63) next_sum
+
+-- AND neg
+abbrev pub next_and : The (Built Expr)
+next_and = skip_then (a k.And) (ref neg)
 
 -- {AND neg}
 abbrev pub ands : The (List (Built Expr))
-ands = star (Some 255) (skip_then (a k.And) (ref neg))
+ands = star (Some 255) next_and
+
+-- OR conj
+abbrev pub next_or : The (Built Expr)
+next_or = skip_then (a k.Or) (ref conj)
 
 -- {OR conj}
 abbrev pub ors : The (List (Built Expr))
-ors = star (Some 255) (skip_then (a k.Or) (ref conj))
+ors = star (Some 255) next_or
 
 -- NOT neg
 abbrev pub not_neg : The (Built Expr)
@@ -211,9 +235,13 @@ subquery = map t.sub (in_parentheses (ref query))
 abbrev pub longer_query : The (Built Query)
 longer_query = map (λ p. p.1 p.0) (seq (parens (ref query)) (nonempty (ref set_tail)))
 
+-- , expr
+abbrev pub next_comma : The (Built Expr)
+next_comma = skip_then (a k.Comma) (ref expr)
+
 -- {, expr}
 abbrev pub commas : The (List (Built Expr))
-commas = star (Some 255) (skip_then (a k.Comma) (ref expr))
+commas = star (Some 255) next_comma
 
 -- what may stand behind a parenthesis, with what may follow an expression there
 abbrev pub insides : {M : Type 0} → The M → The (Inside M)
