@@ -15,3 +15,4 @@ pub mod QueryTable
 pub mod QueryFronts
 pub mod QuerySplits
 pub mod QueryInside
+pub mod QueryInsides

@@ -114,7 +114,7 @@ pub data ReadsQuery (room : Room) (ts : List Lexeme) (q : Built Query) : Type 0 
 abbrev pub sorted : The ((Enclosed × ℕ) ⊎ Left)
 sorted = map sort (counted (in_parentheses (ref inner)))
 
-sorted_query : (room : Room) (L : Room → Language Lexeme (Built Query)) (m : (r : Room) (z : List Lexeme) (q : Built Query) → (L r).spells z q → ReadsQuery r z q)
+pub sorted_query : (room : Room) (L : Room → Language Lexeme (Built Query)) (m : (r : Room) (z : List Lexeme) (q : Built Query) → (L r).spells z q → ReadsQuery r z q)
     → (ts : List Lexeme) (v : Lexeme × Built Query) → (deeper L room).spells ts v → (fl room sorted).spells ts (inl (v, length ts))
 sorted_query None L m ts v s = go v s
   where
@@ -134,7 +134,7 @@ sorted_query (Some (suc levels)) L m ts v s = go v s
         by (plainly r) = (((v.0, inl v.1), length ts), ((x, y, e, o, ((inl v.1, n.1), (z, c, e1, r, q), refl)), refl), refl)
         by (wrapped w r) = (((v.0, inr (inl ((w, v.1), tt))), length ts), ((x, y, e, o, ((inr (inl ((w, v.1), tt)), n.1), (z, c, e1, r, q), refl)), refl), refl)
 
-sorted_front : (room : Room) (L : Room → Language Lexeme (Built Query)) (m : (r : Room) (z : List Lexeme) (q : Built Query) → (L r).spells z q → ReadsQuery r z q)
+pub sorted_front : (room : Room) (L : Room → Language Lexeme (Built Query)) (m : (r : Room) (z : List Lexeme) (q : Built Query) → (L r).spells z q → ReadsQuery r z q)
     → ((r : Room) (z : List Lexeme) → (L r).front z → (P r inner).front z) → (ts : List Lexeme) → (deeper L room).front ts → (fl room sorted).front ts
 sorted_front room L m f ts s = (deeper_back (ref inner) room).front ts (deeper_front L (λ r. P r inner) room f some ts s)
   where
