@@ -16,3 +16,4 @@ pub mod QueryFronts
 pub mod QuerySplits
 pub mod QueryInside
 pub mod QueryInsides
+pub mod QueryWords

@@ -192,10 +192,10 @@ module _ {M : Type 0} (more : The M) (room : Room) where
           (subst (fl room planned_insides).front (sym (append_assoc a b y))
           (inr (inr (enclosed_more a b y w u.1 o q (subst (λ z. not_sub z ≡ true) value n) r))))
 
-  query_sorted : (x : List Lexeme) (p : Enclosed) → (fl room (in_parentheses (ref query))).spells x p → (fl room sorted).spells x (inl (p, length x))
+  pub query_sorted : (x : List Lexeme) (p : Enclosed) → (fl room (in_parentheses (ref query))).spells x p → (fl room sorted).spells x (inl (p, length x))
   query_sorted x p s = sorted_query room (λ r. P r query) query_inside x p ((deeper_there (ref query) room).spells x p s)
 
-  query_front : (x : List Lexeme) → (fl room (in_parentheses (ref query))).front x → (fl room sorted).front x
+  pub query_front : (x : List Lexeme) → (fl room (in_parentheses (ref query))).front x → (fl room sorted).front x
   query_front x s = sorted_front room (λ r. P r query) query_inside query_front_inside x ((deeper_there (ref query) room).front x s)
 
   insides_spells : (ts : List Lexeme) (v : Inside M) → (fl room (insides more)).spells ts v → (fl room planned_insides).spells ts v
