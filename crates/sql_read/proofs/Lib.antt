@@ -11,3 +11,11 @@ pub mod QueryLaws
 pub mod CaseLaws
 pub mod Cursors
 pub mod Unquoting
+pub mod EveryKind
+pub mod QueryPlan
+pub mod QueryTable
+pub mod QueryFronts
+pub mod QuerySplits
+pub mod QueryInside
+pub mod QueryInsides
+pub mod QueryWords

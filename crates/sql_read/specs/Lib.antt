@@ -8,3 +8,10 @@ pub mod Views
 pub mod Cursor
 pub mod Refusals
 pub mod Unquoting
+pub mod Kinds
+pub mod TokenValues
+pub mod Numbering
+pub mod QueryTrees
+pub mod QueryGrammar
+pub mod Queries
+pub mod QuerySamples

@@ -7,6 +7,7 @@ mod first;
 pub mod laws;
 mod names;
 mod queries;
+pub mod query_laws;
 mod reserved;
 mod tables;
 #[cfg(test)]

@@ -1,0 +1,17 @@
+pub mod Cut
+pub mod Sets
+pub mod Fronts
+pub mod Forms
+pub mod Heights
+pub mod Known
+pub mod Tables
+pub mod Steps
+pub mod Choices
+pub mod Repetitions
+pub mod Predictions
+pub mod Remaining
+pub mod Longest
+pub mod Outcomes
+pub mod ParsesSound
+pub mod Plans
+pub mod Alike

@@ -1,0 +1,84 @@
+-- A grammar in the languages of another one, and inclusions of languages that are put together alike.
+use Rattle.std.proofs.Common.{ℕ, zero, suc, List, ◌++◌, inl, inr, refl, sym, ◌∙◌, ap, append_assoc}
+use Rattle.grammar.specs.Language.{Language, Includes, seq_language, alt_language, map_language}
+use Rattle.grammar.specs.Form.{Rules, Room, IsRoomier, form_language, language_within, language}
+use Rattle.grammar.proofs.Forms.{includes_through, includes_nothing, form_grows}
+use Rattle.grammar.proofs.Heights.{name_fronts, spelled_at, front_at, same_room}
+
+-- ---- all names at once
+
+-- where each production of the plan is included in the rules' languages, so is the plan
+module _ {T K N : Type 0} {V : N → Type 0} (kind : T → K) (plan rules : Rules T K N V)
+    (closed : (room : Room) (n : N) → Includes (language kind rules room n) (form_language kind (language kind rules) room (plan n))) where
+  within_rules : (h : ℕ) (small large : Room) → IsRoomier small large → (n : N) → Includes (language kind rules large n) (language_within kind plan h small n)
+  within_rules zero small large w n = includes_nothing _ (name_fronts kind rules large n).empty
+  within_rules (suc h) small large w n =
+      includes_through _ _ _ (form_grows kind (language_within kind plan h) (language kind rules) (name_fronts kind rules) (within_rules h) (plan n) small large w) (closed large n)
+
+  pub plan_included : (room : Room) (n : N) → Includes (language kind rules room n) (language kind plan room n)
+  plan_included room n = record {
+    spells = λ ts v s. let p = spelled_at kind plan room n ts v s in (within_rules p.0 room room (same_room room) n).spells ts v p.1;
+    front = λ ts f. let p = front_at kind plan room n ts f in (within_rules p.0 room room (same_room room) n).front ts p.1;
+  }
+
+-- ---- congruences
+
+module _ {T A : Type 0} (L M : Language T A) (m : Includes M L) where
+  pub map_in : {B : Type 0} (h : A → B) → Includes (map_language h M) (map_language h L)
+  map_in h = record { spells = λ ts v s. (s.0, m.spells ts s.0 s.1, s.2); front = m.front }
+
+  pub first_in : {B : Type 0} (R : Language T B) → Includes (seq_language M R) (seq_language L R)
+  first_in R = record { spells = λ ts v s. (s.0, s.1, s.2, m.spells s.0 v.0 s.3, s.4); front = front }
+    where
+      front : (ts : List T) → (seq_language L R).front ts → (seq_language M R).front ts
+      front ts (inl f) = inl (m.front ts f)
+      front ts (inr (x, y, v, e, s, f)) = inr (x, y, v, e, m.spells x v s, f)
+
+  pub second_in : {B : Type 0} (R : Language T B) → Includes (seq_language R M) (seq_language R L)
+  second_in R = record { spells = λ ts v s. (s.0, s.1, s.2, s.3, m.spells s.1 v.1 s.4); front = front }
+    where
+      front : (ts : List T) → (seq_language R L).front ts → (seq_language R M).front ts
+      front ts (inl f) = inl f
+      front ts (inr (x, y, v, e, s, f)) = inr (x, y, v, e, s, m.front y f)
+
+pub alt_in : {T A : Type 0} (L M L' M' : Language T A) → Includes L' L → Includes M' M → Includes (alt_language L' M') (alt_language L M)
+alt_in L M L' M' l m = record {
+  spells = λ ts v s. elim s [ inl a ↦ inl (l.spells ts v a) | inr b ↦ inr (m.spells ts v b) ];
+  front = λ ts f. elim f [ inl a ↦ inl (l.front ts a) | inr b ↦ inr (m.front ts b) ];
+}
+
+-- ---- what is read of a first part goes into what follows it
+
+-- f then g then h, with the value by k: both ways to put the parentheses
+module _ {T A B C D : Type 0} (L : Language T A) (M : Language T B) (R : Language T C) (k : A → B → C → D) where
+  abbrev pub to_left : Language T D
+  to_left = map_language (λ p. k p.0.0 p.0.1 p.1) (seq_language (seq_language L M) R)
+
+  abbrev pub to_right : Language T D
+  to_right = map_language (λ p. k p.0 p.1.0 p.1.1) (seq_language L (seq_language M R))
+
+  pub left_in_right : Includes to_right to_left
+  left_in_right = record { spells = spells; front = front }
+    where
+      spells : (ts : List T) (v : D) → to_left.spells ts v → to_right.spells ts v
+      spells ts v (u, (x, y, e, (x1, y1, e1, s, r), q), i) =
+          ((u.0.0, (u.0.1, u.1)), (x1, y1 ++ y, e ∙ (ap (λ z. z ++ y) e1 ∙ append_assoc x1 y1 y), s, (y1, y, refl, r, q)), i)
+
+      front : (ts : List T) → to_left.front ts → to_right.front ts
+      front ts (inl (inl f)) = inl f
+      front ts (inl (inr (x, y, v, e, s, f))) = inr (x, y, v, e, s, inl f)
+      front ts (inr (x, y, v, e, (x1, y1, e1, s, r), f)) =
+          inr (x1, y1 ++ y, v.0, e ∙ (ap (λ z. z ++ y) e1 ∙ append_assoc x1 y1 y), s, inr (y1, y, v.1, refl, r, f))
+
+  pub right_in_left : Includes to_left to_right
+  right_in_left = record { spells = spells; front = front }
+    where
+      spells : (ts : List T) (v : D) → to_right.spells ts v → to_left.spells ts v
+      spells ts v (u, (x, y, e, s, (y1, z, e1, r, q)), i) =
+          (((u.0, u.1.0), u.1.1), (x ++ y1, z, e ∙ (ap (λ w. x ++ w) e1 ∙ sym (append_assoc x y1 z)), (x, y1, refl, s, r), q), i)
+
+      front : (ts : List T) → to_right.front ts → to_left.front ts
+      front ts (inl f) = inl (inl f)
+      front ts (inr (x, y, v, e, s, inl f)) = inl (inr (x, y, v, e, s, f))
+      front ts (inr (x, y, v, e, s, inr (y1, z, w, e1, r, f))) =
+          inr (x ++ y1, z, (v, w), e ∙ (ap (λ u. x ++ u) e1 ∙ sym (append_assoc x y1 z)), (x, y1, refl, s, r), f)

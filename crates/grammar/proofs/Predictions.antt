@@ -1,0 +1,71 @@
+-- The languages of the forms of a predictive grammar, with no limits and with so many levels left.
+use Rattle.std.proofs.Common.{◌≡◌, ℕ, Bool, true, List, Some, None}
+use Rattle.grammar.specs.Language.{Language, Includes, HasFronts}
+use Rattle.grammar.specs.Form.{Form, Room, form_language, language}
+use Rattle.grammar.specs.Lookahead.{Lookahead, PredictiveGrammar, is_predictive, limited, lookahead, unlimited}
+use Rattle.grammar.specs.Reading.{Took, Failed, Exceeded}
+use Rattle.grammar.proofs.Forms.{form_grows}
+use Rattle.grammar.proofs.Heights.{name_fronts, name_grows, of_form, to_rule, from_rule}
+use Rattle.grammar.proofs.Known.{Known}
+use Rattle.grammar.proofs.Outcomes.{took_once, failed_once, exceeded_once, took_not_failed, took_not_exceeded, failed_not_exceeded}
+use Rattle.grammar.proofs.Tables.{grammar_known, name_known}
+use Rattle.grammar.proofs.Steps.{IsWithin, Same}
+
+module _ {T K N : Type 0} {V : N → Type 0} (g : PredictiveGrammar T K N V) where
+  abbrev pub free : {A : Type 0} → Form T K N V A → Language T A
+  free f = form_language g.kind (language g.kind g.rules) None f
+
+  abbrev pub bounded : {A : Type 0} → ℕ → Form T K N V A → Language T A
+  bounded levels f = form_language g.kind (language g.kind g.rules) (Some levels) f
+
+  abbrev pub ok : {A : Type 0} → Form T K N V A → Bool
+  ok f = is_predictive g.kinds g.table f
+
+  abbrev pub ahead : {A : Type 0} → Form T K N V A → Lookahead K
+  ahead f = lookahead g.table f
+
+  pub known : {A : Type 0} (f : Form T K N V A) → ok f ≡ true → Known g.kind (free f) (ahead f)
+  known f o = grammar_known g.kind g.kinds g.every g.table g.rules g.right f None o
+
+  pub within : {A : Type 0} (levels : ℕ) (f : Form T K N V A) → IsWithin (free f) (bounded levels f)
+  within levels f = record {
+    includes = form_grows g.kind (language g.kind g.rules) (language g.kind g.rules) (name_fronts g.kind g.rules) (name_grows g.kind g.rules) f (Some levels) None tt;
+    fronts = of_form g.kind g.rules f (Some levels);
+  }
+
+  -- a name is its production
+  pub produced : (room : Room) (n : N) → Same (form_language g.kind (language g.kind g.rules) room (g.rules n)) (language g.kind g.rules room n)
+  produced room n = record { there = from_rule g.kind g.rules room n; back = to_rule g.kind g.rules room n }
+
+  pub named : (room : Room) (n : N) → Known g.kind (language g.kind g.rules room n) (g.table n)
+  named = name_known g.kind g.kinds g.every g.table g.rules g.right
+
+  -- ---- outcomes
+
+  module _ (n : N) (levels : ℕ) where
+    fewer : Includes (unlimited g n) (limited g levels n)
+    fewer = name_grows g.kind g.rules (Some levels) None tt n
+
+    all_fronts : HasFronts (unlimited g n)
+    all_fronts = name_fronts g.kind g.rules None n
+
+    few_fronts : HasFronts (limited g levels n)
+    few_fronts = name_fronts g.kind g.rules (Some levels) n
+
+    pub read_once : (ts : List T) (v w : V n) (rest other : List T) → Took (unlimited g n) (limited g levels n) ts v rest → Took (unlimited g n) (limited g levels n) ts w other → (v ≡ w) × (rest ≡ other)
+    read_once = took_once (unlimited g n) (limited g levels n) all_fronts few_fronts fewer (named None n).unique
+
+    pub refused_once : (ts rest other : List T) → Failed (unlimited g n) (limited g levels n) ts rest → Failed (unlimited g n) (limited g levels n) ts other → rest ≡ other
+    refused_once = failed_once (unlimited g n) (limited g levels n) all_fronts few_fronts fewer
+
+    pub passed_once : (ts rest other : List T) → Exceeded (unlimited g n) (limited g levels n) ts rest → Exceeded (unlimited g n) (limited g levels n) ts other → rest ≡ other
+    passed_once = exceeded_once (unlimited g n) (limited g levels n) all_fronts few_fronts fewer
+
+    pub read_or_refused : (ts : List T) (v : V n) (rest other : List T) → Took (unlimited g n) (limited g levels n) ts v rest → Failed (unlimited g n) (limited g levels n) ts other → ⊥
+    read_or_refused = took_not_failed (unlimited g n) (limited g levels n) all_fronts few_fronts fewer
+
+    pub read_or_passed : (ts : List T) (v : V n) (rest other : List T) → Took (unlimited g n) (limited g levels n) ts v rest → Exceeded (unlimited g n) (limited g levels n) ts other → ⊥
+    read_or_passed = took_not_exceeded (unlimited g n) (limited g levels n) all_fronts few_fronts fewer
+
+    pub refused_or_passed : (ts rest other : List T) → Failed (unlimited g n) (limited g levels n) ts rest → Exceeded (unlimited g n) (limited g levels n) ts other → ⊥
+    refused_or_passed = failed_not_exceeded (unlimited g n) (limited g levels n) all_fronts few_fronts fewer

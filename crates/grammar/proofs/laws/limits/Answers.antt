@@ -1,0 +1,5 @@
+use Rattle.grammar.proofs.Heights.{name_grows}
+use Rattle.grammar.proofs.laws.limits.Goals as goal
+
+pub returns : goal.returns
+returns g c = name_grows g.G.Grammar.kind g.G.Grammar.rules

@@ -1,0 +1,7 @@
+pub mod Language
+pub mod Form
+pub mod Productions
+pub mod Lookahead
+pub mod Reading
+pub mod Parses
+pub mod Samples

@@ -1,0 +1,36 @@
+//! Laws of the grammar of queries, each the contract of a function that does nothing.
+ghost use Rattle.std.specs.Prelude.{◌≡◌, ◌++◌, ◌∷◌, List, [], None, Some, ℕ};
+ghost use Rattle.grammar.specs.Form.{Room};
+ghost use Rattle.grammar.specs.Language.{HasFronts, Includes};
+ghost use Rattle.grammar.specs.Parses.{name_parses, whole_values};
+ghost use Rattle.sql_lex.specs.Lexemes.{Lexeme};
+ghost use Rattle.sql_model.specs.declared.tree.Query.{Query};
+ghost use Rattle.sql_read.specs.Kinds.{kind_of};
+ghost use Rattle.sql_read.specs.Numbering.{Built, Numbers};
+ghost use Rattle.sql_read.specs.Queries.{Begins, IsTooDeep, Spells, of_production, queries, shallow_queries};
+ghost use Rattle.sql_read.specs.QueryGrammar.{Production, Read, query, rules};
+
+/// A text may go on after no tokens, after fewer tokens than it may go on after, and after a query.
+pub fn fronts()
+    ensures empty { Begins [] }
+    ensures shorter { (x y : List Lexeme) → Begins (x ++ y) → Begins x }
+    ensures spelled { (before after : Numbers) (ts : List Lexeme) (q : Query) → Spells before ts q after → Begins ts }
+    ensures productions { (room : Room) (p : Production) → HasFronts (of_production room p) }
+{}
+
+/// What is spelled within the limits is spelled, and a front within them is a front.
+pub fn limits()
+    ensures { Includes queries shallow_queries }
+{}
+
+/// The limits are passed at no more than one token of a text.
+pub fn passed_once()
+    ensures { (x more y others : List Lexeme) (t u : Lexeme) → IsTooDeep x t → IsTooDeep y u → x ++ t ∷ more ≡ y ++ u ∷ others → (x ≡ y) × (t ≡ u) }
+{}
+
+/// A query that is computed from tokens is spelled by them.
+pub fn computing()
+    ensures { (height : ℕ) (ts : List Lexeme) (read : Built Query) (others : List (Built Query)) (before after : Numbers) (q : Query) →
+        whole_values (name_parses kind_of rules height None query ts) ≡ read ∷ others → read.build before ≡ (q, after) →
+        Spells before ts q after }
+{}
