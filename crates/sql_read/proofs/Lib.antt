@@ -17,3 +17,5 @@ pub mod QuerySplits
 pub mod QueryInside
 pub mod QueryInsides
 pub mod QueryWords
+pub mod QueryFirsts
+pub mod QueryRests
