@@ -19,3 +19,5 @@ pub mod QueryInsides
 pub mod QueryWords
 pub mod QueryFirsts
 pub mod QueryRests
+pub mod QueryItems
+pub mod QueryKnown

@@ -1,5 +1,5 @@
 -- What tests a value by the grammar, the plan reads.
-use Rattle.std.proofs.Common.{◌≡◌, ℕ, Bool, true, false, List, [], ◌∷◌, ◌++◌, length, ◌⊎◌, inl, inr, refl, sym, ◌∙◌, ap, subst, append_assoc, Option, Some, None}
+use Rattle.std.proofs.Common.{◌≡◌, ℕ, zero, suc, Bool, true, false, List, [], ◌∷◌, ◌++◌, length, ◌⊎◌, inl, inr, refl, sym, ◌∙◌, ap, subst, append_assoc, Option, Some, None}
 use Rattle.std.proofs.lemmas.List.{append-nil}
 use Rattle.grammar.specs.Language.{Language, Includes}
 use Rattle.grammar.specs.Form.{Form, Room, empty, token, seq, alt, star, nest, map, only, nonempty, counted, fork, ref}
@@ -144,3 +144,149 @@ module _ (room : Room) where
           by_operand : (fl room (plan operand)).spells x q → (fl room (insides commas)).front ts
           by_operand (inl b) = inl (inl (inr (x, z, q, e, b, r)))
           by_operand (inr s) = inl (inr (inr (x, z, q, e, s, r)))
+
+-- ---- IN ( .. )
+
+-- what IN ( .. ) tests, by the plan
+abbrev in_planned : The (Option Lexeme → Left → Built Expr)
+in_planned = map (λ p word left. t.in_inside word p.0 p.1 left) (seq (a k.In) (parens (ref in_inner)))
+
+abbrev in_a_query : The (Option Lexeme → Left → Built Expr)
+in_a_query = map (λ p word left. t.in_query word p.0 p.1 left) (seq (a k.In) (parens (ref query)))
+
+abbrev members : The (Built Expr × List (Built Expr))
+members = only t.is_no_query (listed (ref expr))
+
+abbrev in_a_list : The (Option Lexeme → Left → Built Expr)
+in_a_list = map (λ p word left. t.in_list word p left) (skip_then (a k.In) (parens members))
+
+-- what stands in the parentheses, with a test that it makes
+record Inner (room : Room) (z : List Lexeme) (test_ : Option Lexeme → Lexeme → Left → Built Expr) : Type 0 where
+  inside : Inside (List (Built Expr))
+  spelled : (P room in_inner).spells z inside
+  same_test : (λ word in_word left. t.in_inside word in_word inside left) ≡ test_
+
+query_inner : (room : Room) (z : List Lexeme) (q : Built Query) → (P room query).spells z q → Inner room z (λ word in_word left. t.in_query word in_word q left)
+query_inner room z q s = go (query_read room z q s)
+  where
+    go : QueryRead room z q → Inner room z (λ word in_word left. t.in_query word in_word q left)
+    go (plainly r) = record { inside = inl q; spelled = (closes room in_inner).spells z (inl q) r; same_test = refl }
+    go (wrapped o r) = record { inside = inr (inl ((o, q), [])); spelled = (closes room in_inner).spells z (inr (inl ((o, q), []))) r; same_test = refl }
+
+list_inner : (room : Room) (z : List Lexeme) (p : Built Expr × List (Built Expr)) → (fl room members).spells z p → Inner room z (λ word in_word left. t.in_list word p left)
+list_inner room z (v, ms) ((x, y, e, s, r), n) =
+    let read = list_read room x y v ms s r n in
+    record {
+      inside = read.inside;
+      spelled = (closes room in_inner).spells z read.inside (subst (λ u. (fl room planned_list).spells u read.inside) (sym e) read.spelled);
+      same_test = λ i. λ word in_word left. read.same_test word in_word left i;
+    }
+
+list_inner_front : (room : Room) (z : List Lexeme) → (fl room members).front z → (P room in_inner).front z
+list_inner_front room z f = (closes room in_inner).front z (list_front room z f)
+
+query_inner_front : (room : Room) (z : List Lexeme) → (P room query).front z → (P room in_inner).front z
+query_inner_front room z f = (closes room in_inner).front z (query_read_front room z f)
+
+-- such a test in parentheses
+record InParens (room : Room) (y : List Lexeme) (test_ : Option Lexeme → Lexeme → Left → Built Expr) : Type 0 where
+  inside : Inside (List (Built Expr))
+  spelled : (fl room (parens (ref in_inner))).spells y inside
+  same_test : (λ word in_word left. t.in_inside word in_word inside left) ≡ test_
+
+module _ {A : Type 0} (f : The A) (test_ : A → Option Lexeme → Lexeme → Left → Built Expr) (m : (r : Room) (z : List Lexeme) (v : A) → (fl r f).spells z v → Inner r z (test_ v)) where
+  in_parens : (room : Room) (y : List Lexeme) (v : A) → (fl room (parens f)).spells y v → InParens room y (test_ v)
+  in_parens None y v (p, (x1, y1, e, o, (n, (z, c, e1, s, q), j)), i) =
+      let r = m None z n.0 s in
+      record {
+        inside = r.inside;
+        spelled = ((p.0, r.inside), (x1, y1, e, o, ((r.inside, n.1), (z, c, e1, r.spelled, q), refl)), refl);
+        same_test = r.same_test ∙ sym (ap test_ (i ∙ j));
+      }
+  in_parens (Some zero) y v (p, s, i) = absurd s
+  in_parens (Some (suc levels)) y v (p, (x1, y1, e, o, (n, (z, c, e1, s, q), j)), i) =
+      let r = m (Some levels) z n.0 s in
+      record {
+        inside = r.inside;
+        spelled = ((p.0, r.inside), (x1, y1, e, o, ((r.inside, n.1), (z, c, e1, r.spelled, q), refl)), refl);
+        same_test = r.same_test ∙ sym (ap test_ (i ∙ j));
+      }
+
+  in_parens_front : ((r : Room) (z : List Lexeme) → (fl r f).front z → (P r in_inner).front z) → (room : Room) (y : List Lexeme) → (fl room (parens f)).front y → (fl room (parens (ref in_inner))).front y
+  in_parens_front g room y s =
+      (deeper_back (ref in_inner) room).front y
+      (deeper_front (λ r. fl r f) (λ r. P r in_inner) room g (λ r z v w. let i = m r z v w in (i.inside, i.spelled)) y ((deeper_there f room).front y s))
+
+abbrev query_test : Built Query → Option Lexeme → Lexeme → Left → Built Expr
+query_test q word in_word left = t.in_query word in_word q left
+
+abbrev list_test : Built Expr × List (Built Expr) → Option Lexeme → Lexeme → Left → Built Expr
+list_test p word in_word left = t.in_list word p left
+
+in_query_planned : Below in_a_query in_planned
+in_query_planned = record { holds = λ room. record { spells = spells room; front = front room } }
+  where
+    spells : (room : Room) (ts : List Lexeme) (v : Option Lexeme → Left → Built Expr) → (fl room in_a_query).spells ts v → (fl room in_planned).spells ts v
+    spells room ts v (u, (x, y, e, o, s), i) =
+        let r = in_parens (ref query) query_test query_inner room y u.1 s in
+        ((u.0, r.inside), (x, y, e, o, r.spelled), i ∙ sym (ap (λ g word left. g word u.0 left) r.same_test))
+
+    front : (room : Room) (ts : List Lexeme) → (fl room in_a_query).front ts → (fl room in_planned).front ts
+    front room ts (inl o) = inl o
+    front room ts (inr (x, y, w, e, o, s)) = inr (x, y, w, e, o, in_parens_front (ref query) query_test query_inner query_inner_front room y s)
+
+in_list_planned : Below in_a_list in_planned
+in_list_planned = record { holds = λ room. record { spells = spells room; front = front room } }
+  where
+    spells : (room : Room) (ts : List Lexeme) (v : Option Lexeme → Left → Built Expr) → (fl room in_a_list).spells ts v → (fl room in_planned).spells ts v
+    spells room ts v (p, (u, (x, y, e, o, s), j), i) =
+        let r = in_parens members list_test list_inner room y u.1 s in
+        ((u.0, r.inside), (x, y, e, o, r.spelled), i ∙ (ap (λ z word left. t.in_list word z left) j ∙ sym (ap (λ g word left. g word u.0 left) r.same_test)))
+
+    front : (room : Room) (ts : List Lexeme) → (fl room in_a_list).front ts → (fl room in_planned).front ts
+    front room ts (inl o) = inl o
+    front room ts (inr (x, y, w, e, o, s)) = inr (x, y, w, e, o, in_parens_front members list_test list_inner list_inner_front room y s)
+
+-- ---- behind a NOT or none
+
+abbrev not_by_word : The (Left → Built Expr)
+not_by_word = map (λ p. p.1 (Some p.0)) (seq (a k.Not) by_word)
+
+abbrev by_word_alone : The (Left → Built Expr)
+by_word_alone = map (λ f. f None) by_word
+
+module _ {A : Type 0} (f : The A) (h : Option Lexeme → A → Left → Built Expr) (m : Below (map (λ x word left. h word x left) f) by_word) where
+  abbrev given : The (Left → Built Expr)
+  given = map (λ p left. h p.0 p.1 left) (seq (optional (a k.Not)) f)
+
+  perhaps_not : Below given (alt not_by_word by_word_alone)
+  perhaps_not = record { holds = λ room. record { spells = spells room; front = front room } }
+    where
+      spells : (room : Room) (ts : List Lexeme) (v : Left → Built Expr) → (fl room given).spells ts v → (fl room (alt not_by_word by_word_alone)).spells ts v
+      spells room ts v (u, (x, y, e, inl (w, n, j), s), i) =
+          inl ((w, λ word left. h word u.1 left), (x, y, e, n, (m.holds room).spells y (λ word left. h word u.1 left) (u.1, s, refl)), i ∙ ap (λ z left. h z u.1 left) j)
+      spells room ts v (u, (x, y, e, inr (w, n, j), s), i) =
+          inr ((λ word left. h word u.1 left), subst (λ z. (fl room by_word).spells z (λ word left. h word u.1 left)) (sym (e ∙ ap (λ z. z ++ y) n)) ((m.holds room).spells y (λ word left. h word u.1 left) (u.1, s, refl)),
+          i ∙ ap (λ z left. h z u.1 left) j)
+
+      front : (room : Room) (ts : List Lexeme) → (fl room (seq (optional (a k.Not)) f)).front ts → (fl room (alt not_by_word by_word_alone)).front ts
+      front room ts (inl (inl n)) = inl (inl n)
+      front room ts (inl (inr e)) = inl (inl (inl e))
+      front room ts (inr (x, y, o, e, inl (w, n, j), s)) = inl (inr (x, y, w, e, n, (m.holds room).front y s))
+      front room ts (inr (x, y, o, e, inr (w, n, j), s)) = inr (subst (fl room by_word).front (sym (e ∙ ap (λ z. z ++ y) n)) ((m.holds room).front y s))
+
+abbrev between_words : The (Option Lexeme → Left → Built Expr)
+between_words = map (λ p word left. t.between word p.0 p.1 left) (skip_then (a k.Between) (seq (ref value) (skip_then (a k.And) (ref value))))
+
+abbrev like_words : The (Option Lexeme → Left → Built Expr)
+like_words = map (λ x word left. t.like word x left) (skip_then (a k.Like) (ref value))
+
+pub rest_below : Below (rules rest) (plan rest)
+rest_below =
+    either (at_first (alt not_by_word by_word_alone) (itself comparison))
+    (either (at_second comparison (perhaps_not (seq (a k.In) (parens (ref query))) (λ word p left. t.in_query word p.0 p.1 left) (at_first (alt between_words like_words) in_query_planned)))
+    (either (at_second comparison (perhaps_not (skip_then (a k.In) (parens members)) (λ word p left. t.in_list word p left) (at_first (alt between_words like_words) in_list_planned)))
+    (either (at_second comparison (perhaps_not (skip_then (a k.Between) (seq (ref value) (skip_then (a k.And) (ref value)))) (λ word p left. t.between word p.0 p.1 left)
+        (at_second in_planned (at_first like_words (itself between_words)))))
+    (at_second comparison (perhaps_not (skip_then (a k.Like) (ref value)) (λ word x left. t.like word x left)
+        (at_second in_planned (at_second between_words (itself like_words))))))))
