@@ -15,7 +15,8 @@ use Rattle.sql_read.specs.Queries.{Spells}
 use Rattle.sql_read.specs.QueryGrammar.{Production, rules, query, part, operand, block, item, from, entry, reference, expr, conj, neg, test, rest, value, term, unary, primary, agg, set_tail, and_tail, expr_tail, inner, in_inner, commas}
 use Rattle.grammar.specs.Form.{empty}
 use Rattle.sql_read.proofs.QueryPlan.{plan}
-use Rattle.sql_read.proofs.QueryTable.{planned, table}
+use Rattle.sql_read.specs.QueryLookahead.{table}
+use Rattle.sql_read.proofs.QueryTable.{planned}
 use Rattle.sql_read.proofs.QueryInside.{P, fl, closes}
 use Rattle.sql_read.proofs.QueryInsides.{insides_included}
 use Rattle.sql_read.proofs.QueryWords.{Below, itself}

@@ -13,3 +13,4 @@ pub mod QueryTrees
 pub mod QueryGrammar
 pub mod Queries
 pub mod QuerySamples
+pub mod QueryLookahead
