@@ -1,9 +1,9 @@
 -- Forms that spell the same where the names have given languages: how a production may be written in another way.
-use Rattle.std.proofs.Common.{◌≡◌, ℕ, zero, suc, ◌+◌, Bool, true, false, List, [], ◌∷◌, ◌++◌, length, length-append, ◌⊎◌, inl, inr, refl, sym, ◌∙◌, ap, subst, append_assoc, Option, Some, None, arith}
+use Rattle.std.proofs.Common.{◌≡◌, ℕ, zero, suc, ◌+◌, Bool, true, List, [], ◌∷◌, ◌++◌, length, length-append, inl, inr, refl, sym, ◌∙◌, ap, subst, append_assoc, Option, Some, None, arith}
 use Rattle.std.proofs.lemmas.List.{append-nil}
-use Rattle.grammar.specs.Language.{Language, Includes, HasFronts, no_language}
-use Rattle.grammar.specs.Form.{Form, Room, IsRoomier, empty, token, seq, alt, star, nest, map, only, nonempty, counted, fork, ref, form_language, repeated}
-use Rattle.grammar.proofs.Forms.{includes_itself, includes_through, front_of_nil, repeated_grows, form_fronts}
+use Rattle.grammar.specs.Language.{Language, Includes, HasFronts}
+use Rattle.grammar.specs.Form.{Form, Room, empty, seq, alt, star, nest, map, only, nonempty, counted, form_language}
+use Rattle.grammar.proofs.Forms.{includes_itself, includes_through, front_of_nil, repeated_grows}
 use Rattle.grammar.proofs.Heights.{same_room}
 
 abbrev pub regrouped : {A B C : Type 0} → A × (B × C) → (A × B) × C

@@ -19,3 +19,7 @@ pub mod QuerySplits
 pub mod QueryInside
 pub mod QueryInsides
 pub mod QueryWords
+pub mod QueryFirsts
+pub mod QueryRests
+pub mod QueryItems
+pub mod QueryKnown

@@ -69,7 +69,7 @@ first_parts =
     (alt_alt kind_of P minus (alt literal named_first) enclosed_first)))
 
 -- an expression of the plan
-expr_parts : Same (ref expr) (alt going_on_by_and (alt (going_on bare_first) (going_on enclosed_first)))
+pub expr_parts : Same (ref expr) (alt going_on_by_and (alt (going_on bare_first) (going_on enclosed_first)))
 expr_parts =
     alike.chain kind_of P (split.expr_split P kept)
     (alike.alike_alt kind_of P going_on_by_and going_on_by_and (going_on (ref unary)) (alt (going_on bare_first) (going_on enclosed_first))
@@ -78,7 +78,7 @@ expr_parts =
 
 -- ---- an expression in parentheses that begins with a parenthesis
 
-counted_as : (l : Left) (x : Built Expr) (count : ℕ) → l.0 ≡ x → l.1 ≡ count → l ≡ (x, count)
+pub counted_as : (l : Left) (x : Built Expr) (count : ℕ) → l.0 ≡ x → l.1 ≡ count → l ≡ (x, count)
 counted_as l x count e f = let g : Built Expr → Left = λ z. (z, l.1) in let h : ℕ → Left = λ z. (x, z) in ap g e ∙ ap h f
 
 sub_is_sub : (p : Enclosed) → not_sub (t.sub p) ≡ false
@@ -102,7 +102,7 @@ module _ {M : Type 0} (more : The M) (room : Room) where
   tail_of_query a (c ∷ b) y p f m s r n q =
       (a, (c ∷ b) ++ y, inl (p, length a), refl, s, ((λ u. inr (inr (f (t.sub u.0, u.1), m))), inr (inl ((f, m), (c ∷ b, y, refl, (r, λ e. cc), q), refl)), refl))
 
-  tail_of_expression : (a b y : List Lexeme) (left : Left) (f : Left → Built _) (m : M) → (fl room sorted).spells a (inr left) → (P room expr_tail).spells b f
+  pub tail_of_expression : (a b y : List Lexeme) (left : Left) (f : Left → Built _) (m : M) → (fl room sorted).spells a (inr left) → (P room expr_tail).spells b f
       → (fl room more).spells y m → (fl room forked).spells (a ++ (b ++ y)) (inr (inr (f left, m)))
   tail_of_expression a b y left f m s r q =
       (a, b ++ y, inr left, refl, s, ((λ u. inr (inr (f u, m))), ((f, m), (b, y, refl, r, q), refl), refl))
@@ -119,12 +119,12 @@ module _ {M : Type 0} (more : The M) (room : Room) where
           let j : false ≡ true = sym (sub_is_sub p) ∙ i in cc
   more_of_query a (c ∷ b) y p f s r n q = inr (a, (c ∷ b) ++ y, inl (p, length a), refl, s, inr (inl (inr (c ∷ b, y, f, refl, (r, λ e. cc), q))))
 
-  more_of_expression : (a b y : List Lexeme) (left : Left) (f : Left → Built _) → (fl room sorted).spells a (inr left) → (P room expr_tail).spells b f
+  pub more_of_expression : (a b y : List Lexeme) (left : Left) (f : Left → Built _) → (fl room sorted).spells a (inr left) → (P room expr_tail).spells b f
       → (fl room more).front y → (fl room forked).front (a ++ (b ++ y))
   more_of_expression a b y left f s r q = inr (a, b ++ y, inr left, refl, s, inr (b, y, f, refl, r, q))
 
   -- a first part in parentheses, sorted, and its value
-  sorted_of : (a : List Lexeme) (w : Lexeme × Inside (Unit {0})) → (fl room (in_parentheses (ref inner))).spells a w → (fl room sorted).spells a (sort (w, length a))
+  pub sorted_of : (a : List Lexeme) (w : Lexeme × Inside (Unit {0})) → (fl room (in_parentheses (ref inner))).spells a w → (fl room sorted).spells a (sort (w, length a))
   sorted_of a w s = ((w, length a), (s, refl), refl)
 
   enclosed_spells : (a b y : List Lexeme) (w : Lexeme × Inside (Unit {0})) (f : Left → Built _) (m : M) → (fl room (in_parentheses (ref inner))).spells a w → (P room expr_tail).spells b f
@@ -140,7 +140,7 @@ module _ {M : Type 0} (more : The M) (room : Room) where
   enclosed_more a b y (o, inr (inr p)) f s r n u = more_of_expression a b y (p.0, length a) f (sorted_of a (o, inr (inr p)) s) r u
 
   -- where the tail itself goes on
-  enclosed_tail : (a b : List Lexeme) (w : Lexeme × Inside (Unit {0})) → (fl room (in_parentheses (ref inner))).spells a w → (P room expr_tail).front b → (fl room forked).front (a ++ b)
+  pub enclosed_tail : (a b : List Lexeme) (w : Lexeme × Inside (Unit {0})) → (fl room (in_parentheses (ref inner))).spells a w → (P room expr_tail).front b → (fl room forked).front (a ++ b)
   enclosed_tail a b (o, inl q) s r = inr (a, b, inl ((o, q), length a), refl, sorted_of a (o, inl q) s, inr (inl (inl r)))
   enclosed_tail a b (o, inr (inl p)) s r = inr (a, b, inl ((o, p.0.1), length a), refl, sorted_of a (o, inr (inl p)) s, inr (inl (inl r)))
   enclosed_tail a b (o, inr (inr p)) s r = inr (a, b, inr (p.0, length a), refl, sorted_of a (o, inr (inr p)) s, inl r)
@@ -151,7 +151,7 @@ module _ {M : Type 0} (more : The M) (room : Room) where
   planned_insides = plan_of_insides more
 
   -- an expression that is no subquery
-  expr_spells : (x y : List Lexeme) (v : Built Expr) (m : M) → (P room expr).spells x v → not_sub v ≡ true → (fl room more).spells y m → (fl room planned_insides).spells (x ++ y) (inr (inr (v, m)))
+  pub expr_spells : (x y : List Lexeme) (v : Built Expr) (m : M) → (P room expr).spells x v → not_sub v ≡ true → (fl room more).spells y m → (fl room planned_insides).spells (x ++ y) (inr (inr (v, m)))
   expr_spells x y v m s n r = go ((expr_parts.there room).spells x v s)
     where
       plainly_read : (fl room no_parenthesis).spells x v → (fl room planned_insides).spells (x ++ y) (inr (inr (v, m)))
@@ -169,7 +169,7 @@ module _ {M : Type 0} (more : The M) (room : Room) where
           (inr (inr (enclosed_spells a b y w u.1 m o q (subst (λ z. not_sub z ≡ true) value n) r)))))
 
   -- its fronts
-  expr_front : (x : List Lexeme) → (P room expr).front x → (fl room planned_insides).front x
+  pub expr_front : (x : List Lexeme) → (P room expr).front x → (fl room planned_insides).front x
   expr_front x f = go ((expr_parts.there room).front x f)
     where
       go : (fl room (alt going_on_by_and (alt (going_on bare_first) (going_on enclosed_first)))).front x → (fl room planned_insides).front x

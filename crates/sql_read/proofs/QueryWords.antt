@@ -103,7 +103,7 @@ name_parts =
     (through (token_parts after_quoted (among (k.Word ∷ k.Key ∷ k.View ∷ k.Index ∷ [])) aggregates (λ kind e. e))
     (below_alt (itself called_word) (token_parts aggregates (same k.Count) (among (k.Sum ∷ k.Avg ∷ k.Min ∷ k.Max ∷ [])) (λ kind e. e)))))
 
-aggregate_parts : Below aggregate_word (alt (a k.Count) other_aggregate)
+pub aggregate_parts : Below aggregate_word (alt (a k.Count) other_aggregate)
 aggregate_parts = token_parts (among (k.Count ∷ k.Sum ∷ k.Avg ∷ k.Min ∷ k.Max ∷ [])) (same k.Count) (among (k.Sum ∷ k.Avg ∷ k.Min ∷ k.Max ∷ [])) aggregate_by_kind
 
 -- ---- words

@@ -15,3 +15,4 @@ pub mod QueryTrees
 pub mod QueryGrammar
 pub mod Queries
 pub mod QuerySamples
+pub mod QueryLookahead

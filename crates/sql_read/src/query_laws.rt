@@ -1,13 +1,15 @@
 //! Laws of the grammar of queries, each the contract of a function that does nothing.
 ghost use Rattle.std.specs.Prelude.{◌≡◌, ◌++◌, ◌∷◌, List, [], None, Some, ℕ};
 ghost use Rattle.grammar.specs.Form.{Room};
-ghost use Rattle.grammar.specs.Language.{HasFronts, Includes};
+ghost use Rattle.grammar.specs.Language.{HasFronts, Includes, IsUnambiguous};
+ghost use Rattle.grammar.specs.Lookahead.{HasLookahead};
 ghost use Rattle.grammar.specs.Parses.{name_parses, whole_values};
 ghost use Rattle.sql_lex.specs.Lexemes.{Lexeme};
 ghost use Rattle.sql_model.specs.declared.tree.Query.{Query};
 ghost use Rattle.sql_read.specs.Kinds.{kind_of};
 ghost use Rattle.sql_read.specs.Numbering.{Built, Numbers};
 ghost use Rattle.sql_read.specs.Queries.{Begins, IsTooDeep, Spells, of_production, queries, shallow_queries};
+ghost use Rattle.sql_read.specs.QueryLookahead.{table};
 ghost use Rattle.sql_read.specs.QueryGrammar.{Production, Read, query, rules};
 
 /// A text may go on after no tokens, after fewer tokens than it may go on after, and after a query.
@@ -26,6 +28,17 @@ pub fn limits()
 /// The limits are passed at no more than one token of a text.
 pub fn passed_once()
     ensures { (x more y others : List Lexeme) (t u : Lexeme) → IsTooDeep x t → IsTooDeep y u → x ++ t ∷ more ≡ y ++ u ∷ others → (x ≡ y) × (t ≡ u) }
+{}
+
+/// No list of tokens spells two queries, nor two values of any production.
+pub fn one_query()
+    ensures queries { (before after other : Numbers) (ts : List Lexeme) (p q : Query) → Spells before ts p after → Spells before ts q other → (p ≡ q) × (after ≡ other) }
+    ensures productions { (room : Room) (p : Production) → IsUnambiguous (of_production room p) }
+{}
+
+/// One token of lookahead tells of each production what the table says.
+pub fn lookahead()
+    ensures { (room : Room) (p : Production) → HasLookahead kind_of (of_production room p) (table p) }
 {}
 
 /// A query that is computed from tokens is spelled by them.
