@@ -29,9 +29,12 @@ pub parens_map : {A B : Type 0} (h : A → B) (f : The A) → Below (map h (pare
 parens_map {A = A} {B = B} h f = record { holds = λ room. record { spells = spells room; front = front room } }
   where
     spells : (room : Room) (ts : List Lexeme) (v : B) → (fl room (map h (parens f))).spells ts v → (fl room (parens (map h f))).spells ts v
-    spells room ts v (u, (p, s, i), j) =
-        ((p.0, h p.1), (deeper_back (map h f) room).spells ts (p.0, h p.1)
-        (deeper_spells (λ r. fl r f) (λ r. fl r (map h f)) room ts p (h p.1) (λ r z w. (p.1, w, refl)) ((deeper_there f room).spells ts p s)), j ∙ ap h i)
+    spells room ts v (u, (p, s, i), j) = (
+      (p.0, h p.1),
+      (deeper_back (map h f) room).spells ts (p.0, h p.1)
+          (deeper_spells (λ r. fl r f) (λ r. fl r (map h f)) room ts p (h p.1) (λ r z w. (p.1, w, refl)) ((deeper_there f room).spells ts p s)),
+      j ∙ ap h i,
+    )
 
     front : (room : Room) (ts : List Lexeme) → (fl room (map h (parens f))).front ts → (fl room (parens (map h f))).front ts
     front room ts s =
@@ -49,9 +52,17 @@ abbrev dotted : The Expr
 dotted = map (λ p. column_or p.0 p.1) (seq name dot_name)
 
 reference_spells : (room : Room) (ts : List Lexeme) (v : Expr) → (fl room (rules reference)).spells ts v → (fl room dotted).spells ts v
-reference_spells room ts v (u, (x, y, e, inl (w, (p, (x1, y1, e1, n, d), j), l), m), i) =
-    ((w, Some u.1), (x1, y1 ++ y, e ∙ (ap (λ z. z ++ y) e1 ∙ append_assoc x1 y1 y), subst (λ z. (fl room name).spells x1 z) (sym j) n,
-    inl (u.1, ((p.1, u.1), (y1, y, refl, d, m), refl), refl)), i ∙ ap (λ o. t.column (o, u.1)) l)
+reference_spells room ts v (u, (x, y, e, inl (w, (p, (x1, y1, e1, n, d), j), l), m), i) = (
+  (w, Some u.1),
+  (
+    x1,
+    y1 ++ y,
+    e ∙ (ap (λ z. z ++ y) e1 ∙ append_assoc x1 y1 y),
+    subst (λ z. (fl room name).spells x1 z) (sym j) n,
+    inl (u.1, ((p.1, u.1), (y1, y, refl, d, m), refl), refl),
+  ),
+  i ∙ ap (λ o. t.column (o, u.1)) l,
+)
 reference_spells room ts v (u, (x, y, e, inr (w, n, l), m), i) =
     ((u.1, None), (y, [], e ∙ (ap (λ z. z ++ y) n ∙ sym (append-nil y)), m, inr (tt, refl, refl)), i ∙ ap (λ o. t.column (o, u.1)) l)
 
@@ -152,9 +163,12 @@ expr_first : Below (parens (only not_sub (ref expr))) enclosed_first
 expr_first = record { holds = λ room. record { spells = spells room; front = front room } }
   where
     spells : (room : Room) (ts : List Lexeme) (v : Built Expr) → (fl room (parens (only not_sub (ref expr)))).spells ts v → (fl room enclosed_first).spells ts v
-    spells room ts v (p, s, i) =
-        ((p.0, inr (inr (p.1, tt))), (deeper_back (ref inner) room).spells ts (p.0, inr (inr (p.1, tt)))
-        (deeper_spells (λ r. fl r (only not_sub (ref expr))) (λ r. P r inner) room ts p (inr (inr (p.1, tt))) (λ r z w. expr_inner r z p.1 w) ((deeper_there (only not_sub (ref expr)) room).spells ts p s)), i)
+    spells room ts v (p, s, i) = (
+      (p.0, inr (inr (p.1, tt))),
+      (deeper_back (ref inner) room).spells ts (p.0, inr (inr (p.1, tt)))
+          (deeper_spells (λ r. fl r (only not_sub (ref expr))) (λ r. P r inner) room ts p (inr (inr (p.1, tt))) (λ r z w. expr_inner r z p.1 w) ((deeper_there (only not_sub (ref expr)) room).spells ts p s)),
+      i,
+    )
 
     front : (room : Room) (ts : List Lexeme) → (fl room (parens (only not_sub (ref expr)))).front ts → (fl room enclosed_first).front ts
     front room ts s =

@@ -47,10 +47,17 @@ sets_identity room f s = (named planned room set_tail).unique [] f (λ q. q) s (
 
 no_tail : (room : Room) → (P room expr_tail).spells [] (λ left. left.0)
 no_tail room =
-    (closes room expr_tail).spells [] (λ left. left.0)
-    (((([], []), 0), (None, ([], []))),
-     ([], [], refl, (([], [], refl, star_none room (Some 63) next_product, star_none room (Some 63) next_sum), refl),
-      ([], [], refl, inr (tt, refl, refl), ([], [], refl, star_none room (Some 255) next_and, star_none room (Some 255) next_or))), refl)
+    (closes room expr_tail).spells [] (λ left. left.0) (
+      ((([], []), 0), (None, ([], []))),
+      (
+        [],
+        [],
+        refl,
+        (([], [], refl, star_none room (Some 63) next_product, star_none room (Some 63) next_sum), refl),
+        ([], [], refl, inr (tt, refl, refl), ([], [], refl, star_none room (Some 255) next_and, star_none room (Some 255) next_or)),
+      ),
+      refl,
+    )
 
 -- a first part with nothing behind it is that part
 pub tail_identity : (room : Room) (f : Left → Built _) → (P room expr_tail).spells [] f → f ≡ (λ left. left.0)

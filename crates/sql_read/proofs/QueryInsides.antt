@@ -65,7 +65,7 @@ first_parts =
     alike.chain kind_of P (kept unary refl)
     (alike.chain kind_of P (alike.alike_alt kind_of P minus minus (ref primary) (alt literal (alt named_first enclosed_first)) (alike.alike_itself kind_of P minus) plan_primary)
     (alike.chain kind_of P (alike.alike_alt kind_of P minus minus (alt literal (alt named_first enclosed_first)) (alt (alt literal named_first) enclosed_first)
-        (alike.alike_itself kind_of P minus) (alt_alt kind_of P literal named_first enclosed_first))
+    (alike.alike_itself kind_of P minus) (alt_alt kind_of P literal named_first enclosed_first))
     (alt_alt kind_of P minus (alt literal named_first) enclosed_first)))
 
 -- an expression of the plan

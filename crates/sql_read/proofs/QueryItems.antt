@@ -56,9 +56,11 @@ word_starred : (word : The Lexeme) (args : The (Lexeme → Built Expr)) → Belo
 word_starred word args = record { holds = λ room. record { spells = spells room; front = front room } }
   where
     spells : (room : Room) (ts : List Lexeme) (v : Starred) → (fl room (map right_of (word_with word args dot_name column_of (λ x. x)))).spells ts v → (fl room (word_with word args dot_star_or_name star_or_column right_of)).spells ts v
-    spells room ts v (z, (u, (x, y, e, w, inl (o, d, l)), j), i) =
-        ((u.0, (λ q. star_or_column q (as_star o))), (x, y, e, w, inl (as_star o, dot_spells room y o d, refl)),
-        i ∙ (ap right_of (j ∙ ap (λ g. g u.0) l) ∙ sym (same_column u.0 o)))
+    spells room ts v (z, (u, (x, y, e, w, inl (o, d, l)), j), i) = (
+      (u.0, (λ q. star_or_column q (as_star o))),
+      (x, y, e, w, inl (as_star o, dot_spells room y o d, refl)),
+      i ∙ (ap right_of (j ∙ ap (λ g. g u.0) l) ∙ sym (same_column u.0 o)),
+    )
     spells room ts v (z, (u, (x, y, e, w, inr (g, r, l)), j), i) =
         ((u.0, (λ q. right_of (g q))), (x, y, e, w, inr (g, r, refl)), i ∙ ap right_of (j ∙ ap (λ f. f u.0) l))
 
@@ -117,9 +119,14 @@ star_planned = record { holds = λ room. record { spells = spells room; front = 
         ((w, Some (inl p.1)), (x, y, refl, n, inl (inl p.1, ((p.0, inl p.1), (x1, y1, e1, d, inl (p.1, s, refl)), refl), refl)), refl)
 
     spells : (room : Room) (ts : List Lexeme) (v : Built Item) → (fl room (map t.alias_star_item name_and_star)).spells ts v → (fl room by_name).spells ts v
-    spells room ts v (w, (p, (x, y, e, n, s), j), i) =
-        (ts, [], inl p.0, sym (append-nil ts), ((inl p.0, length ts), (subst (λ z. (fl room starred_words).spells z (inl p.0)) (sym e) (first_star room x y p.0 p.1 n s), refl), refl),
-        ((λ qual. t.alias_star_item qual), (tt, refl, refl), i ∙ ap t.alias_star_item j))
+    spells room ts v (w, (p, (x, y, e, n, s), j), i) = (
+      ts,
+      [],
+      inl p.0,
+      sym (append-nil ts),
+      ((inl p.0, length ts), (subst (λ z. (fl room starred_words).spells z (inl p.0)) (sym e) (first_star room x y p.0 p.1 n s), refl), refl),
+      ((λ qual. t.alias_star_item qual), (tt, refl, refl), i ∙ ap t.alias_star_item j),
+    )
 
     front : (room : Room) (ts : List Lexeme) → (fl room (seq name (seq (a k.Dot) (a k.Star)))).front ts → (fl room by_name).front ts
     front room ts s = inl (((any_named dot_star_or_name star_or_column right_of).holds room).front ts (dotted ts s))
@@ -140,9 +147,14 @@ named_planned = record { holds = λ room. record { spells = spells room; front =
     first_left room x left (s, n) = ((inr left.0, left.1), ((named_starred.holds room).spells x (inr left.0) (left.0, s, refl), n), refl)
 
     spells : (room : Room) (ts : List Lexeme) (v : Built Item) → (fl room (with_alias (going_on named_first))).spells ts v → (fl room by_name).spells ts v
-    spells room ts v (p, (x, y, e, (u, (x1, y1, e1, s, r), j), o), i) =
-        (x1, y1 ++ y, inr u.0, e ∙ (ap (λ z. z ++ y) e1 ∙ append_assoc x1 y1 y), first_left room x1 u.0 s,
-        ((λ left. t.value_item (u.1 left) p.1), ((u.1, p.1), (y1, y, refl, r, o), refl), i ∙ ap (λ z. t.value_item z p.1) j))
+    spells room ts v (p, (x, y, e, (u, (x1, y1, e1, s, r), j), o), i) = (
+      x1,
+      y1 ++ y,
+      inr u.0,
+      e ∙ (ap (λ z. z ++ y) e1 ∙ append_assoc x1 y1 y),
+      first_left room x1 u.0 s,
+      ((λ left. t.value_item (u.1 left) p.1), ((u.1, p.1), (y1, y, refl, r, o), refl), i ∙ ap (λ z. t.value_item z p.1) j),
+    )
 
     front : (room : Room) (ts : List Lexeme) → (fl room (seq (going_on named_first) (optional alias))).front ts → (fl room by_name).front ts
     front room ts (inl (inl s)) = inl ((named_starred.holds room).front ts s)
@@ -195,11 +207,11 @@ expr_by_first =
     through (of_alike expr_parts)
     (either (at_second (going_on named_first) (at_second (going_on other_firsts) (itself going_on_by_and)))
     (either
-        (through (go_on_either minus (alt literal named_first))
-        (either (at_second (going_on named_first) (at_first going_on_by_and (go_on_below (at_first (alt literal enclosed_first) (itself minus)))))
-        (through (go_on_either literal named_first)
-        (either (at_second (going_on named_first) (at_first going_on_by_and (go_on_below (at_second minus (at_first enclosed_first (itself literal))))))
-        (at_first by_others (itself (going_on named_first)))))))
+    (through (go_on_either minus (alt literal named_first))
+    (either (at_second (going_on named_first) (at_first going_on_by_and (go_on_below (at_first (alt literal enclosed_first) (itself minus)))))
+    (through (go_on_either literal named_first)
+    (either (at_second (going_on named_first) (at_first going_on_by_and (go_on_below (at_second minus (at_first enclosed_first (itself literal))))))
+    (at_first by_others (itself (going_on named_first)))))))
     (at_second (going_on named_first) (at_first going_on_by_and (go_on_below (at_second minus (at_second literal (itself enclosed_first))))))))
 
 value_planned : Below (with_alias (ref expr)) (alt by_name others)

@@ -120,8 +120,8 @@ abbrev pub plan_of_item : The (Built Item)
 plan_of_item =
     alt (map t.star_item (a k.Star))
     (alt (fork (map star_or_left (counted (words dot_star_or_name star_or_column (λ x. inr x))))
-        (map (λ nothing qual. t.alias_star_item qual) empty)
-        (map (λ p left. t.value_item (p.0 left) p.1) (seq (ref expr_tail) (optional alias))))
+    (map (λ nothing qual. t.alias_star_item qual) empty)
+    (map (λ p left. t.value_item (p.0 left) p.1) (seq (ref expr_tail) (optional alias))))
     (map (λ p. t.value_item p.0 p.1) (seq (alt (going_on (alt minus (alt literal enclosed_first))) going_on_by_and) (optional alias))))
 
 -- ---- tests

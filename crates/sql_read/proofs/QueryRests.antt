@@ -266,8 +266,11 @@ module _ {A : Type 0} (f : The A) (h : Option Lexeme → A → Left → Built Ex
       spells room ts v (u, (x, y, e, inl (w, n, j), s), i) =
           inl ((w, λ word left. h word u.1 left), (x, y, e, n, (m.holds room).spells y (λ word left. h word u.1 left) (u.1, s, refl)), i ∙ ap (λ z left. h z u.1 left) j)
       spells room ts v (u, (x, y, e, inr (w, n, j), s), i) =
-          inr ((λ word left. h word u.1 left), subst (λ z. (fl room by_word).spells z (λ word left. h word u.1 left)) (sym (e ∙ ap (λ z. z ++ y) n)) ((m.holds room).spells y (λ word left. h word u.1 left) (u.1, s, refl)),
-          i ∙ ap (λ z left. h z u.1 left) j)
+          inr (
+            (λ word left. h word u.1 left),
+            subst (λ z. (fl room by_word).spells z (λ word left. h word u.1 left)) (sym (e ∙ ap (λ z. z ++ y) n)) ((m.holds room).spells y (λ word left. h word u.1 left) (u.1, s, refl)),
+            i ∙ ap (λ z left. h z u.1 left) j,
+          )
 
       front : (room : Room) (ts : List Lexeme) → (fl room (seq (optional (a k.Not)) f)).front ts → (fl room (alt not_by_word by_word_alone)).front ts
       front room ts (inl (inl n)) = inl (inl n)
@@ -287,6 +290,6 @@ rest_below =
     (either (at_second comparison (perhaps_not (seq (a k.In) (parens (ref query))) (λ word p left. t.in_query word p.0 p.1 left) (at_first (alt between_words like_words) in_query_planned)))
     (either (at_second comparison (perhaps_not (skip_then (a k.In) (parens members)) (λ word p left. t.in_list word p left) (at_first (alt between_words like_words) in_list_planned)))
     (either (at_second comparison (perhaps_not (skip_then (a k.Between) (seq (ref value) (skip_then (a k.And) (ref value)))) (λ word p left. t.between word p.0 p.1 left)
-        (at_second in_planned (at_first like_words (itself between_words)))))
+    (at_second in_planned (at_first like_words (itself between_words)))))
     (at_second comparison (perhaps_not (skip_then (a k.Like) (ref value)) (λ word x left. t.like word x left)
-        (at_second in_planned (at_second between_words (itself like_words))))))))
+    (at_second in_planned (at_second between_words (itself like_words))))))))

@@ -94,6 +94,7 @@ impl<'a> Tokens<'a> {
         self.next = None;
     }
 
+    /// Hands on the symbols and literals numbered so far.
     pub fn into_symbols(self) -> Symbols
         ensures { numbered result ≡ self.entry.numbered }
     {
