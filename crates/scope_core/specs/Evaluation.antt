@@ -45,8 +45,8 @@ unfoldable mutual
 
   -- The literal numbered 0 is the number 1: an aggregate that counts rows is handed it in place of its argument.
   pub argument_value : MaybeArgument → Bool → World → Environment → ℕ
-  argument_value NoArgument ones w env = literal_value w.reading 0
-  argument_value (AnArgument e) ones w env = if ones then literal_value w.reading 0 else value e w env
+  argument_value NoArgument counting w env = literal_value w.reading 0
+  argument_value (AnArgument e) counting w env = if counting then literal_value w.reading 0 else value e w env
 
   -- ---- conditions
   pub truth : RCond → World → Environment → Bool

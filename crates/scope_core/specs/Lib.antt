@@ -1,7 +1,12 @@
--- Resolved trees, in the order in which they are read: their vocabulary, which tree a query has, and what trees mean.
+-- Resolved trees, in the order in which they are read: their vocabulary, which tree a query has, what trees mean, and which queries are well
+-- formed.
 pub mod Syntax
 pub mod Scope
 pub mod Resolving
+pub mod Relations
 pub mod Environments
 pub mod Evaluation
 pub mod Width
+pub mod Sites
+pub mod Faults
+pub mod WellFormed

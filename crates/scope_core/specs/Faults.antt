@@ -1,0 +1,165 @@
+-- The faults of a query, one predicate for each, of the site at which it stands. A site that a predicate does not name has not its fault.
+use Rattle.std.specs.Prelude.{ℕ, suc, nat_eq, nat_lt, Bool, true, false, not, ◌&&◌, ◌||◌, List, [], ◌∷◌, length, filter, Option, Some, None, is_some, is_none, find}
+use Rattle.std.specs.Option.{option_or}
+use Rattle.std.specs.List.{list_any, flat_map}
+use Rattle.sql_model.specs.Syntax as n
+use Rattle.sql_model.specs.Syntax.{Name}
+use Rattle.sql_model.specs.Frames.{ColumnName}
+use Rattle.sql_model.specs.Columns.{same_name, is_called}
+use Rattle.sql_model.specs.Headings.{Heading}
+use Rattle.scope_core.specs.Scope.{Known, Place, is_among_places, Level, Levels, place_at}
+use Rattle.scope_core.specs.Sites.{Clause, OfRows, OfGroups, OfMembers, Wanted, AValue, ATruth, Site, ASource, AnAlias, AColumn, AGroupColumn, AStar, AnAliasStar, AnExpression, TwoWidths, Outputs}
+
+-- ---- vocabulary
+abbrev pub is_some_and : {X : Type 0} → (X → Bool) → Option X → Bool
+is_some_and test None = false
+is_some_and test (Some x) = test x
+
+-- the first entry of this alias in the innermost block that has one
+abbrev pub entry_meant : Name → Levels → Option Heading
+entry_meant alias [] = None
+entry_meant alias (level ∷ outer) = option_or (find (λ h. same_name alias h.alias) level.headings) (entry_meant alias outer)
+
+abbrev pub block_columns : Level → List ColumnName
+block_columns level = flat_map (λ h. h.columns) level.headings
+
+-- the innermost block that offers the name
+abbrev pub block_meant : Name → Levels → Option Level
+block_meant name levels = find (λ level. list_any (is_called name) (block_columns level)) levels
+
+-- whether two of the columns have this name
+abbrev pub has_two : Name → List ColumnName → Bool
+has_two name columns = nat_lt 1 (length (filter (is_called name) columns))
+
+-- whether it is a column of the innermost block, and whether of one further out
+abbrev pub is_inner : Option Name → Name → Levels → Bool
+is_inner qual name [] = false
+is_inner qual name (level ∷ outer) = is_some (place_at qual name level)
+
+abbrev pub is_outer : Option Name → Name → Levels → Bool
+is_outer qual name [] = false
+is_outer qual name (level ∷ outer) = is_none (place_at qual name level) && list_any (λ l. is_some (place_at qual name l)) outer
+
+-- ---- E30: an entry names no relation
+abbrev pub unknown_table : Site → Bool
+unknown_table (ASource name known at) = is_none (find (λ k. same_name name k.name) known)
+unknown_table _ = false
+
+-- ---- E31: no block from here outwards has the qualifier; for `alias.*`, this block has it not
+abbrev pub lacks_alias : Option Name → Levels → Bool
+lacks_alias None levels = false
+lacks_alias (Some alias) levels = is_none (entry_meant alias levels)
+
+abbrev pub unknown_alias : Site → Bool
+unknown_alias (AColumn clause qual qual_at name levels at) = lacks_alias qual levels
+unknown_alias (AGroupColumn (n.Col qual qual_at name at) levels) = lacks_alias qual levels
+unknown_alias (AnAliasStar clause alias headings at) = is_none (find (λ h. same_name alias h.alias) headings)
+unknown_alias _ = false
+
+-- ---- E32: the entry found by the qualifier lacks the column, or no block offers a bare one; or a column of GROUP BY is not this block's
+abbrev pub lacks_column : Option Name → Name → Levels → Bool
+lacks_column None name levels = is_none (block_meant name levels)
+lacks_column (Some alias) name levels = is_some_and (λ h. not (list_any (is_called name) h.columns)) (entry_meant alias levels)
+
+abbrev pub unknown_column : Site → Bool
+unknown_column (AColumn clause qual qual_at name levels at) = lacks_column qual name levels
+unknown_column (AGroupColumn (n.Col qual qual_at name at) levels) = lacks_column qual name levels || not (is_inner qual name levels)
+unknown_column (AGroupColumn expr levels) = true
+unknown_column _ = false
+
+-- ---- E33: two columns of the innermost block that offers the name, or of the qualified entry, have it
+abbrev pub names_two : Option Name → Name → Levels → Bool
+names_two None name levels = is_some_and (λ level. has_two name (block_columns level)) (block_meant name levels)
+names_two (Some alias) name levels = is_some_and (λ h. has_two name h.columns) (entry_meant alias levels)
+
+abbrev pub ambiguous : Site → Bool
+ambiguous (AColumn clause qual qual_at name levels at) = names_two qual name levels
+ambiguous (AGroupColumn (n.Col qual qual_at name at) levels) = names_two qual name levels
+ambiguous _ = false
+
+-- ---- E34: an alias twice in one block
+abbrev pub alias_twice : Site → Bool
+alias_twice (AnAlias alias before at) = list_any (same_name alias) before
+alias_twice _ = false
+
+-- ---- E35: a column, literal, operator, aggregate or scalar subquery where a truth is wanted
+abbrev pub not_truth : Site → Bool
+not_truth (AnExpression ATruth clause (n.Col qual qual_at name at)) = true
+not_truth (AnExpression ATruth clause (n.Lit lit at)) = true
+not_truth (AnExpression ATruth clause (n.Fun sym s args at)) = true
+not_truth (AnExpression ATruth clause (n.Agg fun is_distinct argument at)) = true
+not_truth (AnExpression ATruth clause (n.Sub query at)) = true
+not_truth _ = false
+
+-- ---- E36: a truth other than a call where a value is wanted
+abbrev pub not_value : Site → Bool
+not_value (AnExpression AValue clause (n.Pred sym s args at)) = true
+not_value (AnExpression AValue clause (n.Eq left right at)) = true
+not_value (AnExpression AValue clause (n.And s parts at)) = true
+not_value (AnExpression AValue clause (n.Or s parts at)) = true
+not_value (AnExpression AValue clause (n.Not part at)) = true
+not_value (AnExpression AValue clause (n.Exists query at)) = true
+not_value (AnExpression AValue clause (n.In left query at in_at)) = true
+not_value _ = false
+
+-- ---- E37: an aggregate in ON, WHERE or another aggregate's argument
+abbrev pub aggregate_here : Site → Bool
+aggregate_here (AnExpression wanted OfRows (n.Agg fun is_distinct argument at)) = true
+aggregate_here (AnExpression wanted OfMembers (n.Agg fun is_distinct argument at)) = true
+aggregate_here _ = false
+
+-- ---- E38: in the items or HAVING of a grouped block, outside aggregates, a column of this block that is not a group column
+abbrev pub is_no_key : Option (List Place) → Option Place → Bool
+is_no_key (Some columns) (Some p) = not (is_among_places p columns)
+is_no_key _ _ = false
+
+abbrev pub not_grouped : Site → Bool
+not_grouped (AColumn OfGroups qual qual_at name (level ∷ outer) at) = is_no_key level.keys (place_at qual name level)
+not_grouped _ = false
+
+-- ---- E39: an aggregate's argument names an outer block's column
+abbrev pub outer_aggregate : Site → Bool
+outer_aggregate (AColumn OfMembers qual qual_at name levels at) = is_outer qual name levels
+outer_aggregate _ = false
+
+-- ---- E40: a subquery in the items or HAVING of a grouped block, aggregates' arguments included
+abbrev pub is_subquery : n.Expr → Bool
+is_subquery (n.Sub query at) = true
+is_subquery (n.Exists query at) = true
+is_subquery (n.In left query at in_at) = true
+is_subquery _ = false
+
+abbrev pub subquery_in_group : Site → Bool
+subquery_in_group (AnExpression wanted OfGroups expr) = is_subquery expr
+subquery_in_group (AnExpression wanted OfMembers expr) = is_subquery expr
+subquery_in_group _ = false
+
+-- ---- E41: two widths differ
+abbrev pub width_differs : Site → Bool
+width_differs (TwoWidths left right at) = not (nat_eq left right)
+width_differs _ = false
+
+-- ---- E42: a scalar subquery that is not one block with one item, an aggregate, without DISTINCT, GROUP BY and HAVING
+abbrev pub is_one_aggregate : {m : _} → n.Items m → Bool
+is_one_aggregate (n.ItemThen (n.Value (n.Agg fun is_distinct argument at) name) n.NoItems) = true
+is_one_aggregate _ = false
+
+abbrev pub is_scalar : n.Query → Bool
+is_scalar (n.OfBlock (n.Select false s items s' from where_condition n.NoGroupBy n.NoCondition)) = is_one_aggregate items
+is_scalar _ = false
+
+abbrev pub scalar_not_aggregate : Site → Bool
+scalar_not_aggregate (AnExpression wanted clause (n.Sub query at)) = not (is_scalar query)
+scalar_not_aggregate _ = false
+
+-- ---- E43: a view has one output name twice; of the names of its columns
+abbrev pub name_twice : List ColumnName → Bool
+name_twice [] = false
+name_twice (None ∷ rest) = name_twice rest
+name_twice (Some name ∷ rest) = list_any (is_called name) rest || name_twice rest
+
+-- ---- E44: `*` or `alias.*` in a grouped block
+abbrev pub star_in_group : Site → Bool
+star_in_group (AStar OfGroups at) = true
+star_in_group (AnAliasStar OfGroups alias headings at) = true
+star_in_group _ = false
