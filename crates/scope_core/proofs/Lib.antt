@@ -1,0 +1,6 @@
+pub mod Each
+pub mod Resolvable
+pub mod Built
+pub mod Places
+pub mod Wide
+pub mod SameRows

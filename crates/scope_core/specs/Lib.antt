@@ -10,3 +10,4 @@ pub mod Width
 pub mod Sites
 pub mod Faults
 pub mod WellFormed
+pub mod Compute
