@@ -4,3 +4,4 @@ pub mod Built
 pub mod Places
 pub mod Wide
 pub mod SameRows
+pub mod Resolvability

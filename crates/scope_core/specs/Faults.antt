@@ -1,12 +1,11 @@
 -- The faults of a query, one predicate for each, of the site at which it stands. A site that a predicate does not name has not its fault.
 use Rattle.std.specs.Prelude.{ℕ, suc, nat_eq, nat_lt, Bool, true, false, not, ◌&&◌, ◌||◌, List, [], ◌∷◌, length, filter, Option, Some, None, is_some, is_none, find}
-use Rattle.std.specs.Option.{option_or}
 use Rattle.std.specs.List.{list_any, flat_map}
 use Rattle.sql_model.specs.Syntax as n
 use Rattle.sql_model.specs.Syntax.{Name}
 use Rattle.sql_model.specs.Frames.{ColumnName}
 use Rattle.sql_model.specs.Columns.{same_name, is_called}
-use Rattle.sql_model.specs.Headings.{Heading}
+use Rattle.sql_model.specs.Headings.{Heading, columns_of}
 use Rattle.scope_core.specs.Scope.{Known, Place, is_among_places, Level, Levels, place_at}
 use Rattle.scope_core.specs.Sites.{Clause, OfRows, OfGroups, OfMembers, Wanted, AValue, ATruth, Site, ASource, AnAlias, AColumn, AGroupColumn, AStar, AnAliasStar, AnExpression, TwoWidths, Outputs}
 
@@ -15,30 +14,28 @@ abbrev pub is_some_and : {X : Type 0} → (X → Bool) → Option X → Bool
 is_some_and test None = false
 is_some_and test (Some x) = test x
 
--- the first entry of this alias in the innermost block that has one
-abbrev pub entry_meant : Name → Levels → Option Heading
-entry_meant alias [] = None
-entry_meant alias (level ∷ outer) = option_or (find (λ h. same_name alias h.alias) level.headings) (entry_meant alias outer)
+abbrev pub count_called : Name → List ColumnName → ℕ
+count_called name columns = length (filter (is_called name) columns)
 
-abbrev pub block_columns : Level → List ColumnName
-block_columns level = flat_map (λ h. h.columns) level.headings
+-- whether a block has the qualifier, or offers a bare name
+abbrev pub offers : Option Name → Name → Level → Bool
+offers qual name level = is_some (place_at qual name level)
 
--- the innermost block that offers the name
-abbrev pub block_meant : Name → Levels → Option Level
-block_meant name levels = find (λ level. list_any (is_called name) (block_columns level)) levels
+-- the innermost block that does
+abbrev pub block_meant : Option Name → Name → Levels → Option Level
+block_meant qual name levels = find (offers qual name) levels
 
--- whether two of the columns have this name
-abbrev pub has_two : Name → List ColumnName → Bool
-has_two name columns = nat_lt 1 (length (filter (is_called name) columns))
+-- the columns among which a name is sought there: those of the qualified entry, or of all entries
+abbrev pub columns_meant : Option Name → Level → List ColumnName
+columns_meant None level = flat_map (λ h. h.columns) level.headings
+columns_meant (Some alias) level = columns_of alias level.headings
 
--- whether it is a column of the innermost block, and whether of one further out
-abbrev pub is_inner : Option Name → Name → Levels → Bool
-is_inner qual name [] = false
-is_inner qual name (level ∷ outer) = is_some (place_at qual name level)
+abbrev pub is_here : Option Name → Name → Levels → Bool
+is_here qual name [] = false
+is_here qual name (level ∷ outer) = offers qual name level
 
 abbrev pub is_outer : Option Name → Name → Levels → Bool
-is_outer qual name [] = false
-is_outer qual name (level ∷ outer) = is_none (place_at qual name level) && list_any (λ l. is_some (place_at qual name l)) outer
+is_outer qual name levels = is_some (block_meant qual name levels) && not (is_here qual name levels)
 
 -- ---- E30: an entry names no relation
 abbrev pub unknown_table : Site → Bool
@@ -46,31 +43,31 @@ unknown_table (ASource name known at) = is_none (find (λ k. same_name name k.na
 unknown_table _ = false
 
 -- ---- E31: no block from here outwards has the qualifier; for `alias.*`, this block has it not
-abbrev pub lacks_alias : Option Name → Levels → Bool
-lacks_alias None levels = false
-lacks_alias (Some alias) levels = is_none (entry_meant alias levels)
+abbrev pub lacks_alias : Option Name → Name → Levels → Bool
+lacks_alias None name levels = false
+lacks_alias (Some alias) name levels = is_none (block_meant (Some alias) name levels)
 
 abbrev pub unknown_alias : Site → Bool
-unknown_alias (AColumn clause qual qual_at name levels at) = lacks_alias qual levels
-unknown_alias (AGroupColumn (n.Col qual qual_at name at) levels) = lacks_alias qual levels
+unknown_alias (AColumn clause qual qual_at name levels at) = lacks_alias qual name levels
+unknown_alias (AGroupColumn (n.Col qual qual_at name at) levels) = lacks_alias qual name levels
 unknown_alias (AnAliasStar clause alias headings at) = is_none (find (λ h. same_name alias h.alias) headings)
 unknown_alias _ = false
 
 -- ---- E32: the entry found by the qualifier lacks the column, or no block offers a bare one; or a column of GROUP BY is not this block's
 abbrev pub lacks_column : Option Name → Name → Levels → Bool
-lacks_column None name levels = is_none (block_meant name levels)
-lacks_column (Some alias) name levels = is_some_and (λ h. not (list_any (is_called name) h.columns)) (entry_meant alias levels)
+lacks_column None name levels = is_none (block_meant None name levels)
+lacks_column (Some alias) name levels =
+    is_some_and (λ level. not (list_any (is_called name) (columns_meant (Some alias) level))) (block_meant (Some alias) name levels)
 
 abbrev pub unknown_column : Site → Bool
 unknown_column (AColumn clause qual qual_at name levels at) = lacks_column qual name levels
-unknown_column (AGroupColumn (n.Col qual qual_at name at) levels) = lacks_column qual name levels || not (is_inner qual name levels)
+unknown_column (AGroupColumn (n.Col qual qual_at name at) levels) = lacks_column qual name levels || is_outer qual name levels
 unknown_column (AGroupColumn expr levels) = true
 unknown_column _ = false
 
 -- ---- E33: two columns of the innermost block that offers the name, or of the qualified entry, have it
 abbrev pub names_two : Option Name → Name → Levels → Bool
-names_two None name levels = is_some_and (λ level. has_two name (block_columns level)) (block_meant name levels)
-names_two (Some alias) name levels = is_some_and (λ h. has_two name h.columns) (entry_meant alias levels)
+names_two qual name levels = is_some_and (λ level. nat_lt 1 (count_called name (columns_meant qual level))) (block_meant qual name levels)
 
 abbrev pub ambiguous : Site → Bool
 ambiguous (AColumn clause qual qual_at name levels at) = names_two qual name levels

@@ -88,8 +88,8 @@ unfoldable mutual
   truth_sites (n.Exists query at) clause known levels = AnExpression ATruth clause (n.Exists query at) ∷ sites query known levels
   truth_sites (n.In left query at in_at) clause known levels =
       AnExpression ATruth clause (n.In left query at in_at)
-      ∷ value_sites left clause known levels ++ sites query known levels
-      ++ TwoWidths 1 (length (output_columns query (map heading known))) in_at ∷ []
+      ∷ (value_sites left clause known levels ++ sites query known levels
+      ++ TwoWidths 1 (length (output_columns query (map heading known))) in_at ∷ [])
   truth_sites value clause known levels = AnExpression ATruth clause value ∷ []
 
   pub truths_sites : {m : _} → n.Exprs m → Clause → List Known → Levels → List Site

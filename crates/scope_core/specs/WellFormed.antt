@@ -1,5 +1,5 @@
 -- When a query is well formed, and when a schema is: no fault is at any site.
-use Rattle.std.specs.Prelude.{Bool, true, false, ◌||◌, ◌≡◌, List, [], ◌∷◌, map}
+use Rattle.std.specs.Prelude.{Bool, true, false, ◌≡◌, List, [], ◌∷◌, map}
 use Rattle.data_model.specs.Lists.{Each}
 use Rattle.sql_model.specs.Syntax.{Name, Query}
 use Rattle.sql_model.specs.Headings.{output_columns}
@@ -12,15 +12,26 @@ use Rattle.scope_core.specs.Sites.{Site, sites}
 use Rattle.scope_core.specs.Faults.{unknown_table, unknown_alias, unknown_column, ambiguous, alias_twice, not_truth, not_value, aggregate_here, not_grouped, outer_aggregate, subquery_in_group, width_differs, scalar_not_aggregate, name_twice, star_in_group}
 use Rattle.scope_core.specs.Relations.{known_with, trees_with, known_of}
 
-abbrev pub is_faulty : Site → Bool
-is_faulty site =
-    unknown_table site || unknown_alias site || unknown_column site || ambiguous site || alias_twice site || not_truth site || not_value site
-    || aggregate_here site || not_grouped site || outer_aggregate site || subquery_in_group site || width_differs site
-    || scalar_not_aggregate site || star_in_group site
+-- what has to hold at each site, in the order of the faults' numbers
+pub record HasNoFault (site : Site) : Type 0 where
+  pub table_is_known : unknown_table site ≡ false
+  pub alias_is_known : unknown_alias site ≡ false
+  pub column_is_known : unknown_column site ≡ false
+  pub column_is_one : ambiguous site ≡ false
+  pub alias_is_new : alias_twice site ≡ false
+  pub truth_is_truth : not_truth site ≡ false
+  pub value_is_value : not_value site ≡ false
+  pub aggregate_may_stand : aggregate_here site ≡ false
+  pub column_is_grouped : not_grouped site ≡ false
+  pub argument_is_inner : outer_aggregate site ≡ false
+  pub subquery_may_stand : subquery_in_group site ≡ false
+  pub widths_agree : width_differs site ≡ false
+  pub scalar_is_aggregate : scalar_not_aggregate site ≡ false
+  pub star_may_stand : star_in_group site ≡ false
 
 -- over these relations, within these blocks
 abbrev pub IsWellFormed : Query → List Known → Levels → Type 0
-IsWellFormed query known levels = Each (λ site. is_faulty site ≡ false) (sites query known levels)
+IsWellFormed query known levels = Each HasNoFault (sites query known levels)
 
 -- a view, over the relations before it
 abbrev pub IsRelationWellFormed : List Known → Relation → Type 0
