@@ -5,3 +5,4 @@ pub mod Places
 pub mod Wide
 pub mod SameRows
 pub mod Resolvability
+pub mod Relations

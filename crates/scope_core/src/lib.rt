@@ -4,6 +4,7 @@
 //! `specs/Lib.antt`.
 #![tactic(auto)]
 
+pub mod laws;
 pub mod tree;
 
 pub use plain_data::{Boxed, List};
