@@ -1,5 +1,5 @@
 -- What the evaluator says of a tree that code builds.
-use Rattle.std.proofs.Common.{◌≡◌, ℕ, Bool, true, false, List, [], ◌∷◌, map, filter, get_or, Option, Some, None, refl, ap, sym, ◌∙◌}
+use Rattle.std.proofs.Common.{◌≡◌, ℕ, Bool, true, false, List, [], ◌∷◌, map, filter, get_or, Option, Some, None, refl, ap, sym}
 use Rattle.std.specs.Prelude.{◌&&◌, ◌||◌, not, if◌then◌else◌, nat_eq}
 use Rattle.data_model.specs.Rows.{Row, is_among, product}
 use Rattle.data_model.specs.Reading.{literal_value, function_value, predicate_holds}
@@ -13,7 +13,7 @@ use Rattle.scope_core.specs.declared.tree.RSource.TheVariants as s
 use Rattle.scope_core.specs.declared.tree.RQuery.TheVariants as q
 use Rattle.scope_core.specs.declared.tree.RBlock.{roll-RBlock}
 use Rattle.scope_core.specs.Syntax.{RVal, RCond, RSource, RBlock, RQuery, Grouping}
-use Rattle.scope_core.specs.Environments.{World, Environment, Frame, frame_of, outer_frames, members_here, key_here, column_value}
+use Rattle.scope_core.specs.Environments.{World, Environment, frame_of, outer_frames, members_here, key_here, column_value}
 use Rattle.scope_core.specs.Evaluation.{frames, value, values, truth, all_hold, some_hold, rows, block_rows, choices, source_rows}
 use Rattle.scope_core.specs.Resolving.{entry_of, nothing, conjunction}
 use Rattle.scope_core.specs.Compute.{everything}

@@ -1,5 +1,5 @@
 -- What holds of each member of a list.
-use Rattle.std.proofs.Common.{ℕ, Bool, true, false, not, List, [], ◌∷◌, ◌++◌, map, filter, cond}
+use Rattle.std.proofs.Common.{Bool, true, false, not, List, [], ◌∷◌, ◌++◌, map, filter, cond}
 use Rattle.std.specs.List.{flat_map}
 use Rattle.data_model.specs.Lists.{Each}
 use Rattle.data_model.specs.Rows.{Row, same_row, distinct, is_among}

@@ -1,6 +1,6 @@
 -- A column's place reads what its name reads.
-use Rattle.std.proofs.Common.{◌≡◌, ℕ, zero, suc, ◌+◌, ◌<◌, ◌≤◌, Bool, true, false, List, [], ◌∷◌, ◌++◌, map, length, get_or, drop, Option, Some, None, option_map, unwrap_or, position, cond, refl, ap, sym, subst, ◌∙◌, arith, inl, inr}
-use Rattle.std.specs.Prelude.{find, if◌then◌else◌}
+use Rattle.std.proofs.Common.{◌≡◌, ℕ, zero, suc, ◌+◌, ◌<◌, ◌≤◌, Bool, true, false, List, [], ◌∷◌, ◌++◌, map, length, get_or, drop, Option, Some, None, option_map, unwrap_or, position, cond, refl, ap, sym, subst, ◌∙◌, arith}
+use Rattle.std.specs.Prelude.{if◌then◌else◌}
 use Rattle.std.specs.Option.{option_or}
 use Rattle.std.specs.List.{flat_map}
 use Rattle.data_model.specs.Lists.{Each}
@@ -11,8 +11,7 @@ use Rattle.sql_model.specs.Frames as nf
 use Rattle.sql_model.specs.Columns.{same_name, is_called, value_in_entry, value_in_some, entry_with_alias, value_among, column_value}
 use Rattle.sql_model.specs.Headings.{Heading}
 use Rattle.sql_model.specs.Meaning as m
-use Rattle.scope_core.specs.declared.tree.RVal.TheVariants as v
-use Rattle.scope_core.specs.Scope.{Place, is_among_places, index_of, Level, Levels, bare_place, qualified_place, place_in, place_at, column_at, column_from}
+use Rattle.scope_core.specs.Scope.{Place, is_among_places, index_of, Level, Levels, bare_place, qualified_place, place_in, column_at, column_from}
 use Rattle.scope_core.specs.Resolving.{entry_columns, star, alias_star}
 use Rattle.scope_core.specs.Environments.{World, Environment, Frame, Combination, row_of, rows_at}
 use Rattle.scope_core.specs.Evaluation.{value}

@@ -1,12 +1,11 @@
 -- The rows of a well-formed query over the relations of a schema are those of its tree over the trees of the views.
-use Rattle.std.proofs.Common.{◌≡◌, ℕ, zero, suc, ◌+◌, ◌<◌, List, [], ◌∷◌, ◌++◌, map, length, get_or, Option, Some, None, refl, ap, sym, subst, ◌∙◌, arith}
+use Rattle.std.proofs.Common.{◌≡◌, ℕ, zero, suc, ◌+◌, ◌<◌, List, [], ◌∷◌, ◌++◌, map, length, get_or, Some, refl, ap, sym, subst, ◌∙◌, arith}
 use Rattle.std.specs.Prelude.{filter_map}
 use Rattle.data_model.specs.Lists.{Each}
 use Rattle.data_model.specs.Rows.{Row}
 use Rattle.data_model.specs.Reading.{Reading}
 use Rattle.data_model.specs.Database.{Database, TableConstraints, table_rows}
 use Rattle.sql_model.specs.declared.schema.Schema.{Schema}
-use Rattle.sql_model.specs.declared.schema.Table.{Table}
 use Rattle.sql_model.specs.declared.schema.Relation.TheVariants as relation
 use Rattle.sql_model.specs.Syntax.{Name, Query}
 use Rattle.sql_model.specs.Headings.{output_columns}
@@ -14,14 +13,14 @@ use Rattle.sql_model.specs.World.{ShownRelation}
 use Rattle.sql_model.specs.Relations.{Relation, shown_relation, shown_relations}
 use Rattle.sql_model.specs.Relations as named
 use Rattle.sql_model.specs.Meaning as m
-use Rattle.sql_model.specs.Meets.{Meets, base_table, base_tables, table_constraints}
+use Rattle.sql_model.specs.Meets.{Meets, base_table, table_constraints}
 use Rattle.scope_core.specs.Syntax.{RSource, RQuery, Table as TableSource, View, Derived}
-use Rattle.scope_core.specs.Scope.{Known, heading}
+use Rattle.scope_core.specs.Scope.{Known}
 use Rattle.scope_core.specs.Resolving.{resolved}
-use Rattle.scope_core.specs.Relations.{known_relation, known_with, trees_with, known_relations, view_trees, known_of, views_of, tree_of}
+use Rattle.scope_core.specs.Relations.{known_with, trees_with, known_relations, view_trees, known_of, views_of, tree_of}
 use Rattle.scope_core.specs.Environments.{World, Environment}
 use Rattle.scope_core.specs.Evaluation.{rows, source_rows, world_of, view_rows, answer}
-use Rattle.scope_core.specs.WellFormed.{IsWellFormed, IsRelationWellFormed, AreWellFormed, SchemaWellFormed, WellFormed}
+use Rattle.scope_core.specs.WellFormed.{IsRelationWellFormed, AreWellFormed, SchemaWellFormed, WellFormed}
 use Rattle.scope_core.proofs.Each.{Each-in, Each-end}
 use Rattle.scope_core.proofs.Wide.{IsShown, Shows, known-eq, rows-wide}
 use Rattle.scope_core.proofs.SameRows.{rows-same}

@@ -1,6 +1,6 @@
 -- A well-formed query is resolvable.
-use Rattle.std.proofs.Common.{◌≡◌, ℕ, zero, suc, ◌<◌, ◌≤◌, Bool, true, false, not, ◌&&◌, ◌||◌, List, [], ◌∷◌, ◌++◌, map, length, Option, Some, None, option_map, unwrap_or, position, cond, refl, ap, sym, subst, ◌∙◌, arith}
-use Rattle.std.specs.Prelude.{◌+◌, nat_eq, nat_lt, find, is_some, is_none, if◌then◌else◌}
+use Rattle.std.proofs.Common.{◌≡◌, ℕ, suc, ◌<◌, ◌≤◌, Bool, true, false, not, ◌&&◌, ◌||◌, List, [], ◌∷◌, ◌++◌, map, length, Option, Some, None, option_map, unwrap_or, position, cond, refl, sym, subst, arith}
+use Rattle.std.specs.Prelude.{◌+◌, nat_eq, nat_lt, is_some, is_none, if◌then◌else◌}
 use Rattle.std.specs.Option.{option_or}
 use Rattle.std.specs.List.{list_any, position_or_len}
 use Rattle.std.proofs.lemmas.Bool.Decides.{nat_tests}
@@ -13,11 +13,11 @@ use Rattle.sql_model.specs.Frames.{ColumnName}
 use Rattle.sql_model.specs.Columns.{same_name, is_called}
 use Rattle.sql_model.specs.Headings.{Heading, columns_of, output_columns, headings, source_columns}
 use Rattle.sql_model.specs.Grouping.{is_one_group}
-use Rattle.scope_core.specs.Scope.{Known, heading, Place, is_among_places, Level, Levels, bare_place, qualified_place, place_in, place_at, group_columns, rows_level, output_level, member_levels, on_level, no_entry}
+use Rattle.scope_core.specs.Scope.{Known, heading, Place, is_among_places, Level, Levels, bare_place, qualified_place, place_in, place_at, rows_level, output_level, member_levels, on_level, no_entry}
 use Rattle.scope_core.specs.Syntax.{Grouping, Plain, One, Keys}
 use Rattle.scope_core.specs.Resolving.{grouping_of}
-use Rattle.scope_core.specs.Sites.{Clause, OfRows, OfGroups, OfMembers, Wanted, AValue, ATruth, Site, AColumn, AGroupColumn, AStar, AnAliasStar, AnExpression, TwoWidths, output_clause, group_sites, group_by_sites, sites, block_sites, entry_sites, source_sites, on_sites, items_sites, item_sites, written_sites, value_sites, values_sites, argument_sites, truth_sites, truths_sites}
-use Rattle.scope_core.specs.Faults.{is_some_and, offers, block_meant, columns_meant, lacks_alias, lacks_column, is_no_key, is_scalar}
+use Rattle.scope_core.specs.Sites.{Clause, OfRows, OfGroups, OfMembers, AValue, ATruth, Site, AColumn, AGroupColumn, AStar, AnAliasStar, AnExpression, TwoWidths, output_clause, group_sites, group_by_sites, sites, block_sites, entry_sites, source_sites, on_sites, items_sites, item_sites, written_sites, value_sites, values_sites, argument_sites, truth_sites, truths_sites}
+use Rattle.scope_core.specs.Faults.{is_some_and, block_meant, lacks_alias, lacks_column, is_no_key, is_scalar}
 use Rattle.scope_core.specs.WellFormed.{HasNoFault, IsWellFormed}
 use Rattle.scope_core.proofs.Each.{Each-left, Each-right}
 use Rattle.scope_core.proofs.Resolvable.{width_in, IsFound, ResolvableColumn, IsGroupLevel, Plainly, ResolvableKey, ResolvableKeys, ResolvableGroupBy, Resolvable, ResolvableBlock, ResolvableEntries, ResolvableSource, ResolvableWritten, ResolvableItems, ResolvableItem, ResolvableValue, ResolvableValues, ResolvableArgument, ResolvableScalar, ResolvableCondition, ResolvableConditions}

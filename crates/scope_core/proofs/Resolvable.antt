@@ -1,11 +1,11 @@
 -- What the proofs about resolved trees ask of a query: every column is found, and what is no value or no condition stands where none is wanted.
 -- A well-formed query has it.
-use Rattle.std.specs.Prelude.{ℕ, suc, ◌<◌, nat_eq, if◌then◌else◌, is_some, Bool, true, false, List, [], ◌∷◌, length, map, ◌≡◌, Option, Some, None}
+use Rattle.std.specs.Prelude.{ℕ, suc, ◌<◌, nat_eq, if◌then◌else◌, is_some, true, List, [], ◌∷◌, length, ◌≡◌, Option, Some, None}
 use Rattle.sql_model.specs.Syntax as n
 use Rattle.sql_model.specs.Syntax.{Name}
 use Rattle.sql_model.specs.Headings.{Heading, output_columns, headings, source_columns}
 use Rattle.sql_model.specs.Grouping.{is_one_group}
-use Rattle.scope_core.specs.Scope.{Place, is_among_places, Level, Levels, place_in, rows_level, output_level, on_level, no_entry, group_columns, member_levels}
+use Rattle.scope_core.specs.Scope.{Place, is_among_places, Level, Levels, place_in, rows_level, output_level, on_level, no_entry, member_levels}
 use Rattle.scope_core.specs.Resolving.{grouping_of}
 use Rattle.scope_core.specs.Faults.{is_scalar}
 

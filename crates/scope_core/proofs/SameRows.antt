@@ -1,5 +1,5 @@
 -- The rows of a query are those of its resolved tree, in the same order.
-use Rattle.std.proofs.Common.{◌≡◌, ℕ, zero, suc, ◌+◌, Bool, true, false, not, ◌&&◌, ◌||◌, List, [], ◌∷◌, ◌++◌, map, filter, length, get_or, Option, Some, None, option_map, unwrap_or, cond, refl, ap, sym, subst, ◌∙◌, arith}
+use Rattle.std.proofs.Common.{◌≡◌, ℕ, suc, ◌+◌, Bool, true, false, not, ◌&&◌, ◌||◌, List, [], ◌∷◌, ◌++◌, map, filter, length, get_or, Option, Some, None, option_map, unwrap_or, cond, refl, ap, sym, subst, ◌∙◌, arith}
 use Rattle.std.specs.Prelude.{nat_eq, if◌then◌else◌}
 use Rattle.std.specs.List.{flat_map}
 use Rattle.std.proofs.lemmas.Bool.Decides.{nat_tests}
@@ -25,11 +25,11 @@ use Rattle.scope_core.specs.declared.tree.RVal.TheVariants as v
 use Rattle.scope_core.specs.declared.tree.RCond.TheVariants as c
 use Rattle.scope_core.specs.Syntax.{RCond}
 use Rattle.scope_core.specs.Scope.{Known, heading, Place, same_place, is_among_places, index_of, Level, Levels, group_columns, rows_level, member_levels, on_level, no_entry}
-use Rattle.scope_core.specs.Resolving.{group_place, group_places, grouping_of, source_named, conjunction, resolved_value, resolved_values, resolved_argument, only_block, conjuncts, conjuncts_of_each, resolved_conditions, conjuncts_written, resolved_having, resolved, resolved_block, resolved_entries, resolved_source, on_conjuncts, resolved_items, resolved_item}
+use Rattle.scope_core.specs.Resolving.{group_place, group_places, grouping_of, conjunction, resolved_value, resolved_values, resolved_argument, only_block, conjuncts, conjuncts_of_each, resolved_conditions, conjuncts_written, resolved_having, resolved, resolved_block, resolved_entries, resolved_source, on_conjuncts, resolved_items, resolved_item}
 use Rattle.scope_core.specs.Environments.{World, Environment, Frame, frame_of, row_of, rows_at, members_here, outer_frames}
 use Rattle.scope_core.specs.Evaluation.{values_at, group_frame, group_of, frames, value, truth, rows, block_rows, source_rows}
 use Rattle.scope_core.proofs.Each.{Each-filter, Each-distinct}
-use Rattle.scope_core.proofs.Resolvable.{Plainly, ResolvableKey, ResolvableKeys, ResolvableGroupBy, ResolvableArgument, ResolvableScalar, Resolvable, ResolvableBlock, ResolvableEntries, ResolvableSource, ResolvableWritten, ResolvableItems, ResolvableItem, ResolvableValue, ResolvableValues, ResolvableCondition, ResolvableConditions}
+use Rattle.scope_core.proofs.Resolvable.{ResolvableKey, ResolvableKeys, ResolvableGroupBy, ResolvableArgument, ResolvableScalar, Resolvable, ResolvableBlock, ResolvableEntries, ResolvableSource, ResolvableWritten, ResolvableItems, ResolvableItem, ResolvableValue, ResolvableValues, ResolvableCondition, ResolvableConditions}
 use Rattle.scope_core.proofs.Built.{values_of, every, some, held, argument_given, rows_each, and-true, value-Fun, value-Col, value-Sub, value-Agg, truth-Eq, truth-Pred, truth-Or, truth-Not, truth-Exists, truth-In, truth-conjunction, source-Query, rows-Block, rows-Set, rows-of_block}
 use Rattle.scope_core.proofs.Places.{IsBound, AtRows, read, rows_of_entries, ReadsColumns, ReadsLevel, Outer, Reads, outer, place-reads, column-same, star-same, alias_star-same}
 use Rattle.scope_core.proofs.Wide.{Heads, product-heads, Shows, named-same, choices-wide, known-eq, group-under}

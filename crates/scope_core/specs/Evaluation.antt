@@ -1,5 +1,5 @@
 -- What resolved trees mean: as the queries that they were made of, with places for names.
-use Rattle.std.specs.Prelude.{ℕ, zero, suc, nat_eq, Bool, true, false, not, ◌&&◌, ◌||◌, if◌then◌else◌, List, [], ◌∷◌, ◌++◌, map, filter, get_or}
+use Rattle.std.specs.Prelude.{ℕ, nat_eq, Bool, true, false, not, ◌&&◌, ◌||◌, if◌then◌else◌, List, [], ◌∷◌, ◌++◌, map, filter, get_or}
 use Rattle.data_model.specs.Rows.{Row, same_row, is_among, distinct, product}
 use Rattle.data_model.specs.Reading.{Reading, literal_value, function_value, predicate_holds}
 use Rattle.data_model.specs.Database.{Database, table_rows}

@@ -1,13 +1,13 @@
 -- The faults of a query, one predicate for each, of the site at which it stands. A site that a predicate does not name has not its fault.
-use Rattle.std.specs.Prelude.{ℕ, suc, nat_eq, nat_lt, Bool, true, false, not, ◌&&◌, ◌||◌, List, [], ◌∷◌, length, filter, Option, Some, None, is_some, is_none, find}
+use Rattle.std.specs.Prelude.{ℕ, nat_eq, nat_lt, Bool, true, false, not, ◌&&◌, ◌||◌, List, [], ◌∷◌, length, filter, Option, Some, None, is_some, is_none, find}
 use Rattle.std.specs.List.{list_any, flat_map}
 use Rattle.sql_model.specs.Syntax as n
 use Rattle.sql_model.specs.Syntax.{Name}
 use Rattle.sql_model.specs.Frames.{ColumnName}
 use Rattle.sql_model.specs.Columns.{same_name, is_called}
-use Rattle.sql_model.specs.Headings.{Heading, columns_of}
-use Rattle.scope_core.specs.Scope.{Known, Place, is_among_places, Level, Levels, place_at}
-use Rattle.scope_core.specs.Sites.{Clause, OfRows, OfGroups, OfMembers, Wanted, AValue, ATruth, Site, ASource, AnAlias, AColumn, AGroupColumn, AStar, AnAliasStar, AnExpression, TwoWidths, Outputs}
+use Rattle.sql_model.specs.Headings.{columns_of}
+use Rattle.scope_core.specs.Scope.{Place, is_among_places, Level, Levels, place_at}
+use Rattle.scope_core.specs.Sites.{OfRows, OfGroups, OfMembers, AValue, ATruth, Site, ASource, AnAlias, AColumn, AGroupColumn, AStar, AnAliasStar, AnExpression, TwoWidths}
 
 -- ---- vocabulary
 abbrev pub is_some_and : {X : Type 0} → (X → Bool) → Option X → Bool

@@ -1,7 +1,7 @@
 -- The resolved tree of a query: each column replaced by its place, each source by its number, stars written out, and the conjuncts of an AND
 -- taken out of the ANDs within it. It is total: on a tree that is not well formed it gives a column that is nowhere, a condition that is
 -- false or a block without rows.
-use Rattle.std.specs.Prelude.{ℕ, zero, suc, Bool, true, false, if◌then◌else◌, List, [], ◌∷◌, ◌++◌, map, length, Option, Some, None, find, option_map, unwrap_or}
+use Rattle.std.specs.Prelude.{ℕ, suc, Bool, true, false, if◌then◌else◌, List, [], ◌∷◌, ◌++◌, map, length, Option, Some, None, find, option_map, unwrap_or}
 use Rattle.sql_model.specs.Syntax as n
 use Rattle.sql_model.specs.Syntax.{Name}
 use Rattle.sql_model.specs.Frames.{ColumnName}

@@ -1,7 +1,7 @@
 -- What a place in a query can name: the relations of the schema, and the columns of the blocks around it, each with the place at which a
 -- resolved tree finds it (SQL, ISO/IEC 9075-2, 6.6 identifier chain and 7.6 table reference). A column is sought as its value is: in the
 -- innermost block first, and there among the entries from left to right.
-use Rattle.std.specs.Prelude.{ℕ, zero, suc, nat_eq, Bool, true, false, ◌&&◌, ◌||◌, if◌then◌else◌, List, [], ◌∷◌, ◌++◌, length, Option, Some, None, position, option_map, unwrap_or}
+use Rattle.std.specs.Prelude.{ℕ, suc, nat_eq, Bool, true, false, ◌&&◌, ◌||◌, if◌then◌else◌, List, [], ◌∷◌, ◌++◌, length, Option, Some, None, position, option_map, unwrap_or}
 use Rattle.std.specs.Option.{option_or}
 use Rattle.sql_model.specs.Syntax.{Name}
 use Rattle.sql_model.specs.Frames.{ColumnName}

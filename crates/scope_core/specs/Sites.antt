@@ -2,7 +2,7 @@
 --     A set query is its left side, its right side, and then the two widths.
 --     A block is its entries in order, each its source and then its alias; then the ON conditions in order, WHERE, GROUP BY, the items, and
 --     last HAVING. In an expression a node comes before its parts, and the parts stand in the order of the tree.
-use Rattle.std.specs.Prelude.{ℕ, zero, suc, ◌+◌, Bool, List, [], ◌∷◌, ◌++◌, map, length, Option}
+use Rattle.std.specs.Prelude.{ℕ, suc, ◌+◌, List, [], ◌∷◌, ◌++◌, map, length, Option}
 use Rattle.sql_model.specs.Syntax as n
 use Rattle.sql_model.specs.Syntax.{Name}
 use Rattle.sql_model.specs.Headings.{Heading, output_columns, item_columns, headings, source_columns}

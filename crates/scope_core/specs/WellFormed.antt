@@ -1,5 +1,5 @@
 -- When a query is well formed, and when a schema is: no fault is at any site.
-use Rattle.std.specs.Prelude.{Bool, true, false, ◌≡◌, List, [], ◌∷◌, map}
+use Rattle.std.specs.Prelude.{false, ◌≡◌, List, [], ◌∷◌, map}
 use Rattle.data_model.specs.Lists.{Each}
 use Rattle.sql_model.specs.Syntax.{Name, Query}
 use Rattle.sql_model.specs.Headings.{output_columns}

@@ -1,5 +1,5 @@
 -- How many columns the answer of a resolved tree has.
-use Rattle.std.specs.Prelude.{ℕ, zero, suc, List, [], ◌∷◌}
+use Rattle.std.specs.Prelude.{ℕ, suc}
 use Rattle.scope_core.specs.Syntax.{Values, NoValues, ValueThen, RBlock, Select, RQuery, OfBlock, Set}
 
 abbrev pub count_values : {m : _} → Values m → ℕ
