@@ -6,3 +6,4 @@ pub mod Wide
 pub mod SameRows
 pub mod Resolvability
 pub mod Relations
+pub mod NoFault

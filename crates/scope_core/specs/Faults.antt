@@ -7,7 +7,7 @@ use Rattle.sql_model.specs.Frames.{ColumnName}
 use Rattle.sql_model.specs.Columns.{same_name, is_called}
 use Rattle.sql_model.specs.Headings.{columns_of}
 use Rattle.scope_core.specs.Scope.{Place, is_among_places, Level, Levels, place_at}
-use Rattle.scope_core.specs.Sites.{OfRows, OfGroups, OfMembers, AValue, ATruth, Site, ASource, AnAlias, AColumn, AGroupColumn, AStar, AnAliasStar, AnExpression, TwoWidths}
+use Rattle.scope_core.specs.Sites.{OfRows, OfGroups, OfMembers, AValue, ATruth, Site, ASource, AnAlias, AColumn, AGroupColumn, AStar, AnAliasStar, AnExpression, TwoWidths, Outputs}
 
 -- ---- vocabulary
 abbrev pub is_some_and : {X : Type 0} → (X → Bool) → Option X → Bool
@@ -160,3 +160,11 @@ abbrev pub star_in_group : Site → Bool
 star_in_group (AStar OfGroups at) = true
 star_in_group (AnAliasStar OfGroups alias headings at) = true
 star_in_group _ = false
+
+-- ---- The limit on the outputs of a block is no fault of the query; it is tried after each item.
+abbrev pub most_outputs : ℕ
+most_outputs = 2048
+
+abbrev pub is_too_wide : Site → Bool
+is_too_wide (Outputs count) = nat_lt most_outputs count
+is_too_wide _ = false

@@ -10,4 +10,6 @@ pub mod Width
 pub mod Sites
 pub mod Faults
 pub mod WellFormed
+pub mod FirstFault
+pub mod Plain
 pub mod Compute

@@ -9,7 +9,7 @@ use Rattle.sql_model.specs.Relations.{Relation}
 use Rattle.scope_core.specs.Syntax.{RQuery}
 use Rattle.scope_core.specs.Scope.{Known, heading, Levels}
 use Rattle.scope_core.specs.Sites.{Site, sites}
-use Rattle.scope_core.specs.Faults.{unknown_table, unknown_alias, unknown_column, ambiguous, alias_twice, not_truth, not_value, aggregate_here, not_grouped, outer_aggregate, subquery_in_group, width_differs, scalar_not_aggregate, name_twice, star_in_group}
+use Rattle.scope_core.specs.Faults.{unknown_table, unknown_alias, unknown_column, ambiguous, alias_twice, not_truth, not_value, aggregate_here, not_grouped, outer_aggregate, subquery_in_group, width_differs, scalar_not_aggregate, name_twice, star_in_group, is_too_wide}
 use Rattle.scope_core.specs.Relations.{known_with, trees_with, known_of}
 
 -- what has to hold at each site, in the order of the faults' numbers
@@ -33,6 +33,10 @@ pub record HasNoFault (site : Site) : Type 0 where
 abbrev pub IsWellFormed : Query → List Known → Levels → Type 0
 IsWellFormed query known levels = Each HasNoFault (sites query known levels)
 
+-- No block in it has more outputs than the limit admits.
+abbrev pub IsWithinWidth : Query → List Known → Levels → Type 0
+IsWithinWidth query known levels = Each (λ site. is_too_wide site ≡ false) (sites query known levels)
+
 -- a view, over the relations before it
 abbrev pub IsRelationWellFormed : List Known → Relation → Type 0
 IsRelationWellFormed known (relation.Table table) = Unit {0}
@@ -51,3 +55,6 @@ SchemaWellFormed schema = AreWellFormed [] [] schema.relations.entries
 -- a query that stands by itself, over the relations of a schema
 abbrev pub WellFormed : Schema → Query → Type 0
 WellFormed schema query = IsWellFormed query (known_of schema) []
+
+abbrev pub WithinWidth : Schema → Query → Type 0
+WithinWidth schema query = IsWithinWidth query (known_of schema) []

@@ -1,5 +1,5 @@
 //! Laws of the definitions, each the contract of a function that does nothing.
-ghost use Rattle.std.specs.Prelude.{◌≡◌, ℕ};
+ghost use Rattle.std.specs.Prelude.{◌≡◌, ◌↔◌, ℕ, None};
 ghost use Rattle.data_model.specs.Reading.{Reading};
 ghost use Rattle.data_model.specs.Database.{Database};
 ghost use Rattle.sql_model.specs.declared.schema.Schema.{Schema};
@@ -8,7 +8,8 @@ ghost use Rattle.sql_model.specs.Meets.{Meets};
 ghost use Rattle.sql_model.specs.Relations.{answer};
 ghost use Rattle.scope_core.specs.Evaluation.{answer as resolved_answer};
 ghost use Rattle.scope_core.specs.Relations.{tree_of, views_of};
-ghost use Rattle.scope_core.specs.WellFormed.{SchemaWellFormed, WellFormed};
+ghost use Rattle.scope_core.specs.WellFormed.{SchemaWellFormed, WellFormed, WithinWidth};
+ghost use Rattle.scope_core.specs.FirstFault.{query_fault};
 
 /// The resolved tree of a well-formed query has the rows of its query, in the same order: over every domain, under every reading
 /// and on every database that meets the schema, where the views have the trees of theirs.
@@ -17,4 +18,11 @@ pub fn resolving_keeps_the_rows()
     ensures { (schema : Schema) (query : Query) (n : ℕ) (reading : Reading) (db : Database) →
         SchemaWellFormed schema → WellFormed schema query → Meets schema n db →
         resolved_answer n reading db (views_of schema) (tree_of schema query) ≡ answer schema n reading db query }
+{}
+
+/// A query has no first fault exactly where it is well formed and none of its blocks has more outputs than the limit admits.
+#[tactic(auto, using(crate::proofs::NoFault::laws))]
+pub fn no_fault_in_well_formed()
+    ensures { (schema : Schema) (query : Query) →
+        (query_fault schema query ≡ None) ↔ (WellFormed schema query × WithinWidth schema query) }
 {}

@@ -4,9 +4,11 @@
 //! `specs/Lib.antt`.
 #![tactic(auto)]
 
+pub mod fault;
 pub mod laws;
 pub mod tree;
 
+pub use fault::{ScopeCode, ScopeFault};
 pub use plain_data::{Boxed, List};
 pub use sql_model::{AggFun, SetOp};
 pub use std::alloc::AllocError as NoMemory;
