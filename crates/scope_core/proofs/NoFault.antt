@@ -1,12 +1,11 @@
 -- A query is well formed and within the limit exactly where no site has a fault.
-use Rattle.std.proofs.Common.{◌≡◌, Bool, true, false, List, [], ◌∷◌, Option, Some, None, refl, ap, subst, arith}
+use Rattle.std.proofs.Common.{◌≡◌, Bool, true, false, List, [], ◌∷◌, Option, Some, None, refl, ap, arith}
 use Rattle.std.specs.Prelude.{◌↔◌, is_some, if◌then◌else◌}
 use Rattle.std.specs.Option.{option_or}
 use Rattle.data_model.specs.Lists.{Each}
 use Rattle.sql_model.specs.declared.schema.Schema.{Schema}
 use Rattle.sql_model.specs.Syntax.{Query}
 use Rattle.scope_core.specs.declared.fault.ScopeCode.{ScopeCode}
-use Rattle.scope_core.specs.declared.fault.ScopeFault.{ScopeFault}
 use Rattle.scope_core.specs.declared.fault.ScopeFault.TheVariants as fault
 use Rattle.scope_core.specs.Relations.{known_of}
 use Rattle.scope_core.specs.Sites.{Site, sites}

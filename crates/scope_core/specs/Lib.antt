@@ -13,3 +13,4 @@ pub mod WellFormed
 pub mod FirstFault
 pub mod Plain
 pub mod Compute
+pub mod samples

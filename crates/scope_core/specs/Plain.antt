@@ -3,7 +3,7 @@
 use Rattle.std.specs.Prelude.{Bool, true, false, ◌&&◌, List, find, Option, Some, None}
 use Rattle.sql_model.specs.Syntax as n
 use Rattle.sql_model.specs.Columns.{same_name}
-use Rattle.scope_core.specs.Syntax.{RSource, Table, View, Derived}
+use Rattle.scope_core.specs.Syntax.{RSource, Table}
 use Rattle.scope_core.specs.Scope.{Known}
 
 abbrev pub is_base_table : Option Known → Bool
