@@ -11,11 +11,11 @@ use Rattle.sql_model.specs.Frames as nf
 use Rattle.sql_model.specs.Columns.{same_name, is_called, value_in_entry, value_in_some, entry_with_alias, value_among, column_value}
 use Rattle.sql_model.specs.Headings.{Heading}
 use Rattle.sql_model.specs.Meaning as m
-use Rattle.scope_core.specs.Scope.{Place, is_among_places, index_of, Level, Levels, bare_place, qualified_place, place_in, column_at, column_from}
+use Rattle.scope_core.specs.Scope.{Place, is_among_places, index_of, Sight, AsRows, AsMember, AsGroup, Level, Levels, bare_place, qualified_place, place_in, place_at, column_at, column_from}
 use Rattle.scope_core.specs.Resolving.{entry_columns, star, alias_star}
 use Rattle.scope_core.specs.Environments.{World, Environment, Frame, Combination, row_of, rows_at}
 use Rattle.scope_core.specs.Evaluation.{value}
-use Rattle.scope_core.proofs.Resolvable.{IsFound, ResolvableColumn, Plainly}
+use Rattle.scope_core.proofs.Resolvable.{IsFound, ResolvableColumn, IsRowLevel}
 use Rattle.scope_core.proofs.Built.{value-Col, value-Key, values_of}
 
 -- an entry with its row, under this heading, and the row that a resolved place reads
@@ -86,21 +86,22 @@ place-reads (Some alias) name k hs bs rs a = qualified_place-reads alias name k 
 abbrev pub rows_of_entries : List BoundEntry → List Row
 rows_of_entries = map (λ b. b.row)
 
-abbrev pub ReadsColumns : Option (List Place) → Level → nf.Frame → Frame → Type 0
-ReadsColumns None l f g = AtRows l.first l.headings f.entries g.rows
-ReadsColumns (Some columns) l f g =
+abbrev pub ReadsColumns : Sight → Level → nf.Frame → Frame → Type 0
+ReadsColumns AsRows l f g = AtRows l.first l.headings f.entries g.rows
+ReadsColumns AsMember l f g = AtRows l.first l.headings f.entries g.rows
+ReadsColumns (AsGroup columns) l f g =
     AtRows l.first l.headings f.entries (rows_of_entries f.entries) × ((p : Place) → is_among_places p columns ≡ true → get_or g.key (index_of p columns) 0 ≡ read (rows_of_entries f.entries) p)
 
 -- a block around, as names see it and as places do
 pub record ReadsLevel (l : Level) (f : nf.Frame) (g : Frame) : Type 0 where
-  pub columns : ReadsColumns l.keys l f g
+  pub columns : ReadsColumns l.sight l f g
   pub members : g.members ≡ map rows_of_entries f.members
   pub each : Each (λ m. AtRows l.first l.headings m (rows_of_entries m)) f.members
 
 -- blocks around a subquery, none of which it sees as a group
 abbrev pub Outer : Levels → nf.Environment → Environment → Type 0
 Outer [] [] [] = Unit {0}
-Outer (l ∷ ls) (f ∷ env) (g ∷ renv) = ReadsLevel l f g × (l.keys ≡ None) × Outer ls env renv
+Outer (l ∷ ls) (f ∷ env) (g ∷ renv) = ReadsLevel l f g × (l.sight ≡ AsRows) × Outer ls env renv
 Outer _ _ _ = ⊥
 
 abbrev pub Reads : Levels → nf.Environment → Environment → Type 0
@@ -108,7 +109,7 @@ Reads [] [] [] = Unit {0}
 Reads (l ∷ ls) (f ∷ env) (g ∷ renv) = ReadsLevel l f g × Outer ls env renv
 Reads _ _ _ = ⊥
 
-pub outer : (ls : Levels) (env : nf.Environment) (renv : Environment) → Plainly ls → Reads ls env renv → Outer ls env renv
+pub outer : (ls : Levels) (env : nf.Environment) (renv : Environment) → IsRowLevel ls → Reads ls env renv → Outer ls env renv
 outer [] [] [] k r = tt
 outer [] [] (g ∷ renv) k r = absurd r
 outer [] (f ∷ env) renv k r = absurd r
@@ -129,7 +130,7 @@ placed : (qual : Option Name) (name : Name) (d k : ℕ) (hs : List Heading) (bs 
 placed qual name d k hs bs rs a = ap (λ q. unwrap_or q d) (place-reads qual name k hs bs rs a)
 
 found : (w : World) (full : Environment) (up d : ℕ) (rs : List Row) (o : Option Place) (other : _) → rows_at full up ≡ rs → value other w full ≡ d
-    → value (unwrap_or (option_map (column_at up None) o) other) w full ≡ unwrap_or (option_map (read rs) o) d
+    → value (unwrap_or (option_map (column_at up AsRows) o) other) w full ≡ unwrap_or (option_map (read rs) o) d
 found w full up d rs None other h k = k
 found w full up d rs (Some p) other h k = value-Col w full up p.0 p.1 ∙ ap (λ q. read q p) h
 
@@ -141,7 +142,7 @@ column_outer w full qual name up [] (f ∷ env) renv at h = absurd h
 column_outer w full qual name up (l ∷ ls) [] renv at h = absurd h
 column_outer w full qual name up (l ∷ ls) (f ∷ env) [] at h = absurd h
 column_outer w full qual name up (l ∷ ls) (f ∷ env) (g ∷ renv) at h =
-    let o = place_in qual name l.first l.headings in
+    let o = place_at qual name l in
     let rest = column_from (suc up) qual name ls in
     ap (λ k. value (unwrap_or (option_map (column_at up k) o) rest) w full) h.1
     ∙ found w full up (column_value qual name env) g.rows o rest
@@ -150,15 +151,17 @@ column_outer w full qual name up (l ∷ ls) (f ∷ env) (g ∷ renv) at h =
     ∙ sym (placed qual name (column_value qual name env) l.first l.headings f.entries g.rows (subst (λ k. ReadsColumns k l f g) h.1 h.0.columns))
 
 -- the innermost block, perhaps as a group
-innermost : (w : World) (g : Frame) (renv : Environment) (d : ℕ) (l : Level) (f : nf.Frame) (qual : Option Name) (name : Name) (keys : Option (List Place)) (other : _) (further : Type 0)
-    → ReadsColumns keys l f g → IsFound keys l (place_in qual name l.first l.headings) further → value other w (g ∷ renv) ≡ d
-    → value (unwrap_or (option_map (column_at 0 keys) (place_in qual name l.first l.headings)) other) w (g ∷ renv) ≡ unwrap_or (value_among qual name f.entries) d
-innermost w g renv d l f qual name None other further r fine e =
-    found w (g ∷ renv) 0 d g.rows (place_in qual name l.first l.headings) other refl e ∙ sym (placed qual name d l.first l.headings f.entries g.rows r)
-innermost w g renv d l f qual name (Some columns) other further r fine e =
-    keyed (place_in qual name l.first l.headings) fine ∙ sym (placed qual name d l.first l.headings f.entries (rows_of_entries f.entries) r.0)
+innermost : (w : World) (g : Frame) (renv : Environment) (d : ℕ) (l : Level) (f : nf.Frame) (qual : Option Name) (name : Name) (sight : Sight) (other : _) (further : Type 0)
+    → ReadsColumns sight l f g → IsFound sight l (place_at qual name l) further → value other w (g ∷ renv) ≡ d
+    → value (unwrap_or (option_map (column_at 0 sight) (place_at qual name l)) other) w (g ∷ renv) ≡ unwrap_or (value_among qual name f.entries) d
+innermost w g renv d l f qual name AsRows other further r fine e =
+    found w (g ∷ renv) 0 d g.rows (place_at qual name l) other refl e ∙ sym (placed qual name d l.first l.headings f.entries g.rows r)
+innermost w g renv d l f qual name AsMember other further r fine e =
+    found w (g ∷ renv) 0 d g.rows (place_at qual name l) other refl e ∙ sym (placed qual name d l.first l.headings f.entries g.rows r)
+innermost w g renv d l f qual name (AsGroup columns) other further r fine e =
+    keyed (place_at qual name l) fine ∙ sym (placed qual name d l.first l.headings f.entries (rows_of_entries f.entries) r.0)
   where
-    keyed : (o : Option Place) → IsFound (Some columns) l o further → value (unwrap_or (option_map (column_at 0 (Some columns)) o) other) w (g ∷ renv) ≡ unwrap_or (option_map (read (rows_of_entries f.entries)) o) d
+    keyed : (o : Option Place) → IsFound (AsGroup columns) l o further → value (unwrap_or (option_map (column_at 0 (AsGroup columns)) o) other) w (g ∷ renv) ≡ unwrap_or (option_map (read (rows_of_entries f.entries)) o) d
     keyed None fine = e
     keyed (Some p) fine = value-Key w (g ∷ renv) (index_of p columns) ∙ r.1 p fine
 
@@ -170,7 +173,7 @@ column-same w qual name [] (fr ∷ env) renv f h = absurd h
 column-same w qual name (l ∷ ls) [] renv f h = absurd h
 column-same w qual name (l ∷ ls) (fr ∷ env) [] f h = absurd h
 column-same w qual name (l ∷ ls) (fr ∷ env) (g ∷ renv) f h =
-    innermost w g renv (column_value qual name env) l fr qual name l.keys (column_from 1 qual name ls) (ResolvableColumn qual name ls) h.0.columns f
+    innermost w g renv (column_value qual name env) l fr qual name l.sight (column_from 1 qual name ls) (ResolvableColumn qual name ls) h.0.columns f
     (column_outer w (g ∷ renv) qual name 1 ls env renv (λ i. let e : 1 + i ≡ suc i = omega arith in ap (rows_at (g ∷ renv)) e) h.1)
 
 -- ---- stars

@@ -13,14 +13,13 @@ use Rattle.sql_model.specs.Frames.{ColumnName}
 use Rattle.sql_model.specs.Columns.{same_name, is_called}
 use Rattle.sql_model.specs.Headings.{Heading, columns_of, output_columns, headings, source_columns}
 use Rattle.sql_model.specs.Grouping.{is_one_group}
-use Rattle.scope_core.specs.Scope.{Known, heading, Place, is_among_places, Level, Levels, bare_place, qualified_place, place_in, place_at, rows_level, output_level, member_levels, on_level, no_entry}
-use Rattle.scope_core.specs.Syntax.{Grouping, Plain, One, Keys}
+use Rattle.scope_core.specs.Scope.{Known, heading, Place, is_among_places, Sight, AsRows, AsMember, AsGroup, Level, Levels, bare_place, qualified_place, place_in, place_at, rows_level, output_level, member_levels, on_level, no_entry, sight_here}
 use Rattle.scope_core.specs.Resolving.{grouping_of}
-use Rattle.scope_core.specs.Sites.{Clause, OfRows, OfGroups, OfMembers, AValue, ATruth, Site, AColumn, AGroupColumn, AStar, AnAliasStar, AnExpression, TwoWidths, output_clause, group_sites, group_by_sites, sites, block_sites, entry_sites, source_sites, on_sites, items_sites, item_sites, written_sites, value_sites, values_sites, argument_sites, truth_sites, truths_sites}
-use Rattle.scope_core.specs.Faults.{is_some_and, block_meant, lacks_alias, lacks_column, is_no_key, is_scalar}
+use Rattle.scope_core.specs.Sites.{Site, AColumn, AGroupColumn, TwoWidths, group_sites, group_by_sites, sites, block_sites, entry_sites, source_sites, on_sites, items_sites, item_sites, written_sites, value_sites, values_sites, argument_sites, truth_sites, truths_sites}
+use Rattle.scope_core.specs.Faults.{is_some_and, block_meant, lacks_alias, lacks_column, is_no_key, is_group, is_in_group, is_scalar}
 use Rattle.scope_core.specs.WellFormed.{HasNoFault, IsWellFormed}
 use Rattle.scope_core.proofs.Each.{Each-left, Each-right}
-use Rattle.scope_core.proofs.Resolvable.{width_in, IsFound, ResolvableColumn, IsGroupLevel, Plainly, ResolvableKey, ResolvableKeys, ResolvableGroupBy, Resolvable, ResolvableBlock, ResolvableEntries, ResolvableSource, ResolvableWritten, ResolvableItems, ResolvableItem, ResolvableValue, ResolvableValues, ResolvableArgument, ResolvableScalar, ResolvableCondition, ResolvableConditions}
+use Rattle.scope_core.proofs.Resolvable.{width_in, IsFound, ResolvableColumn, IsGroupLevel, IsRowLevel, ResolvableKey, ResolvableKeys, ResolvableGroupBy, Resolvable, ResolvableBlock, ResolvableEntries, ResolvableSource, ResolvableWritten, ResolvableItems, ResolvableItem, ResolvableValue, ResolvableValues, ResolvableArgument, ResolvableScalar, ResolvableCondition, ResolvableConditions}
 
 -- ---- tests
 pub or-left : (a b : Bool) → (a || b) ≡ false → a ≡ false
@@ -34,6 +33,10 @@ or-right false b e = e
 not-false : (b : Bool) → not b ≡ false → b ≡ true
 not-false true e = refl
 not-false false e = grind (arith, e)
+
+and-true-false : (b : Bool) → (b && true) ≡ false → b ≡ false
+and-true-false true e = e
+and-true-false false e = refl
 
 -- ---- places are within the block
 abbrev Within : ℕ → List Heading → Option Place → Type 0
@@ -90,17 +93,12 @@ qualified-within alias name k (h ∷ hs) e = by (same_name alias h.alias) refl (
 -- the blocks around a subquery: none is seen as a group
 abbrev AreRowLevels : Levels → Type 0
 AreRowLevels [] = Unit {0}
-AreRowLevels (level ∷ outer) = (level.keys ≡ None) × AreRowLevels outer
+AreRowLevels (level ∷ outer) = (level.sight ≡ AsRows) × AreRowLevels outer
 
--- what an expression of a clause sees
-abbrev HeadFits : Clause → Level → Type 0
-HeadFits OfRows level = level.keys ≡ None
-HeadFits OfMembers level = level.keys ≡ None
-HeadFits OfGroups level = is_some level.keys ≡ true
-
-abbrev Fits : Clause → Levels → Type 0
-Fits clause [] = ⊥
-Fits clause (level ∷ outer) = HeadFits clause level × AreRowLevels outer
+-- what an expression sees: its own block, in any way, and those around
+abbrev Fits : Levels → Type 0
+Fits [] = ⊥
+Fits (level ∷ outer) = AreRowLevels outer
 
 -- what is known of a name that has no fault, at the block that it is found in
 abbrev Has : Option Name → Name → Level → Type 0
@@ -128,38 +126,30 @@ meant (Some alias) name levels e h = qualified (block_meant (Some alias) name le
     qualified None e h = absurd (let b : true ≡ false = e in grind (arith, b))
     qualified (Some level) e h = not-false (list_any (is_called name) (columns_of alias level.headings)) h
 
--- at one block, whose columns are read as rows
-at-rows : (qual : Option Name) (name : Name) (level : Level) (other : Option Level) (o : Option Place) (further : Type 0) → place_at qual name level ≡ o
-    → IsMeant qual name (cond (is_some o) (Some level) other) → (IsMeant qual name other → further) → IsFound None level o further
-at-rows qual name level other None further e m next = next m
-at-rows qual name level other (Some p) further e m next = (subst (Within level.first level.headings) e (within qual name level m)).1
+-- at one block
+at-level : (qual : Option Name) (name : Name) (level : Level) (other : Option Level) (sight : Sight) (o : Option Place) (further : Type 0) → place_at qual name level ≡ o → is_no_key sight o ≡ false
+    → IsMeant qual name (cond (is_some o) (Some level) other) → (IsMeant qual name other → further) → IsFound sight level o further
+at-level qual name level other AsRows None further e k m next = next m
+at-level qual name level other AsMember None further e k m next = next m
+at-level qual name level other (AsGroup columns) None further e k m next = next m
+at-level qual name level other AsRows (Some p) further e k m next = (subst (Within level.first level.headings) e (within qual name level m)).1
+at-level qual name level other AsMember (Some p) further e k m next = (subst (Within level.first level.headings) e (within qual name level m)).1
+at-level qual name level other (AsGroup columns) (Some p) further e k m next = not-false (is_among_places p columns) k
 
 found-outer : (qual : Option Name) (name : Name) (levels : Levels) → AreRowLevels levels → IsMeant qual name (block_meant qual name levels) → ResolvableColumn qual name levels
 found-outer qual name [] f m = absurd m
 found-outer qual name (level ∷ outer) f m =
-    subst (λ keys. IsFound keys level (place_at qual name level) (ResolvableColumn qual name outer)) (sym f.0)
-    (at-rows qual name level (block_meant qual name outer) (place_at qual name level) (ResolvableColumn qual name outer) refl m (λ m. found-outer qual name outer f.1 m))
+    subst (λ sight. IsFound sight level (place_at qual name level) (ResolvableColumn qual name outer)) (sym f.0)
+    (at-level qual name level (block_meant qual name outer) AsRows (place_at qual name level) (ResolvableColumn qual name outer) refl refl m (λ m. found-outer qual name outer f.1 m))
 
 no : true ≡ false → ⊥
 no e = let b : true ≡ false = e in grind (arith, b)
 
--- at the innermost block, where it is seen as a group
-at-group : (qual : Option Name) (name : Name) (level : Level) (other : Option Level) (keys : Option (List Place)) (o : Option Place) (further : Type 0) → is_some keys ≡ true → is_no_key keys o ≡ false
-    → IsMeant qual name (cond (is_some o) (Some level) other) → (IsMeant qual name other → further) → IsFound keys level o further
-at-group qual name level other None o further k e m next = absurd (no (sym k))
-at-group qual name level other (Some columns) None further k e m next = next m
-at-group qual name level other (Some columns) (Some p) further k e m next = not-false (is_among_places p columns) e
-
-column-found : (clause : Clause) (qual : Option Name) (qual_at : ℕ) (name : Name) (levels : Levels) (at : ℕ) → Fits clause levels
-    → HasNoFault (AColumn clause qual qual_at name levels at) → ResolvableColumn qual name levels
-column-found clause qual qual_at name [] at f e = absurd f
-column-found OfRows qual qual_at name (level ∷ outer) at f e =
-    found-outer qual name (level ∷ outer) f (meant qual name (level ∷ outer) e.alias_is_known e.column_is_known)
-column-found OfMembers qual qual_at name (level ∷ outer) at f e =
-    found-outer qual name (level ∷ outer) f (meant qual name (level ∷ outer) e.alias_is_known e.column_is_known)
-column-found OfGroups qual qual_at name (level ∷ outer) at f e =
-    at-group qual name level (block_meant qual name outer) level.keys (place_at qual name level) (ResolvableColumn qual name outer) f.0 e.column_is_grouped
-    (meant qual name (level ∷ outer) e.alias_is_known e.column_is_known) (λ m. found-outer qual name outer f.1 m)
+column-found : (qual : Option Name) (qual_at : ℕ) (name : Name) (levels : Levels) (at : ℕ) → Fits levels → HasNoFault (AColumn qual qual_at name levels at) → ResolvableColumn qual name levels
+column-found qual qual_at name [] at f e = absurd f
+column-found qual qual_at name (level ∷ outer) at f e =
+    at-level qual name level (block_meant qual name outer) level.sight (place_at qual name level) (ResolvableColumn qual name outer) refl e.column_is_grouped
+    (meant qual name (level ∷ outer) e.alias_is_known e.column_is_known) (λ m. found-outer qual name outer f m)
 
 -- ---- GROUP BY
 key-found : (qual : Option Name) (name : Name) (hs : List Heading) (other : Option Level) (o : Option Place) → place_in qual name 0 hs ≡ o
@@ -195,65 +185,24 @@ group_by-ok : (group_by : n.MaybeGroupBy) (hs : List Heading) (ls : Levels) → 
 group_by-ok n.NoGroupBy hs ls h = tt
 group_by-ok (n.GroupBy s columns) hs ls h = keys-ok columns hs ls h
 
--- ---- what a clause sees
+-- ---- what an expression sees
 widths-same : (a b at : ℕ) → HasNoFault (TwoWidths a b at) → a ≡ b
 widths-same a b at e =
     let same = not-false (nat_eq a b) e.widths_agree in
     grind (arith, nat_tests, same)
 
-rows-plain : (ls : Levels) → Fits OfRows ls → Plainly ls × AreRowLevels ls
-rows-plain [] f = absurd f
-rows-plain (level ∷ outer) f = (f.0, f)
+row-levels : (ls : Levels) → Fits ls → is_in_group (sight_here ls) ≡ false → IsRowLevel ls × AreRowLevels ls
+row-levels [] f e = absurd f
+row-levels (level ∷ outer) f e = let is = as-rows level.sight e in (is, (is, f))
+  where
+    as-rows : (sight : Sight) → is_in_group sight ≡ false → sight ≡ AsRows
+    as-rows AsRows e = refl
+    as-rows AsMember e = absurd (no e)
+    as-rows (AsGroup columns) e = absurd (no e)
 
-rows-fit : (ls : Levels) → AreRowLevels ls → Plainly ls
-rows-fit [] f = tt
-rows-fit (level ∷ outer) f = f.0
-
-group-fits : (ls : Levels) → Fits OfGroups ls → IsGroupLevel ls × Fits OfMembers (member_levels ls)
-group-fits [] f = absurd f
-group-fits (level ∷ outer) f = (f.0, (refl, f.1))
-
-output-fits : (hs : List Heading) (grouping : Grouping) (ls : Levels) → AreRowLevels ls → Fits (output_clause grouping) (output_level hs grouping ∷ ls)
-output-fits hs Plain ls f = (refl, f)
-output-fits hs One ls f = (refl, f)
-output-fits hs (Keys columns) ls f = (refl, f)
-
-on-fits : (joined : Bool) (before : Level) (entry : ℕ) (h : Heading) → (on_level joined before entry h).keys ≡ None
-on-fits true before entry h = refl
-on-fits false before entry h = refl
-
-star-plain : (clause : Clause) (at : ℕ) (ls : Levels) → Fits clause ls → HasNoFault (AStar clause at) → Plainly ls
-star-plain clause at [] f e = absurd f
-star-plain OfRows at (level ∷ outer) f e = f.0
-star-plain OfMembers at (level ∷ outer) f e = f.0
-star-plain OfGroups at (level ∷ outer) f e = absurd (no e.star_may_stand)
-
-alias_star-plain : (clause : Clause) (alias : Name) (hs : List Heading) (at : ℕ) (ls : Levels) → Fits clause ls → HasNoFault (AnAliasStar clause alias hs at) → Plainly ls
-alias_star-plain clause alias hs at [] f e = absurd f
-alias_star-plain OfRows alias hs at (level ∷ outer) f e = f.0
-alias_star-plain OfMembers alias hs at (level ∷ outer) f e = f.0
-alias_star-plain OfGroups alias hs at (level ∷ outer) f e = absurd (no e.star_may_stand)
-
-aggregate-clause : (clause : Clause) (fun : _) (is_distinct : Bool) (argument : n.MaybeArgument) (at : ℕ) (ls : Levels) → Fits clause ls
-    → HasNoFault (AnExpression AValue clause (n.Agg fun is_distinct argument at)) → Fits OfGroups ls
-aggregate-clause OfRows fun is_distinct argument at ls f e = absurd (no e.aggregate_may_stand)
-aggregate-clause OfMembers fun is_distinct argument at ls f e = absurd (no e.aggregate_may_stand)
-aggregate-clause OfGroups fun is_distinct argument at ls f e = f
-
-scalar-clause : (clause : Clause) (query : n.Query) (at : ℕ) (ls : Levels) → Fits clause ls → HasNoFault (AnExpression AValue clause (n.Sub query at)) → Fits OfRows ls × (is_scalar query ≡ true)
-scalar-clause OfRows query at ls f e = (f, not-false (is_scalar query) e.scalar_is_aggregate)
-scalar-clause OfMembers query at ls f e = absurd (no e.subquery_may_stand)
-scalar-clause OfGroups query at ls f e = absurd (no e.subquery_may_stand)
-
-exists-clause : (clause : Clause) (query : n.Query) (at : ℕ) (ls : Levels) → Fits clause ls → HasNoFault (AnExpression ATruth clause (n.Exists query at)) → Fits OfRows ls
-exists-clause OfRows query at ls f e = f
-exists-clause OfMembers query at ls f e = absurd (no e.subquery_may_stand)
-exists-clause OfGroups query at ls f e = absurd (no e.subquery_may_stand)
-
-in-clause : (clause : Clause) (left : n.Expr) (query : n.Query) (at in_at : ℕ) (ls : Levels) → Fits clause ls → HasNoFault (AnExpression ATruth clause (n.In left query at in_at)) → Fits OfRows ls
-in-clause OfRows left query at in_at ls f e = f
-in-clause OfMembers left query at in_at ls f e = absurd (no e.subquery_may_stand)
-in-clause OfGroups left query at in_at ls f e = absurd (no e.subquery_may_stand)
+group-levels : (ls : Levels) → Fits ls → is_group (sight_here ls) ≡ true → IsGroupLevel ls × Fits (member_levels ls)
+group-levels [] f e = absurd f
+group-levels (level ∷ outer) f e = (e, f)
 
 -- ---- the walk
 module _ (known : List Known) where
@@ -288,22 +237,20 @@ module _ (known : List Known) where
         let grouping = grouping_of group_by (is_one_group items having) H in
         let row_levels = rows_level H ∷ ls in
         let output_levels = output_level H grouping ∷ ls in
-        let clause = output_clause grouping in
-        let fits = output-fits H grouping ls f in
         let of_entries = entry_sites from [] known ls in
         let of_on = on_sites from 0 no_entry known ls in
-        let of_where = written_sites where_condition OfRows known row_levels in
+        let of_where = written_sites where_condition known row_levels in
         let of_groups = group_by_sites group_by row_levels in
-        let of_items = items_sites items 0 clause known output_levels in
+        let of_items = items_sites items 0 known output_levels in
         let to_items = left (of_entries ++ of_on ++ of_where ++ of_groups ++ of_items) _ h in
         let to_groups = left (of_entries ++ of_on ++ of_where ++ of_groups) _ to_items in
         let to_where = left (of_entries ++ of_on ++ of_where) _ to_groups in
         let to_on = left (of_entries ++ of_on) _ to_where in (
           entries-ok from [] 0 no_entry ls f (left of_entries _ to_on) (right of_entries _ to_on),
-          written-ok where_condition OfRows row_levels (refl, f) (right (of_entries ++ of_on) _ to_where),
+          written-ok where_condition row_levels f (right (of_entries ++ of_on) _ to_where),
           group_by-ok group_by H ls (right (of_entries ++ of_on ++ of_where) _ to_groups),
-          written-ok having clause output_levels fits (right (of_entries ++ of_on ++ of_where ++ of_groups ++ of_items) _ h),
-          items-ok items 0 clause output_levels fits (right (of_entries ++ of_on ++ of_where ++ of_groups) _ to_items),
+          written-ok having output_levels f (right (of_entries ++ of_on ++ of_where ++ of_groups ++ of_items) _ h),
+          items-ok items 0 output_levels f (right (of_entries ++ of_on ++ of_where ++ of_groups) _ to_items),
         )
 
     pub entries-ok : {k : _} (es : n.Entries k) (names : List Name) (entry : ℕ) (before : Level) (ls : Levels) → AreRowLevels ls
@@ -312,92 +259,91 @@ module _ (known : List Known) where
     entries-ok (n.EntryThen source alias at joined on rest) names entry before ls f h o =
         let next = on_level joined before entry (record { alias = alias; columns = source_columns source hs }) in (
           source-ok source ls f (left (source_sites source known ls) _ h),
-          written-ok on OfRows (next ∷ ls) (on-fits joined before entry (record { alias = alias; columns = source_columns source hs }), f) (left (written_sites on OfRows known (next ∷ ls)) _ o),
-          entries-ok rest (names ++ alias ∷ []) (suc entry) next ls f (right (source_sites source known ls) _ h).1 (right (written_sites on OfRows known (next ∷ ls)) _ o),
+          written-ok on (next ∷ ls) f (left (written_sites on known (next ∷ ls)) _ o),
+          entries-ok rest (names ++ alias ∷ []) (suc entry) next ls f (right (source_sites source known ls) _ h).1 (right (written_sites on known (next ∷ ls)) _ o),
         )
 
     pub source-ok : (source : n.Source) (ls : Levels) → AreRowLevels ls → Fine (source_sites source known ls) → ResolvableSource source hs ls
     source-ok (n.Named name at) ls f h = tt
     source-ok (n.Derived query) ls f h = query-ok query ls f h
 
-    pub written-ok : (condition : n.MaybeCondition) (clause : Clause) (ls : Levels) → Fits clause ls → Fine (written_sites condition clause known ls) → ResolvableWritten condition hs ls
-    written-ok n.NoCondition clause ls f h = tt
-    written-ok (n.ACondition expr) clause ls f h = truth-ok expr clause ls f h
+    pub written-ok : (condition : n.MaybeCondition) (ls : Levels) → Fits ls → Fine (written_sites condition known ls) → ResolvableWritten condition hs ls
+    written-ok n.NoCondition ls f h = tt
+    written-ok (n.ACondition expr) ls f h = truth-ok expr ls f h
 
-    pub items-ok : {k : _} (items : n.Items k) (count : ℕ) (clause : Clause) (ls : Levels) → Fits clause ls → Fine (items_sites items count clause known ls) → ResolvableItems items hs ls
-    items-ok n.NoItems count clause ls f h = tt
-    items-ok (n.ItemThen item rest) count clause ls f h =
-        (item-ok item clause ls f (left (item_sites item clause known ls) _ h), items-ok rest _ clause ls f (right (item_sites item clause known ls) _ h).1)
+    pub items-ok : {k : _} (items : n.Items k) (count : ℕ) (ls : Levels) → Fits ls → Fine (items_sites items count known ls) → ResolvableItems items hs ls
+    items-ok n.NoItems count ls f h = tt
+    items-ok (n.ItemThen item rest) count ls f h =
+        (item-ok item ls f (left (item_sites item known ls) _ h), items-ok rest _ ls f (right (item_sites item known ls) _ h).1)
 
-    pub item-ok : (item : n.Item) (clause : Clause) (ls : Levels) → Fits clause ls → Fine (item_sites item clause known ls) → ResolvableItem item hs ls
-    item-ok (n.Star at) clause ls f h = star-plain clause at ls f h.0
-    item-ok (n.AliasStar alias at) clause ls f h = alias_star-plain clause alias _ at ls f h.0
-    item-ok (n.Value expr name) clause ls f h = value-ok expr clause ls f h
+    pub item-ok : (item : n.Item) (ls : Levels) → Fits ls → Fine (item_sites item known ls) → ResolvableItem item hs ls
+    item-ok (n.Star at) ls f h = (row-levels ls f h.0.star_may_stand).0
+    item-ok (n.AliasStar alias at) ls f h = (row-levels ls f h.0.star_may_stand).0
+    item-ok (n.Value expr name) ls f h = value-ok expr ls f h
 
-    pub value-ok : (e : n.Expr) (clause : Clause) (ls : Levels) → Fits clause ls → Fine (value_sites e clause known ls) → ResolvableValue e hs ls
-    value-ok (n.Col qual qual_at name at) clause ls f h = column-found clause qual qual_at name ls at f h.0
-    value-ok (n.Lit lit at) clause ls f h = tt
-    value-ok (n.Fun symbol s args at) clause ls f h = values-ok args clause ls f h
-    value-ok (n.Call symbol s args at) clause ls f h = values-ok args clause ls f h
-    value-ok (n.Agg fun is_distinct argument at) clause ls f h =
-        let fits = group-fits ls (aggregate-clause clause fun is_distinct argument at ls f h.0) in
+    pub value-ok : (e : n.Expr) (ls : Levels) → Fits ls → Fine (value_sites e known ls) → ResolvableValue e hs ls
+    value-ok (n.Col qual qual_at name at) ls f h = column-found qual qual_at name ls at f h.0
+    value-ok (n.Lit lit at) ls f h = tt
+    value-ok (n.Fun symbol s args at) ls f h = values-ok args ls f h
+    value-ok (n.Call symbol s args at) ls f h = values-ok args ls f h
+    value-ok (n.Agg fun is_distinct argument at) ls f h =
+        let fits = group-levels ls f (not-false (is_group (sight_here ls)) h.0.aggregate_may_stand) in
         (fits.0, argument-ok argument (member_levels ls) fits.1 h.1)
-    value-ok (n.Sub query at) clause ls f h =
-        let is = scalar-clause clause query at ls f h.0 in
-        let plain = rows-plain ls is.0 in
-        (plain.0, scalar-ok query ls plain.1 is.1 h.1)
-    value-ok (n.Pred symbol s args at) clause ls f h = absurd (no h.0.value_is_value)
-    value-ok (n.Eq a b at) clause ls f h = absurd (no h.0.value_is_value)
-    value-ok (n.And s parts at) clause ls f h = absurd (no h.0.value_is_value)
-    value-ok (n.Or s parts at) clause ls f h = absurd (no h.0.value_is_value)
-    value-ok (n.Not part at) clause ls f h = absurd (no h.0.value_is_value)
-    value-ok (n.Exists query at) clause ls f h = absurd (no h.0.value_is_value)
-    value-ok (n.In a query at in_at) clause ls f h = absurd (no h.0.value_is_value)
+    value-ok (n.Sub query at) ls f h =
+        let rows = row-levels ls f (and-true-false (is_in_group (sight_here ls)) h.0.subquery_may_stand) in
+        (rows.0, scalar-ok query ls rows.1 (not-false (is_scalar query) h.0.scalar_is_aggregate) h.1)
+    value-ok (n.Pred symbol s args at) ls f h = absurd (no h.0.value_is_value)
+    value-ok (n.Eq a b at) ls f h = absurd (no h.0.value_is_value)
+    value-ok (n.And s parts at) ls f h = absurd (no h.0.value_is_value)
+    value-ok (n.Or s parts at) ls f h = absurd (no h.0.value_is_value)
+    value-ok (n.Not part at) ls f h = absurd (no h.0.value_is_value)
+    value-ok (n.Exists query at) ls f h = absurd (no h.0.value_is_value)
+    value-ok (n.In a query at in_at) ls f h = absurd (no h.0.value_is_value)
 
-    pub values-ok : {k : _} (es : n.Exprs k) (clause : Clause) (ls : Levels) → Fits clause ls → Fine (values_sites es clause known ls) → ResolvableValues es hs ls
-    values-ok n.NoExprs clause ls f h = tt
-    values-ok (n.ExprThen expr rest) clause ls f h =
-        (value-ok expr clause ls f (left (value_sites expr clause known ls) _ h), values-ok rest clause ls f (right (value_sites expr clause known ls) _ h))
+    pub values-ok : {k : _} (es : n.Exprs k) (ls : Levels) → Fits ls → Fine (values_sites es known ls) → ResolvableValues es hs ls
+    values-ok n.NoExprs ls f h = tt
+    values-ok (n.ExprThen expr rest) ls f h =
+        (value-ok expr ls f (left (value_sites expr known ls) _ h), values-ok rest ls f (right (value_sites expr known ls) _ h))
 
-    pub argument-ok : (argument : n.MaybeArgument) (ls : Levels) → Fits OfMembers ls → Fine (argument_sites argument known ls) → ResolvableArgument argument hs ls
+    pub argument-ok : (argument : n.MaybeArgument) (ls : Levels) → Fits ls → Fine (argument_sites argument known ls) → ResolvableArgument argument hs ls
     argument-ok n.NoArgument ls f h = tt
-    argument-ok (n.AnArgument expr) ls f h = value-ok expr OfMembers ls f h
+    argument-ok (n.AnArgument expr) ls f h = value-ok expr ls f h
 
     pub scalar-ok : (query : n.Query) (ls : Levels) → AreRowLevels ls → is_scalar query ≡ true → Fine (sites query known ls) → ResolvableScalar query hs ls
     scalar-ok (n.OfBlock block) ls f e h = (block-ok block ls f h, e)
     scalar-ok (n.Set op p q at) ls f e h = absurd (no (sym e))
 
-    pub truth-ok : (e : n.Expr) (clause : Clause) (ls : Levels) → Fits clause ls → Fine (truth_sites e clause known ls) → ResolvableCondition e hs ls
-    truth-ok (n.Pred symbol s args at) clause ls f h = values-ok args clause ls f h
-    truth-ok (n.Call symbol s args at) clause ls f h = values-ok args clause ls f h
-    truth-ok (n.Eq a b at) clause ls f h =
-        (value-ok a clause ls f (left (value_sites a clause known ls) _ h), value-ok b clause ls f (right (value_sites a clause known ls) _ h))
-    truth-ok (n.And s parts at) clause ls f h = truths-ok parts clause ls f h
-    truth-ok (n.Or s parts at) clause ls f h = truths-ok parts clause ls f h
-    truth-ok (n.Not part at) clause ls f h = truth-ok part clause ls f h
-    truth-ok (n.Exists query at) clause ls f h =
-        let plain = rows-plain ls (exists-clause clause query at ls f h.0) in
-        (plain.0, query-ok query ls plain.1 h.1)
-    truth-ok (n.In a query at in_at) clause ls f h =
-        let plain = rows-plain ls (in-clause clause a query at in_at ls f h.0) in
-        let parts = value_sites a clause known ls ++ sites query known ls in
+    pub truth-ok : (e : n.Expr) (ls : Levels) → Fits ls → Fine (truth_sites e known ls) → ResolvableCondition e hs ls
+    truth-ok (n.Pred symbol s args at) ls f h = values-ok args ls f h
+    truth-ok (n.Call symbol s args at) ls f h = values-ok args ls f h
+    truth-ok (n.Eq a b at) ls f h =
+        (value-ok a ls f (left (value_sites a known ls) _ h), value-ok b ls f (right (value_sites a known ls) _ h))
+    truth-ok (n.And s parts at) ls f h = truths-ok parts ls f h
+    truth-ok (n.Or s parts at) ls f h = truths-ok parts ls f h
+    truth-ok (n.Not part at) ls f h = truth-ok part ls f h
+    truth-ok (n.Exists query at) ls f h =
+        let rows = row-levels ls f (and-true-false (is_in_group (sight_here ls)) h.0.subquery_may_stand) in
+        (rows.0, query-ok query ls rows.1 h.1)
+    truth-ok (n.In a query at in_at) ls f h =
+        let rows = row-levels ls f (and-true-false (is_in_group (sight_here ls)) h.0.subquery_may_stand) in
+        let parts = value_sites a known ls ++ sites query known ls in
         let widths = TwoWidths 1 (length (output_columns query hs)) in_at ∷ [] in
         let front = left parts widths h.1 in (
-          plain.0,
-          value-ok a clause ls f (left (value_sites a clause known ls) (sites query known ls) front),
-          query-ok query ls plain.1 (right (value_sites a clause known ls) (sites query known ls) front),
+          rows.0,
+          value-ok a ls f (left (value_sites a known ls) (sites query known ls) front),
+          query-ok query ls rows.1 (right (value_sites a known ls) (sites query known ls) front),
           sym (widths-same 1 (length (output_columns query hs)) in_at (right parts widths h.1).0),
         )
-    truth-ok (n.Col qual qual_at name at) clause ls f h = absurd (no h.0.truth_is_truth)
-    truth-ok (n.Lit lit at) clause ls f h = absurd (no h.0.truth_is_truth)
-    truth-ok (n.Fun symbol s args at) clause ls f h = absurd (no h.0.truth_is_truth)
-    truth-ok (n.Agg fun is_distinct argument at) clause ls f h = absurd (no h.0.truth_is_truth)
-    truth-ok (n.Sub query at) clause ls f h = absurd (no h.0.truth_is_truth)
+    truth-ok (n.Col qual qual_at name at) ls f h = absurd (no h.0.truth_is_truth)
+    truth-ok (n.Lit lit at) ls f h = absurd (no h.0.truth_is_truth)
+    truth-ok (n.Fun symbol s args at) ls f h = absurd (no h.0.truth_is_truth)
+    truth-ok (n.Agg fun is_distinct argument at) ls f h = absurd (no h.0.truth_is_truth)
+    truth-ok (n.Sub query at) ls f h = absurd (no h.0.truth_is_truth)
 
-    pub truths-ok : {k : _} (es : n.Exprs k) (clause : Clause) (ls : Levels) → Fits clause ls → Fine (truths_sites es clause known ls) → ResolvableConditions es hs ls
-    truths-ok n.NoExprs clause ls f h = tt
-    truths-ok (n.ExprThen expr rest) clause ls f h =
-        (truth-ok expr clause ls f (left (truth_sites expr clause known ls) _ h), truths-ok rest clause ls f (right (truth_sites expr clause known ls) _ h))
+    pub truths-ok : {k : _} (es : n.Exprs k) (ls : Levels) → Fits ls → Fine (truths_sites es known ls) → ResolvableConditions es hs ls
+    truths-ok n.NoExprs ls f h = tt
+    truths-ok (n.ExprThen expr rest) ls f h =
+        (truth-ok expr ls f (left (truth_sites expr known ls) _ h), truths-ok rest ls f (right (truth_sites expr known ls) _ h))
 
 -- a query that stands by itself
 pub well_formed-resolvable : (q : n.Query) (known : List Known) → IsWellFormed q known [] → Resolvable q (map heading known) []

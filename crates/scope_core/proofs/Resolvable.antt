@@ -1,37 +1,38 @@
 -- What the proofs about resolved trees ask of a query: every column is found, and what is no value or no condition stands where none is wanted.
 -- A well-formed query has it.
-use Rattle.std.specs.Prelude.{ℕ, suc, ◌<◌, nat_eq, if◌then◌else◌, is_some, true, List, [], ◌∷◌, length, ◌≡◌, Option, Some, None}
+use Rattle.std.specs.Prelude.{ℕ, suc, ◌<◌, nat_eq, if◌then◌else◌, true, List, [], ◌∷◌, length, ◌≡◌, Option, Some, None}
 use Rattle.sql_model.specs.Syntax as n
 use Rattle.sql_model.specs.Syntax.{Name}
 use Rattle.sql_model.specs.Headings.{Heading, output_columns, headings, source_columns}
 use Rattle.sql_model.specs.Grouping.{is_one_group}
-use Rattle.scope_core.specs.Scope.{Place, is_among_places, Level, Levels, place_in, rows_level, output_level, on_level, no_entry, member_levels}
+use Rattle.scope_core.specs.Scope.{Place, is_among_places, Sight, AsRows, AsMember, AsGroup, Level, Levels, place_in, place_at, rows_level, output_level, on_level, no_entry, member_levels}
 use Rattle.scope_core.specs.Resolving.{grouping_of}
-use Rattle.scope_core.specs.Faults.{is_scalar}
+use Rattle.scope_core.specs.Faults.{is_group, is_scalar}
 
 -- how many columns entry e has, where the headings begin at entry k
 abbrev pub width_in : ℕ → ℕ → List Heading → ℕ
 width_in e k [] = 0
 width_in e k (h ∷ hs) = if nat_eq e k then length h.columns else width_in e (suc k) hs
 
--- A column is found. In a grouped block, outside its aggregates, it is one of the group's; else its entry has it.
-abbrev pub IsFound : Option (List Place) → Level → Option Place → Type 0 → Type 0
-IsFound keys l None further = further
-IsFound None l (Some p) further = p.1 < width_in p.0 l.first l.headings
-IsFound (Some columns) l (Some p) further = is_among_places p columns ≡ true
+-- A column is found. Where the block is seen as a group, it is one of the group's; else its entry has it.
+abbrev pub IsFound : Sight → Level → Option Place → Type 0 → Type 0
+IsFound sight l None further = further
+IsFound AsRows l (Some p) further = p.1 < width_in p.0 l.first l.headings
+IsFound AsMember l (Some p) further = p.1 < width_in p.0 l.first l.headings
+IsFound (AsGroup columns) l (Some p) further = is_among_places p columns ≡ true
 
 abbrev pub ResolvableColumn : Option Name → Name → Levels → Type 0
 ResolvableColumn qual name [] = ⊥
-ResolvableColumn qual name (l ∷ ls) = IsFound l.keys l (place_in qual name l.first l.headings) (ResolvableColumn qual name ls)
+ResolvableColumn qual name (l ∷ ls) = IsFound l.sight l (place_at qual name l) (ResolvableColumn qual name ls)
 
 abbrev pub IsGroupLevel : Levels → Type 0
 IsGroupLevel [] = ⊥
-IsGroupLevel (l ∷ ls) = is_some l.keys ≡ true
+IsGroupLevel (l ∷ ls) = is_group l.sight ≡ true
 
 -- outside the items and HAVING of grouped blocks
-abbrev pub Plainly : Levels → Type 0
-Plainly [] = Unit {0}
-Plainly (l ∷ ls) = l.keys ≡ None
+abbrev pub IsRowLevel : Levels → Type 0
+IsRowLevel [] = Unit {0}
+IsRowLevel (l ∷ ls) = l.sight ≡ AsRows
 
 -- a column of this block
 abbrev pub ResolvableKey : n.Expr → List Heading → Type 0
@@ -79,7 +80,7 @@ unfoldable mutual
 
   pub ResolvableItem : n.Item → List Heading → Levels → Type 0
   ResolvableItem (n.Value expr name) hs ls = ResolvableValue expr hs ls
-  ResolvableItem _ hs ls = Plainly ls
+  ResolvableItem _ hs ls = IsRowLevel ls
 
   pub ResolvableValue : n.Expr → List Heading → Levels → Type 0
   ResolvableValue (n.Col qual qual_at name at) hs ls = ResolvableColumn qual name ls
@@ -87,7 +88,7 @@ unfoldable mutual
   ResolvableValue (n.Fun sym s args at) hs ls = ResolvableValues args hs ls
   ResolvableValue (n.Call sym s args at) hs ls = ResolvableValues args hs ls
   ResolvableValue (n.Agg fun is_distinct argument at) hs ls = IsGroupLevel ls × ResolvableArgument argument hs (member_levels ls)
-  ResolvableValue (n.Sub query at) hs ls = Plainly ls × ResolvableScalar query hs ls
+  ResolvableValue (n.Sub query at) hs ls = IsRowLevel ls × ResolvableScalar query hs ls
   ResolvableValue _ hs ls = ⊥
 
   pub ResolvableValues : {m : _} → n.Exprs m → List Heading → Levels → Type 0
@@ -110,8 +111,8 @@ unfoldable mutual
   ResolvableCondition (n.And s parts at) hs ls = ResolvableConditions parts hs ls
   ResolvableCondition (n.Or s parts at) hs ls = ResolvableConditions parts hs ls
   ResolvableCondition (n.Not part at) hs ls = ResolvableCondition part hs ls
-  ResolvableCondition (n.Exists query at) hs ls = Plainly ls × Resolvable query hs ls
-  ResolvableCondition (n.In left query at in_at) hs ls = Plainly ls × ResolvableValue left hs ls × Resolvable query hs ls × (length (output_columns query hs) ≡ 1)
+  ResolvableCondition (n.Exists query at) hs ls = IsRowLevel ls × Resolvable query hs ls
+  ResolvableCondition (n.In left query at in_at) hs ls = IsRowLevel ls × ResolvableValue left hs ls × Resolvable query hs ls × (length (output_columns query hs) ≡ 1)
   ResolvableCondition _ hs ls = ⊥
 
   pub ResolvableConditions : {m : _} → n.Exprs m → List Heading → Levels → Type 0

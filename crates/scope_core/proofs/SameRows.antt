@@ -1,5 +1,5 @@
 -- The rows of a query are those of its resolved tree, in the same order.
-use Rattle.std.proofs.Common.{◌≡◌, ℕ, suc, ◌+◌, Bool, true, false, not, ◌&&◌, ◌||◌, List, [], ◌∷◌, ◌++◌, map, filter, length, get_or, Option, Some, None, option_map, unwrap_or, cond, refl, ap, sym, subst, ◌∙◌, arith}
+use Rattle.std.proofs.Common.{◌≡◌, ℕ, suc, ◌+◌, Bool, true, false, not, ◌&&◌, ◌||◌, List, [], ◌∷◌, ◌++◌, map, filter, length, get_or, option_map, unwrap_or, cond, refl, ap, sym, subst, ◌∙◌, arith}
 use Rattle.std.specs.Prelude.{nat_eq, if◌then◌else◌}
 use Rattle.std.specs.List.{flat_map}
 use Rattle.std.proofs.lemmas.Bool.Decides.{nat_tests}
@@ -24,7 +24,7 @@ use Rattle.sql_model.specs.Meaning as m
 use Rattle.scope_core.specs.declared.tree.RVal.TheVariants as v
 use Rattle.scope_core.specs.declared.tree.RCond.TheVariants as c
 use Rattle.scope_core.specs.Syntax.{RCond}
-use Rattle.scope_core.specs.Scope.{Known, heading, Place, same_place, is_among_places, index_of, Level, Levels, group_columns, rows_level, member_levels, on_level, no_entry}
+use Rattle.scope_core.specs.Scope.{Known, heading, Place, same_place, is_among_places, index_of, Sight, AsRows, AsGroup, Level, Levels, output_sight, rows_level, member_levels, on_level, no_entry}
 use Rattle.scope_core.specs.Resolving.{group_place, group_places, grouping_of, conjunction, resolved_value, resolved_values, resolved_argument, only_block, conjuncts, conjuncts_of_each, resolved_conditions, conjuncts_written, resolved_having, resolved, resolved_block, resolved_entries, resolved_source, on_conjuncts, resolved_items, resolved_item}
 use Rattle.scope_core.specs.Environments.{World, Environment, Frame, frame_of, row_of, rows_at, members_here, outer_frames}
 use Rattle.scope_core.specs.Evaluation.{values_at, group_frame, group_of, frames, value, truth, rows, block_rows, source_rows}
@@ -182,18 +182,18 @@ at_end k (y ∷ hs) (x ∷ bs) h b full a is =
     (a.0, at_end (suc k) hs bs h b full a.1 (subst (λ j. IsBound h b (row_of full j)) e is))
 
 pub record SeesItem (l : Level) (item : List BoundEntry) (full : List Row) (k : ℕ) : Type 0 where
-  pub keys : l.keys ≡ None
+  pub sight : l.sight ≡ AsRows
   pub at : AtRows l.first l.headings item full
   pub next : l.first + length item ≡ k
 
 seen_next : (joined : Bool) (l : Level) (item : List BoundEntry) (full : List Row) (k : ℕ) (h : Heading) (b : BoundEntry) → SeesItem l item full k → IsBound h b (row_of full k)
     → SeesItem (on_level joined l k h) ((if joined then item else []) ++ b ∷ []) full (suc k)
 seen_next true l item full k h b s is = record {
-  keys = refl;
+  sight = refl;
   at = at_end l.first l.headings item h b full s.at (subst (λ j. IsBound h b (row_of full j)) (sym s.next) is);
   next = ap (λ q. l.first + q) (longer item b) ∙ (let e : l.first + suc (length item) ≡ suc (l.first + length item) = omega arith in e ∙ ap suc s.next);
 }
-seen_next false l item full k h b s is = record { keys = refl; at = (is, tt); next = omega arith }
+seen_next false l item full k h b s is = record { sight = refl; at = (is, tt); next = omega arith }
 
 -- ---- tests
 every-append : (xs ys : List RCond) (w : World) (env : Environment) → every (xs ++ ys) w env ≡ (every xs w env && every ys w env)
@@ -215,8 +215,8 @@ module _ (w : NamedWorld) (known : List Known) (db : Database) (views : List (Li
     knowns : relation_headings w ≡ hs
     knowns = known-eq w rd known shows
 
-    abbrev out : List Heading → Option (List Place) → Level
-    out H K = record { first = 0; headings = H; keys = K }
+    abbrev out : List Heading → Sight → Level
+    out H K = record { first = 0; headings = H; sight = K }
 
     reads_block : (H : List Heading) (c : List BoundEntry) (ls : Levels) (env : nf.Environment) (renv : Environment) → Heads H c → Outer ls env renv
         → Reads (rows_level H ∷ ls) (nf.frame_of c ∷ env) (frame_of (rows_of_entries c) ∷ renv)
@@ -236,7 +236,7 @@ module _ (w : NamedWorld) (known : List Known) (db : Database) (views : List (Li
 
     group-reads : (H : List Heading) (columns : List Place) (ms : List (List BoundEntry)) (k : Row) (gm : List (List Row)) → Each (Heads H) ms → gm ≡ map rows_of_entries ms
         → ((p : Place) → is_among_places p columns ≡ true → get_or k (index_of p columns) 0 ≡ read (rows_of_entries (group H ms).entries) p)
-        → ReadsLevel (out H (Some columns)) (group H ms) (group_frame k gm)
+        → ReadsLevel (out H (AsGroup columns)) (group H ms) (group_frame k gm)
     group-reads H columns ms k gm h e hk = record {
       columns = (at_rows [] H (group H ms).entries (group-under w rd known shows H ms h), hk);
       members = e ∙ ap (map rows_of_entries) (sym (group-members H ms));
@@ -269,7 +269,7 @@ module _ (w : NamedWorld) (known : List Known) (db : Database) (views : List (Li
     -- the group of a key
     group-of-key : (H : List Heading) (columns : List Place) (key : List BoundEntry → Row) (k : Row) (ms : List (List BoundEntry)) (gm : List (List Row))
         → ((c : List BoundEntry) → Heads H c → key c ≡ values_at columns (rows_of_entries c)) → Each (Heads H) ms → Each (λ c. same_row (key c) k ≡ true) ms → NonEmpty ms → gm ≡ map rows_of_entries ms
-        → ReadsLevel (out H (Some columns)) (group H ms) (group_frame k gm)
+        → ReadsLevel (out H (AsGroup columns)) (group H ms) (group_frame k gm)
     group-of-key H columns key k [] gm hk h passes some e = absurd some
     group-of-key H columns key k (c ∷ ms) gm hk h passes some e =
         group-reads H columns (c ∷ ms) k gm h e
@@ -278,8 +278,8 @@ module _ (w : NamedWorld) (known : List Known) (db : Database) (views : List (Li
     -- frames of either kind, and what is made of them
     finish : (group_by : n.MaybeGroupBy) (one : Bool) (H : List Heading) (kept : List (List BoundEntry)) (env : nf.Environment) (keep : Frame → Bool) (keep' : nf.Frame → Bool) (made : Frame → Row) (made' : nf.Frame → Row)
         → ResolvableGroupBy group_by H → Each (Heads H) kept
-        → ((f : nf.Frame) (x : Frame) → ReadsLevel (out H (group_columns (grouping_of group_by one H))) f x → keep x ≡ keep' f)
-        → ((f : nf.Frame) (x : Frame) → ReadsLevel (out H (group_columns (grouping_of group_by one H))) f x → made x ≡ made' f)
+        → ((f : nf.Frame) (x : Frame) → ReadsLevel (out H (output_sight (grouping_of group_by one H))) f x → keep x ≡ keep' f)
+        → ((f : nf.Frame) (x : Frame) → ReadsLevel (out H (output_sight (grouping_of group_by one H))) f x → made x ≡ made' f)
         → map made (filter keep (frames (grouping_of group_by one H) (map rows_of_entries kept))) ≡ map made' (filter keep' (m.frames group_by one H kept w env))
     unfolding m.rows
     finish n.NoGroupBy false H kept env keep keep' made made' f h hk hm =
@@ -299,7 +299,7 @@ module _ (w : NamedWorld) (known : List Known) (db : Database) (views : List (Li
         let of_key = λ (k : Row). filter (λ c. same_row (key c) k) kept in
         let ks = distinct (map key kept) in
         let P : Row → Type 0 = λ k. NonEmpty (of_key k) in
-        let level : (k : Row) → P k → ReadsLevel (out H (Some columns)) (group H (of_key k)) (group_of columns (map rows_of_entries kept) k) = λ k some.
+        let level : (k : Row) → P k → ReadsLevel (out H (AsGroup columns)) (group H (of_key k)) (group_of columns (map rows_of_entries kept) k) = λ k some.
         group-of-key H columns key k (of_key k) (filter (λ c. same_row (values_at columns c) k) (map rows_of_entries kept)) key-is (Each-filter (Heads H) (λ c. same_row (key c) k) kept h) (kept-passes (λ c. same_row (key c) k) kept) some
         (filter-map rows_of_entries (Heads H) (λ c. same_row (values_at columns c) k) (λ c. same_row (key c) k) kept (λ c i. ap (λ r. same_row r k) (sym (key-is c i))) h) in
         ap (λ ks. map made (filter keep (map (group_of columns (map rows_of_entries kept)) ks)))
@@ -437,7 +437,7 @@ module _ (w : NamedWorld) (known : List Known) (db : Database) (views : List (Li
       block-same (n.Select is_distinct s items s' from where_condition group_by having) ls env renv f r =
           let H = headings from hs in
           let one = is_one_group items having in
-          let K = group_columns (grouping_of group_by one H) in
+          let K = output_sight (grouping_of group_by one H) in
           let conds = on_conjuncts from 0 no_entry known ls ++ conjuncts_written where_condition known (rows_level H ∷ ls) in
           let keep = λ (c : List BoundEntry). m.joins_hold from c [] w env && m.holds where_condition w (nf.frame_of c ∷ env) in
           let kept = filter keep (product (m.choices from w env)) in
@@ -452,7 +452,7 @@ module _ (w : NamedWorld) (known : List Known) (db : Database) (views : List (Li
           (ap (filter (λ c. every conds rd (frame_of c ∷ renv))) (ap product (choices-same from 0 no_entry ls env renv f.0 r) ∙ product-map (λ b. b.row) (m.choices from w env))
           ∙ filter-map rows_of_entries (Heads H) (λ c. every conds rd (frame_of c ∷ renv)) keep (product (m.choices from w env))
           (λ b h. every-append (on_conjuncts from 0 no_entry known ls) (conjuncts_written where_condition known (rows_level H ∷ ls)) rd (frame_of (rows_of_entries b) ∷ renv)
-          ∙ (λ i. joins-same from 0 no_entry [] b (rows_of_entries b) ls env renv f.0 (record { keys = refl; at = tt; next = refl }) (at_rows [] H b h) r i
+          ∙ (λ i. joins-same from 0 no_entry [] b (rows_of_entries b) ls env renv f.0 (record { sight = refl; at = tt; next = refl }) (at_rows [] H b h) r i
           && written-same where_condition (rows_level H ∷ ls) (nf.frame_of b ∷ env) (frame_of (rows_of_entries b) ∷ renv) f.1 (reads_block H b ls env renv h r) i)) all)
           ∙ finish group_by one H kept env hold hold' made made' f.2 (Each-filter (Heads H) keep (product (m.choices from w env)) all)
           (λ fr x level. having-same having (out H K ∷ ls) (fr ∷ env) (x ∷ renv) f.3 (level, r))
@@ -484,12 +484,12 @@ module _ (w : NamedWorld) (known : List Known) (db : Database) (views : List (Li
           let next = on_level joined l place h in
           let seen = (if joined then item else []) ++ b ∷ [] in
           let sees = seen_next joined l item full place h b s a.0 in
-          let level : ReadsLevel next (nf.frame_of seen) (frame_of full) = record { columns = subst (λ K. ReadsColumns K next (nf.frame_of seen) (frame_of full)) (sym sees.keys) sees.at; members = refl; each = tt } in
+          let level : ReadsLevel next (nf.frame_of seen) (frame_of full) = record { columns = subst (λ K. ReadsColumns K next (nf.frame_of seen) (frame_of full)) (sym sees.sight) sees.at; members = refl; each = tt } in
           every-append (conjuncts_written on known (next ∷ ls)) (on_conjuncts rest (suc place) next known ls) rd (frame_of full ∷ renv)
           ∙ (λ i. written-same on (next ∷ ls) (nf.frame_of seen ∷ env) (frame_of full ∷ renv) f.1 (level, r) i
           && joins-same rest (suc place) next seen bs full ls env renv f.2 sees a.1 r i)
 
-      pub row-same : {k : _} (items : n.Items k) (H : List Heading) (K : Option (List Place)) (fr : nf.Frame) (x : Frame) (ls : Levels) (env : nf.Environment) (renv : Environment)
+      pub row-same : {k : _} (items : n.Items k) (H : List Heading) (K : Sight) (fr : nf.Frame) (x : Frame) (ls : Levels) (env : nf.Environment) (renv : Environment)
           → ResolvableItems items hs (out H K ∷ ls) → ReadsLevel (out H K) fr x → Outer ls env renv
           → values_of (resolved_items items known (out H K ∷ ls)) rd (x ∷ renv) ≡ m.output_row items w (fr ∷ env)
       row-same n.NoItems H K fr x ls env renv f h r = refl
@@ -497,7 +497,7 @@ module _ (w : NamedWorld) (known : List Known) (db : Database) (views : List (Li
           map-append (λ e. value e rd (x ∷ renv)) (resolved_item item known (out H K ∷ ls)) (resolved_items rest known (out H K ∷ ls))
           ∙ (λ i. item-same item H K fr x ls env renv f.0 h r i ++ row-same rest H K fr x ls env renv f.1 h r i)
 
-      pub item-same : (item : n.Item) (H : List Heading) (K : Option (List Place)) (fr : nf.Frame) (x : Frame) (ls : Levels) (env : nf.Environment) (renv : Environment)
+      pub item-same : (item : n.Item) (H : List Heading) (K : Sight) (fr : nf.Frame) (x : Frame) (ls : Levels) (env : nf.Environment) (renv : Environment)
           → ResolvableItem item hs (out H K ∷ ls) → ReadsLevel (out H K) fr x → Outer ls env renv
           → values_of (resolved_item item known (out H K ∷ ls)) rd (x ∷ renv) ≡ m.item_values item w (fr ∷ env)
       item-same (n.Star at) H K fr x ls env renv f h r = star-same rd (x ∷ renv) 0 H fr.entries (subst (λ q. ReadsColumns q (out H K) fr x) f h.columns)

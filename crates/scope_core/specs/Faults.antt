@@ -6,8 +6,8 @@ use Rattle.sql_model.specs.Syntax.{Name}
 use Rattle.sql_model.specs.Frames.{ColumnName}
 use Rattle.sql_model.specs.Columns.{same_name, is_called}
 use Rattle.sql_model.specs.Headings.{columns_of}
-use Rattle.scope_core.specs.Scope.{Place, is_among_places, Level, Levels, place_at}
-use Rattle.scope_core.specs.Sites.{OfRows, OfGroups, OfMembers, AValue, ATruth, Site, ASource, AnAlias, AColumn, AGroupColumn, AStar, AnAliasStar, AnExpression, TwoWidths, Outputs}
+use Rattle.scope_core.specs.Scope.{Place, is_among_places, Sight, AsGroup, AsMember, Level, Levels, place_at, headings_here, sight_here}
+use Rattle.scope_core.specs.Sites.{AValue, ATruth, Site, ASource, AnAlias, AColumn, AGroupColumn, AStar, AnAliasStar, AnExpression, TwoWidths, Outputs}
 
 -- ---- vocabulary
 abbrev pub is_some_and : {X : Type 0} → (X → Bool) → Option X → Bool
@@ -34,6 +34,18 @@ abbrev pub is_here : Option Name → Name → Levels → Bool
 is_here qual name [] = false
 is_here qual name (level ∷ outer) = offers qual name level
 
+-- in the items or HAVING of a grouped block, outside aggregates; in an aggregate's argument there; in either
+abbrev pub is_group : Sight → Bool
+is_group (AsGroup columns) = true
+is_group _ = false
+
+abbrev pub is_member : Sight → Bool
+is_member AsMember = true
+is_member _ = false
+
+abbrev pub is_in_group : Sight → Bool
+is_in_group sight = is_group sight || is_member sight
+
 abbrev pub is_outer : Option Name → Name → Levels → Bool
 is_outer qual name levels = is_some (block_meant qual name levels) && not (is_here qual name levels)
 
@@ -48,9 +60,9 @@ lacks_alias None name levels = false
 lacks_alias (Some alias) name levels = is_none (block_meant (Some alias) name levels)
 
 abbrev pub unknown_alias : Site → Bool
-unknown_alias (AColumn clause qual qual_at name levels at) = lacks_alias qual name levels
+unknown_alias (AColumn qual qual_at name levels at) = lacks_alias qual name levels
 unknown_alias (AGroupColumn (n.Col qual qual_at name at) levels) = lacks_alias qual name levels
-unknown_alias (AnAliasStar clause alias headings at) = is_none (find (λ h. same_name alias h.alias) headings)
+unknown_alias (AnAliasStar alias levels at) = is_none (find (λ h. same_name alias h.alias) (headings_here levels))
 unknown_alias _ = false
 
 -- ---- E32: the entry found by the qualifier lacks the column, or no block offers a bare one; or a column of GROUP BY is not this block's
@@ -60,7 +72,7 @@ lacks_column (Some alias) name levels =
     is_some_and (λ level. not (list_any (is_called name) (columns_meant (Some alias) level))) (block_meant (Some alias) name levels)
 
 abbrev pub unknown_column : Site → Bool
-unknown_column (AColumn clause qual qual_at name levels at) = lacks_column qual name levels
+unknown_column (AColumn qual qual_at name levels at) = lacks_column qual name levels
 unknown_column (AGroupColumn (n.Col qual qual_at name at) levels) = lacks_column qual name levels || is_outer qual name levels
 unknown_column (AGroupColumn expr levels) = true
 unknown_column _ = false
@@ -70,7 +82,7 @@ abbrev pub names_two : Option Name → Name → Levels → Bool
 names_two qual name levels = is_some_and (λ level. nat_lt 1 (count_called name (columns_meant qual level))) (block_meant qual name levels)
 
 abbrev pub ambiguous : Site → Bool
-ambiguous (AColumn clause qual qual_at name levels at) = names_two qual name levels
+ambiguous (AColumn qual qual_at name levels at) = names_two qual name levels
 ambiguous (AGroupColumn (n.Col qual qual_at name at) levels) = names_two qual name levels
 ambiguous _ = false
 
@@ -81,42 +93,41 @@ alias_twice _ = false
 
 -- ---- E35: a column, literal, operator, aggregate or scalar subquery where a truth is wanted
 abbrev pub not_truth : Site → Bool
-not_truth (AnExpression ATruth clause (n.Col qual qual_at name at)) = true
-not_truth (AnExpression ATruth clause (n.Lit lit at)) = true
-not_truth (AnExpression ATruth clause (n.Fun sym s args at)) = true
-not_truth (AnExpression ATruth clause (n.Agg fun is_distinct argument at)) = true
-not_truth (AnExpression ATruth clause (n.Sub query at)) = true
+not_truth (AnExpression ATruth levels (n.Col qual qual_at name at)) = true
+not_truth (AnExpression ATruth levels (n.Lit lit at)) = true
+not_truth (AnExpression ATruth levels (n.Fun sym s args at)) = true
+not_truth (AnExpression ATruth levels (n.Agg fun is_distinct argument at)) = true
+not_truth (AnExpression ATruth levels (n.Sub query at)) = true
 not_truth _ = false
 
 -- ---- E36: a truth other than a call where a value is wanted
 abbrev pub not_value : Site → Bool
-not_value (AnExpression AValue clause (n.Pred sym s args at)) = true
-not_value (AnExpression AValue clause (n.Eq left right at)) = true
-not_value (AnExpression AValue clause (n.And s parts at)) = true
-not_value (AnExpression AValue clause (n.Or s parts at)) = true
-not_value (AnExpression AValue clause (n.Not part at)) = true
-not_value (AnExpression AValue clause (n.Exists query at)) = true
-not_value (AnExpression AValue clause (n.In left query at in_at)) = true
+not_value (AnExpression AValue levels (n.Pred sym s args at)) = true
+not_value (AnExpression AValue levels (n.Eq left right at)) = true
+not_value (AnExpression AValue levels (n.And s parts at)) = true
+not_value (AnExpression AValue levels (n.Or s parts at)) = true
+not_value (AnExpression AValue levels (n.Not part at)) = true
+not_value (AnExpression AValue levels (n.Exists query at)) = true
+not_value (AnExpression AValue levels (n.In left query at in_at)) = true
 not_value _ = false
 
 -- ---- E37: an aggregate in ON, WHERE or another aggregate's argument
 abbrev pub aggregate_here : Site → Bool
-aggregate_here (AnExpression wanted OfRows (n.Agg fun is_distinct argument at)) = true
-aggregate_here (AnExpression wanted OfMembers (n.Agg fun is_distinct argument at)) = true
+aggregate_here (AnExpression wanted levels (n.Agg fun is_distinct argument at)) = not (is_group (sight_here levels))
 aggregate_here _ = false
 
 -- ---- E38: in the items or HAVING of a grouped block, outside aggregates, a column of this block that is not a group column
-abbrev pub is_no_key : Option (List Place) → Option Place → Bool
-is_no_key (Some columns) (Some p) = not (is_among_places p columns)
+abbrev pub is_no_key : Sight → Option Place → Bool
+is_no_key (AsGroup columns) (Some p) = not (is_among_places p columns)
 is_no_key _ _ = false
 
 abbrev pub not_grouped : Site → Bool
-not_grouped (AColumn OfGroups qual qual_at name (level ∷ outer) at) = is_no_key level.keys (place_at qual name level)
+not_grouped (AColumn qual qual_at name (level ∷ outer) at) = is_no_key level.sight (place_at qual name level)
 not_grouped _ = false
 
 -- ---- E39: an aggregate's argument names an outer block's column
 abbrev pub outer_aggregate : Site → Bool
-outer_aggregate (AColumn OfMembers qual qual_at name levels at) = is_outer qual name levels
+outer_aggregate (AColumn qual qual_at name levels at) = is_member (sight_here levels) && is_outer qual name levels
 outer_aggregate _ = false
 
 -- ---- E40: a subquery in the items or HAVING of a grouped block, aggregates' arguments included
@@ -127,8 +138,7 @@ is_subquery (n.In left query at in_at) = true
 is_subquery _ = false
 
 abbrev pub subquery_in_group : Site → Bool
-subquery_in_group (AnExpression wanted OfGroups expr) = is_subquery expr
-subquery_in_group (AnExpression wanted OfMembers expr) = is_subquery expr
+subquery_in_group (AnExpression wanted levels expr) = is_in_group (sight_here levels) && is_subquery expr
 subquery_in_group _ = false
 
 -- ---- E41: two widths differ
@@ -146,7 +156,7 @@ is_scalar (n.OfBlock (n.Select false s items s' from where_condition n.NoGroupBy
 is_scalar _ = false
 
 abbrev pub scalar_not_aggregate : Site → Bool
-scalar_not_aggregate (AnExpression wanted clause (n.Sub query at)) = not (is_scalar query)
+scalar_not_aggregate (AnExpression wanted levels (n.Sub query at)) = not (is_scalar query)
 scalar_not_aggregate _ = false
 
 -- ---- E43: a view has one output name twice; of the names of its columns
@@ -157,8 +167,8 @@ name_twice (Some name ∷ rest) = list_any (is_called name) rest || name_twice r
 
 -- ---- E44: `*` or `alias.*` in a grouped block
 abbrev pub star_in_group : Site → Bool
-star_in_group (AStar OfGroups at) = true
-star_in_group (AnAliasStar OfGroups alias headings at) = true
+star_in_group (AStar levels at) = is_in_group (sight_here levels)
+star_in_group (AnAliasStar alias levels at) = is_in_group (sight_here levels)
 star_in_group _ = false
 
 -- ---- The limit on the outputs of a block is no fault of the query; it is tried after each item.

@@ -60,13 +60,13 @@ word_of expr = place_of expr
 abbrev pub place_at_site : ScopeCode → Site → ℕ
 place_at_site c (ASource name known at) = at
 place_at_site c (AnAlias alias before at) = at
-place_at_site code.UnknownAlias (AColumn clause qual qual_at name levels at) = qual_at
-place_at_site c (AColumn clause qual qual_at name levels at) = at
+place_at_site code.UnknownAlias (AColumn qual qual_at name levels at) = qual_at
+place_at_site c (AColumn qual qual_at name levels at) = at
 place_at_site code.UnknownAlias (AGroupColumn expr levels) = place_of expr
 place_at_site c (AGroupColumn expr levels) = word_of expr
-place_at_site c (AStar clause at) = at
-place_at_site c (AnAliasStar clause alias headings at) = at
-place_at_site c (AnExpression wanted clause expr) = place_of expr
+place_at_site c (AStar levels at) = at
+place_at_site c (AnAliasStar alias levels at) = at
+place_at_site c (AnExpression wanted levels expr) = place_of expr
 place_at_site c (TwoWidths left right at) = at
 place_at_site c (Outputs count) = 0
 

@@ -9,7 +9,7 @@ use Rattle.sql_model.specs.Columns.{same_name}
 use Rattle.sql_model.specs.Headings.{Heading, headings, source_columns}
 use Rattle.sql_model.specs.Grouping.{is_one_group}
 use Rattle.scope_core.specs.Syntax.{RVal, RCond, RSource, RBlock, RQuery, Grouping}
-use Rattle.scope_core.specs.Scope.{Known, heading, Place, Level, Levels, place_in, resolved_column, rows_level, output_level, member_levels, on_level, no_entry}
+use Rattle.scope_core.specs.Scope.{Known, heading, Place, Level, Levels, place_in, resolved_column, rows_level, output_level, member_levels, on_level, no_entry, headings_here}
 use Rattle.scope_core.specs.declared.tree.RVal.TheVariants as v
 use Rattle.scope_core.specs.declared.tree.RCond.TheVariants as c
 use Rattle.scope_core.specs.declared.tree.RSource.TheVariants as s
@@ -32,10 +32,6 @@ star entry (h ∷ rest) = entry_columns entry 0 h.columns ++ star (suc entry) re
 abbrev pub alias_star : Name → ℕ → List Heading → List RVal
 alias_star alias entry [] = []
 alias_star alias entry (h ∷ rest) = if same_name alias h.alias then entry_columns entry 0 h.columns else alias_star alias (suc entry) rest
-
-abbrev pub headings_here : Levels → List Heading
-headings_here [] = []
-headings_here (level ∷ outer) = level.headings
 
 -- ---- GROUP BY
 abbrev pub group_place : n.Expr → List Heading → Place

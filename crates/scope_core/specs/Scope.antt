@@ -30,16 +30,33 @@ abbrev pub is_among_places : Place → List Place → Bool
 is_among_places p [] = false
 is_among_places p (r ∷ places) = same_place p r || is_among_places p places
 
--- What a place sees of a block around it: the headings of some of its entries, the first of which is entry number `first`; and in the items
--- and HAVING of a grouped block, outside its aggregates, the columns of the group, through which alone it reads that block.
+-- how a place sees a block around it
+pub data Sight : Type 0 where
+  -- by the rows of its entries: in ON, WHERE and GROUP BY, and in the items of a block that is not grouped
+  AsRows : Sight
+  -- by the columns of a group, and by no others: in the items and HAVING of a grouped block
+  AsGroup : List Place → Sight
+  -- by the rows of one member of a group: in the argument of an aggregate there
+  AsMember : Sight
+
+-- What a place sees of a block around it: the headings of some of its entries, the first of which is entry number `first`.
 pub record Level : Type 0 where
   pub first : ℕ
   pub headings : List Heading
-  pub keys : Option (List Place)
+  pub sight : Sight
 
 -- the blocks around a place, the innermost first
 abbrev pub Levels : Type 0
 Levels = List Level
+
+-- the innermost block's headings, and how it is seen
+abbrev pub headings_here : Levels → List Heading
+headings_here [] = []
+headings_here (level ∷ outer) = level.headings
+
+abbrev pub sight_here : Levels → Sight
+sight_here [] = AsRows
+sight_here (level ∷ outer) = level.sight
 
 -- ---- where a name is in one block, whose headings begin at entry number `entry`
 abbrev pub bare_place : Name → ℕ → List Heading → Option Place
@@ -67,43 +84,44 @@ abbrev pub index_of : Place → List Place → ℕ
 index_of p [] = 0
 index_of p (r ∷ places) = if same_place p r then 0 else suc (index_of p places)
 
--- a column of the block `up` blocks outwards: of its group, where it is seen as a group
-abbrev pub column_at : ℕ → Option (List Place) → Place → RVal
-column_at up None p = v.Col up p.0 p.1
-column_at up (Some columns) p = v.Key (index_of p columns)
+-- a column of the block `up` blocks outwards
+abbrev pub column_at : ℕ → Sight → Place → RVal
+column_at up AsRows p = v.Col up p.0 p.1
+column_at up AsMember p = v.Col up p.0 p.1
+column_at up (AsGroup columns) p = v.Key (index_of p columns)
 
 -- in the innermost of these blocks that has it, where the first of them is `up` blocks outwards
 abbrev pub column_from : ℕ → Option Name → Name → Levels → RVal
 column_from up qual name [] = v.Col up 0 0
 column_from up qual name (level ∷ outer) =
-    unwrap_or (option_map (column_at up level.keys) (place_at qual name level)) (column_from (suc up) qual name outer)
+    unwrap_or (option_map (column_at up level.sight) (place_at qual name level)) (column_from (suc up) qual name outer)
 
 abbrev pub resolved_column : Option Name → Name → Levels → RVal
 resolved_column qual name levels = column_from 0 qual name levels
 
 -- ---- the levels of a block
--- in WHERE, in GROUP BY, and where the block is not grouped in its items
+-- in WHERE and GROUP BY
 abbrev pub rows_level : List Heading → Level
-rows_level headings = record { first = 0; headings = headings; keys = None }
+rows_level headings = record { first = 0; headings = headings; sight = AsRows }
 
-abbrev pub group_columns : Grouping → Option (List Place)
-group_columns Plain = None
-group_columns One = Some []
-group_columns (Keys columns) = Some columns
+abbrev pub output_sight : Grouping → Sight
+output_sight Plain = AsRows
+output_sight One = AsGroup []
+output_sight (Keys columns) = AsGroup columns
 
 -- in the items and HAVING
 abbrev pub output_level : List Heading → Grouping → Level
-output_level headings grouping = record { first = 0; headings = headings; keys = group_columns grouping }
+output_level headings grouping = record { first = 0; headings = headings; sight = output_sight grouping }
 
 -- in the argument of an aggregate, of the blocks that the aggregate sees
 abbrev pub member_levels : Levels → Levels
 member_levels [] = []
-member_levels (level ∷ outer) = record { first = level.first; headings = level.headings; keys = None } ∷ outer
+member_levels (level ∷ outer) = record { first = level.first; headings = level.headings; sight = AsMember } ∷ outer
 
 -- in the ON of entry number `entry`, where `before` is what an ON of the entry before it sees: after a comma its own entry alone
 abbrev pub on_level : Bool → Level → ℕ → Heading → Level
-on_level true before entry h = record { first = before.first; headings = before.headings ++ h ∷ []; keys = None }
-on_level false before entry h = record { first = entry; headings = h ∷ []; keys = None }
+on_level true before entry h = record { first = before.first; headings = before.headings ++ h ∷ []; sight = AsRows }
+on_level false before entry h = record { first = entry; headings = h ∷ []; sight = AsRows }
 
 -- what is seen before the first entry
 abbrev pub no_entry : Level

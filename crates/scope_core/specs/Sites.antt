@@ -5,20 +5,10 @@
 use Rattle.std.specs.Prelude.{ℕ, suc, ◌+◌, List, [], ◌∷◌, ◌++◌, map, length, Option}
 use Rattle.sql_model.specs.Syntax as n
 use Rattle.sql_model.specs.Syntax.{Name}
-use Rattle.sql_model.specs.Headings.{Heading, output_columns, item_columns, headings, source_columns}
+use Rattle.sql_model.specs.Headings.{output_columns, item_columns, headings, source_columns}
 use Rattle.sql_model.specs.Grouping.{is_one_group}
-use Rattle.scope_core.specs.Syntax.{Grouping, Plain}
-use Rattle.scope_core.specs.Scope.{Known, heading, Level, Levels, rows_level, output_level, member_levels, on_level, no_entry}
-use Rattle.scope_core.specs.Resolving.{grouping_of, headings_here}
-
--- where an expression stands
-pub data Clause : Type 0 where
-  -- in ON or WHERE, or in the items of a block that is not grouped
-  OfRows : Clause
-  -- in the items or HAVING of a grouped block
-  OfGroups : Clause
-  -- in the argument of an aggregate there
-  OfMembers : Clause
+use Rattle.scope_core.specs.Scope.{Known, heading, Level, Levels, rows_level, output_level, member_levels, on_level, no_entry, headings_here}
+use Rattle.scope_core.specs.Resolving.{grouping_of}
 
 -- what is wanted of an expression
 pub data Wanted : Type 0 where
@@ -32,22 +22,18 @@ pub data Site : Type 0 where
   -- the alias of an entry, and those of the entries before it
   AnAlias : Name → List Name → ℕ → Site
   -- a column: its qualifier with the place of that, its name, and the blocks around
-  AColumn : Clause → Option Name → ℕ → Name → Levels → ℕ → Site
+  AColumn : Option Name → ℕ → Name → Levels → ℕ → Site
   -- a column of GROUP BY
   AGroupColumn : n.Expr → Levels → Site
-  -- `*`, and `alias.*` over the headings of FROM
-  AStar : Clause → ℕ → Site
-  AnAliasStar : Clause → Name → List Heading → ℕ → Site
+  -- `*` and `alias.*`, with the block that they stand in and those around
+  AStar : Levels → ℕ → Site
+  AnAliasStar : Name → Levels → ℕ → Site
   -- an aggregate or a subquery; and a condition where a value is wanted, or a value where a condition is
-  AnExpression : Wanted → Clause → n.Expr → Site
+  AnExpression : Wanted → Levels → n.Expr → Site
   -- the widths that are to be equal: of the operands of a set operator, or 1 and that of the query of an IN
   TwoWidths : ℕ → ℕ → ℕ → Site
   -- after an item, how many columns the block has up to and with it
   Outputs : ℕ → Site
-
-abbrev pub output_clause : Grouping → Clause
-output_clause Plain = OfRows
-output_clause _ = OfGroups
 
 abbrev pub group_sites : {m : _} → n.Exprs m → Levels → List Site
 group_sites n.NoExprs levels = []
@@ -59,47 +45,47 @@ group_by_sites (n.GroupBy s columns) levels = group_sites columns levels
 
 unfoldable mutual
   -- ---- expressions, where a value is wanted
-  pub value_sites : n.Expr → Clause → List Known → Levels → List Site
-  value_sites (n.Col qual qual_at name at) clause known levels = AColumn clause qual qual_at name levels at ∷ []
-  value_sites (n.Lit lit at) clause known levels = []
-  value_sites (n.Fun sym s args at) clause known levels = values_sites args clause known levels
-  value_sites (n.Call sym s args at) clause known levels = values_sites args clause known levels
-  value_sites (n.Agg fun is_distinct argument at) clause known levels =
-      AnExpression AValue clause (n.Agg fun is_distinct argument at) ∷ argument_sites argument known (member_levels levels)
-  value_sites (n.Sub query at) clause known levels = AnExpression AValue clause (n.Sub query at) ∷ sites query known levels
-  value_sites condition clause known levels = AnExpression AValue clause condition ∷ []
+  pub value_sites : n.Expr → List Known → Levels → List Site
+  value_sites (n.Col qual qual_at name at) known levels = AColumn qual qual_at name levels at ∷ []
+  value_sites (n.Lit lit at) known levels = []
+  value_sites (n.Fun sym s args at) known levels = values_sites args known levels
+  value_sites (n.Call sym s args at) known levels = values_sites args known levels
+  value_sites (n.Agg fun is_distinct argument at) known levels =
+      AnExpression AValue levels (n.Agg fun is_distinct argument at) ∷ argument_sites argument known (member_levels levels)
+  value_sites (n.Sub query at) known levels = AnExpression AValue levels (n.Sub query at) ∷ sites query known levels
+  value_sites condition known levels = AnExpression AValue levels condition ∷ []
 
-  pub values_sites : {m : _} → n.Exprs m → Clause → List Known → Levels → List Site
-  values_sites n.NoExprs clause known levels = []
-  values_sites (n.ExprThen expr rest) clause known levels = value_sites expr clause known levels ++ values_sites rest clause known levels
+  pub values_sites : {m : _} → n.Exprs m → List Known → Levels → List Site
+  values_sites n.NoExprs known levels = []
+  values_sites (n.ExprThen expr rest) known levels = value_sites expr known levels ++ values_sites rest known levels
 
   pub argument_sites : n.MaybeArgument → List Known → Levels → List Site
   argument_sites n.NoArgument known levels = []
-  argument_sites (n.AnArgument expr) known levels = value_sites expr OfMembers known levels
+  argument_sites (n.AnArgument expr) known levels = value_sites expr known levels
 
   -- ---- expressions, where a truth is wanted
-  pub truth_sites : n.Expr → Clause → List Known → Levels → List Site
-  truth_sites (n.Pred sym s args at) clause known levels = values_sites args clause known levels
-  truth_sites (n.Call sym s args at) clause known levels = values_sites args clause known levels
-  truth_sites (n.Eq left right at) clause known levels = value_sites left clause known levels ++ value_sites right clause known levels
-  truth_sites (n.And s parts at) clause known levels = truths_sites parts clause known levels
-  truth_sites (n.Or s parts at) clause known levels = truths_sites parts clause known levels
-  truth_sites (n.Not part at) clause known levels = truth_sites part clause known levels
-  truth_sites (n.Exists query at) clause known levels = AnExpression ATruth clause (n.Exists query at) ∷ sites query known levels
-  truth_sites (n.In left query at in_at) clause known levels =
-      AnExpression ATruth clause (n.In left query at in_at)
-      ∷ (value_sites left clause known levels ++ sites query known levels
+  pub truth_sites : n.Expr → List Known → Levels → List Site
+  truth_sites (n.Pred sym s args at) known levels = values_sites args known levels
+  truth_sites (n.Call sym s args at) known levels = values_sites args known levels
+  truth_sites (n.Eq left right at) known levels = value_sites left known levels ++ value_sites right known levels
+  truth_sites (n.And s parts at) known levels = truths_sites parts known levels
+  truth_sites (n.Or s parts at) known levels = truths_sites parts known levels
+  truth_sites (n.Not part at) known levels = truth_sites part known levels
+  truth_sites (n.Exists query at) known levels = AnExpression ATruth levels (n.Exists query at) ∷ sites query known levels
+  truth_sites (n.In left query at in_at) known levels =
+      AnExpression ATruth levels (n.In left query at in_at)
+      ∷ (value_sites left known levels ++ sites query known levels
       ++ TwoWidths 1 (length (output_columns query (map heading known))) in_at ∷ [])
-  truth_sites value clause known levels = AnExpression ATruth clause value ∷ []
+  truth_sites value known levels = AnExpression ATruth levels value ∷ []
 
-  pub truths_sites : {m : _} → n.Exprs m → Clause → List Known → Levels → List Site
-  truths_sites n.NoExprs clause known levels = []
-  truths_sites (n.ExprThen expr rest) clause known levels = truth_sites expr clause known levels ++ truths_sites rest clause known levels
+  pub truths_sites : {m : _} → n.Exprs m → List Known → Levels → List Site
+  truths_sites n.NoExprs known levels = []
+  truths_sites (n.ExprThen expr rest) known levels = truth_sites expr known levels ++ truths_sites rest known levels
 
   -- none where no condition is written
-  pub written_sites : n.MaybeCondition → Clause → List Known → Levels → List Site
-  written_sites n.NoCondition clause known levels = []
-  written_sites (n.ACondition expr) clause known levels = truth_sites expr clause known levels
+  pub written_sites : n.MaybeCondition → List Known → Levels → List Site
+  written_sites n.NoCondition known levels = []
+  written_sites (n.ACondition expr) known levels = truth_sites expr known levels
 
   -- ---- queries
   pub sites : n.Query → List Known → Levels → List Site
@@ -114,9 +100,9 @@ unfoldable mutual
       let grouping = grouping_of group_by (is_one_group items having) from_headings in
       let row_levels = rows_level from_headings ∷ levels in
       let output_levels = output_level from_headings grouping ∷ levels in
-      entry_sites from [] known levels ++ on_sites from 0 no_entry known levels ++ written_sites where_condition OfRows known row_levels
-      ++ group_by_sites group_by row_levels ++ items_sites items 0 (output_clause grouping) known output_levels
-      ++ written_sites having (output_clause grouping) known output_levels
+      entry_sites from [] known levels ++ on_sites from 0 no_entry known levels ++ written_sites where_condition known row_levels
+      ++ group_by_sites group_by row_levels ++ items_sites items 0 known output_levels
+      ++ written_sites having known output_levels
 
   -- `before` are the aliases of the entries before
   pub entry_sites : {m : _} → n.Entries m → List Name → List Known → Levels → List Site
@@ -133,16 +119,16 @@ unfoldable mutual
   on_sites n.NoEntries entry before known levels = []
   on_sites (n.EntryThen source alias at joined on rest) entry before known levels =
       let seen = on_level joined before entry (record { alias = alias; columns = source_columns source (map heading known) }) in
-      written_sites on OfRows known (seen ∷ levels) ++ on_sites rest (suc entry) seen known levels
+      written_sites on known (seen ∷ levels) ++ on_sites rest (suc entry) seen known levels
 
   -- `count` is how many columns the items before give
-  pub items_sites : {m : _} → n.Items m → ℕ → Clause → List Known → Levels → List Site
-  items_sites n.NoItems count clause known levels = []
-  items_sites (n.ItemThen item rest) count clause known levels =
+  pub items_sites : {m : _} → n.Items m → ℕ → List Known → Levels → List Site
+  items_sites n.NoItems count known levels = []
+  items_sites (n.ItemThen item rest) count known levels =
       let count_with = count + length (item_columns item (headings_here levels)) in
-      item_sites item clause known levels ++ Outputs count_with ∷ items_sites rest count_with clause known levels
+      item_sites item known levels ++ Outputs count_with ∷ items_sites rest count_with known levels
 
-  pub item_sites : n.Item → Clause → List Known → Levels → List Site
-  item_sites (n.Star at) clause known levels = AStar clause at ∷ []
-  item_sites (n.AliasStar alias at) clause known levels = AnAliasStar clause alias (headings_here levels) at ∷ []
-  item_sites (n.Value expr name) clause known levels = value_sites expr clause known levels
+  pub item_sites : n.Item → List Known → Levels → List Site
+  item_sites (n.Star at) known levels = AStar levels at ∷ []
+  item_sites (n.AliasStar alias at) known levels = AnAliasStar alias levels at ∷ []
+  item_sites (n.Value expr name) known levels = value_sites expr known levels
