@@ -7,3 +7,4 @@ pub mod SameRows
 pub mod Resolvability
 pub mod Relations
 pub mod NoFault
+pub mod SoundParts

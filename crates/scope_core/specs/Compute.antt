@@ -1,7 +1,7 @@
 -- All that unfolds when a definition runs on a tree that is written out, or on one that code builds.
 unfoldable pub everything : Unit {0}
 unfolding
-    Rattle.scope_core.specs.Evaluation.rows Rattle.scope_core.specs.Width.width
+    Rattle.scope_core.specs.Evaluation.rows Rattle.scope_core.specs.Width.width Rattle.scope_core.specs.Sound.IsSound
     Rattle.scope_core.specs.declared.tree.RBlock.roll-RBlock denote.Hole.Carrier.roll denote.Hole.Carrier.hidden
     Rattle.scope_core.specs.declared.tree.RCond.TheBlock.shape-the_row-RVal-0 Rattle.scope_core.specs.declared.tree.RCond.TheBlock.hidden-the_row-RVal-0
     Rattle.scope_core.specs.declared.tree.RCond.TheBlock.shape-the_row-RCond-1 Rattle.scope_core.specs.declared.tree.RCond.TheBlock.hidden-the_row-RCond-1

@@ -12,5 +12,6 @@ pub mod Faults
 pub mod WellFormed
 pub mod FirstFault
 pub mod Plain
+pub mod Sound
 pub mod Compute
 pub mod samples
