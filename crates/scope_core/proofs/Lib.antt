@@ -8,3 +8,4 @@ pub mod Resolvability
 pub mod Relations
 pub mod NoFault
 pub mod SoundParts
+pub mod Soundness

@@ -142,7 +142,7 @@ found-outer qual name (level ∷ outer) f m =
     subst (λ sight. IsFound sight level (place_at qual name level) (ResolvableColumn qual name outer)) (sym f.0)
     (at-level qual name level (block_meant qual name outer) AsRows (place_at qual name level) (ResolvableColumn qual name outer) refl refl m (λ m. found-outer qual name outer f.1 m))
 
-no : true ≡ false → ⊥
+pub no : true ≡ false → ⊥
 no e = let b : true ≡ false = e in grind (arith, b)
 
 column-found : (qual : Option Name) (qual_at : ℕ) (name : Name) (levels : Levels) (at : ℕ) → Fits levels → HasNoFault (AColumn qual qual_at name levels at) → ResolvableColumn qual name levels
