@@ -9,3 +9,4 @@ pub mod Relations
 pub mod NoFault
 pub mod SoundParts
 pub mod Soundness
+pub mod SoundTrees

@@ -31,7 +31,7 @@ longer : {X : Type 0} (xs : List X) (x : X) → length (xs ++ x ∷ []) ≡ suc 
 longer [] x = refl
 longer (y ∷ xs) x = ap suc (longer xs x)
 
-length-map : {X Y : Type 0} (f : X → Y) (xs : List X) → length (map f xs) ≡ length xs
+pub length-map : {X Y : Type 0} (f : X → Y) (xs : List X) → length (map f xs) ≡ length xs
 length-map f [] = refl
 length-map f (x ∷ xs) = ap suc (length-map f xs)
 

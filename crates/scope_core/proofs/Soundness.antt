@@ -1,6 +1,6 @@
 -- The resolved tree of a resolvable query is sound, and as wide as the query.
-use Rattle.std.proofs.Common.{◌≡◌, ℕ, zero, suc, ◌+◌, ◌<◌, ◌≤◌, Bool, true, false, List, [], ◌∷◌, ◌++◌, map, length, get_or, Option, Some, None, option_map, unwrap_or, cond, refl, ap, sym, subst, ◌∙◌, arith}
-use Rattle.std.specs.Prelude.{find, nat_eq, if◌then◌else◌, is_some}
+use Rattle.std.proofs.Common.{◌≡◌, ℕ, suc, ◌+◌, ◌<◌, Bool, true, false, List, [], ◌∷◌, ◌++◌, map, length, get_or, Option, Some, None, option_map, unwrap_or, cond, refl, ap, sym, subst, ◌∙◌, arith}
+use Rattle.std.specs.Prelude.{find, if◌then◌else◌, is_some}
 use Rattle.std.specs.List.{flat_map}
 use Rattle.data_model.specs.Lists.{Each}
 use Rattle.sql_model.specs.Syntax as n
@@ -16,15 +16,15 @@ use Rattle.scope_core.specs.declared.tree.RQuery.TheVariants as q
 use Rattle.scope_core.specs.declared.tree.Grouping.TheVariants as g
 use Rattle.scope_core.specs.declared.tree.RBlock.{roll-RBlock}
 use Rattle.scope_core.specs.Syntax.{RVal, RCond, RSource, RBlock, RQuery, Grouping}
-use Rattle.scope_core.specs.Scope.{Known, heading, Place, Sight, AsRows, AsMember, AsGroup, Level, Levels, place_in, rows_level, output_sight, member_levels, on_level, no_entry}
+use Rattle.scope_core.specs.Scope.{Known, heading, Sight, AsRows, AsMember, AsGroup, Level, Levels, rows_level, output_sight, member_levels, on_level, no_entry}
 use Rattle.scope_core.specs.Resolving.{group_place, group_places, grouping_of, source_named, entry_of, nothing, star, entry_columns, alias_star, conjunction, resolved_value, resolved_values, resolved_argument, only_block, conjuncts, conjuncts_of_each, resolved_conditions, conjuncts_written, resolved_having, resolved, resolved_block, resolved_entries, resolved_source, on_conjuncts, resolved_items, resolved_item}
 use Rattle.scope_core.specs.Width.{width}
 use Rattle.scope_core.specs.Faults.{is_group, is_scalar, is_one_aggregate}
-use Rattle.scope_core.specs.Sound.{Seen, SeenRows, SeenGroup, SeenMember, SeenBlocks, output_seen, SeesGroup, SeesRows, member_seen, AreKeys, IsSound, IsSoundBlock, IsSoundScalar, IsSoundAggregate, IsSoundSource, IsSoundCondition, AreSoundConditions, IsSoundValue}
+use Rattle.scope_core.specs.Sound.{Seen, SeenRows, SeenGroup, SeenMember, SeenBlocks, output_seen, SeesGroup, SeesRows, member_seen, AreKeys, IsSound, IsSoundBlock, IsSoundScalar, IsSoundAggregate, IsSoundSource, AreSoundConditions}
 use Rattle.scope_core.specs.Compute.{everything}
 use Rattle.scope_core.proofs.Each.{Each-append}
 use Rattle.scope_core.proofs.Resolvability.{no}
-use Rattle.scope_core.proofs.Resolvable.{width_in, IsGroupLevel, IsRowLevel, ResolvableKey, ResolvableKeys, ResolvableGroupBy, Resolvable, ResolvableBlock, ResolvableEntries, ResolvableSource, ResolvableWritten, ResolvableItems, ResolvableItem, ResolvableValue, ResolvableValues, ResolvableArgument, ResolvableScalar, ResolvableCondition, ResolvableConditions}
+use Rattle.scope_core.proofs.Resolvable.{IsGroupLevel, ResolvableKey, ResolvableKeys, ResolvableGroupBy, Resolvable, ResolvableBlock, ResolvableEntries, ResolvableSource, ResolvableWritten, ResolvableItems, ResolvableItem, ResolvableValue, ResolvableValues, ResolvableArgument, ResolvableScalar, ResolvableCondition, ResolvableConditions}
 use Rattle.scope_core.proofs.SoundParts.{length-append, heading_widths, AtWidths, at_widths, within, ShapedLevel, ShapedOuter, Shaped, shaped-outer, sees-rows, OkVal, OkCond, sound-column, listed-values, listed-conditions, listed-entries, listed-widths, listed-count, OkHaving, block-sound}
 
 -- ---- stars
@@ -355,8 +355,7 @@ module _ (IsTable IsView : ℕ → ℕ → Type 0) (known : List Known) where
       conjuncts-sound (n.Not part at) ls shape f h = (sound-Not shape (conjunction (conjuncts part known ls)) (sound-conjunction shape (conjuncts part known ls) (conjuncts-sound part ls shape f h)), tt)
       conjuncts-sound (n.Exists query at) ls shape f h = (let o = shaped-outer ls shape f.0 h in sound-Exists shape (resolved query known ls) (sees-rows ls shape o) (query-sound query ls shape f.1 o), tt)
       conjuncts-sound (n.In left query at in_at) ls shape f h =
-          let o = shaped-outer ls shape f.0 h in
-          (
+          let o = shaped-outer ls shape f.0 h in (
             sound-In shape (resolved_value left known ls) (resolved query known ls) (sees-rows ls shape o) (value-sound left ls shape f.1 h) (query-sound query ls shape f.2 o)
                 (width-same query ls ∙ f.3),
             tt,

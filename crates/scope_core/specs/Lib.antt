@@ -13,5 +13,6 @@ pub mod WellFormed
 pub mod FirstFault
 pub mod Plain
 pub mod Sound
+pub mod Fitting
 pub mod Compute
 pub mod samples

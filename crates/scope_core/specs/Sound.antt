@@ -1,8 +1,7 @@
 -- When a resolved tree is sound: each column of it is one of an entry that its place sees, each aggregate and each subquery stands where it may,
 -- widths agree, and each table and view is as wide as its entry says.
-use Rattle.std.specs.Prelude.{ℕ, zero, suc, ◌<◌, ◌≡◌, Bool, List, [], ◌∷◌, get_or, length}
+use Rattle.std.specs.Prelude.{ℕ, zero, suc, ◌<◌, ◌≡◌, List, [], ◌∷◌, get_or, length}
 use Rattle.data_model.specs.Lists.{Each}
-use Rattle.sql_model.specs.Syntax.{Shape}
 use Rattle.scope_core.specs.Syntax.{RVal, Col, Key, Lit, Fun, Agg, Sub, Values, NoValues, ValueThen, MaybeArgument, NoArgument, AnArgument, RCond, Eq, Pred, And, Or, Not, Exists, In, Conditions, NoConditions, ConditionThen, MaybeCondition, NoCondition, ACondition, RSource, Table, View, Derived, Entries, NoEntries, EntryThen, RBlock, Select, RQuery, OfBlock, Set, Grouping, Plain, One, Keys}
 use Rattle.scope_core.specs.Width.{width}
 

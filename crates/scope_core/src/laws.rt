@@ -1,13 +1,17 @@
 //! Laws of the definitions, each the contract of a function that does nothing.
-ghost use Rattle.std.specs.Prelude.{◌≡◌, ◌↔◌, ℕ, None};
+ghost use Rattle.std.specs.Prelude.{◌≡◌, ◌↔◌, ℕ, [], length, map, None};
 ghost use Rattle.data_model.specs.Reading.{Reading};
 ghost use Rattle.data_model.specs.Database.{Database};
 ghost use Rattle.sql_model.specs.declared.schema.Schema.{Schema};
 ghost use Rattle.sql_model.specs.Syntax.{Query};
+ghost use Rattle.sql_model.specs.Headings.{output_columns};
 ghost use Rattle.sql_model.specs.Meets.{Meets};
 ghost use Rattle.sql_model.specs.Relations.{answer};
 ghost use Rattle.scope_core.specs.Evaluation.{answer as resolved_answer};
-ghost use Rattle.scope_core.specs.Relations.{tree_of, views_of};
+ghost use Rattle.scope_core.specs.Fitting.{AreSoundViews, IsSoundOver};
+ghost use Rattle.scope_core.specs.Relations.{known_of, tree_of, views_of};
+ghost use Rattle.scope_core.specs.Scope.{heading};
+ghost use Rattle.scope_core.specs.Width.{width};
 ghost use Rattle.scope_core.specs.WellFormed.{SchemaWellFormed, WellFormed, WithinWidth};
 ghost use Rattle.scope_core.specs.FirstFault.{query_fault};
 
@@ -25,4 +29,16 @@ pub fn resolving_keeps_the_rows()
 pub fn no_fault_in_well_formed()
     ensures { (schema : Schema) (query : Query) →
         (query_fault schema query ≡ None) ↔ (WellFormed schema query × WithinWidth schema query) }
+{}
+
+/// The trees of a well-formed schema and query are sound, and fit the schema and the views before them; and a tree is as wide as
+/// its query has columns.
+#[tactic(auto, using(crate::proofs::SoundTrees::laws))]
+pub fn resolved_trees_are_sound()
+    ensures views { (schema : Schema) → SchemaWellFormed schema →
+        AreSoundViews schema.relations.entries [] (views_of schema) }
+    ensures query { (schema : Schema) (query : Query) → SchemaWellFormed schema → WellFormed schema query →
+        IsSoundOver schema.relations.entries (views_of schema) (tree_of schema query) }
+    ensures wide { (schema : Schema) (query : Query) →
+        width (tree_of schema query) ≡ length (output_columns query (map heading (known_of schema))) }
 {}
