@@ -1,17 +1,23 @@
 -- A query is well formed and within the limit exactly where no site has a fault.
-use Rattle.std.proofs.Common.{◌≡◌, Bool, true, false, List, [], ◌∷◌, Option, Some, None, refl, ap, arith}
+use Rattle.std.proofs.Common.{◌≡◌, ℕ, Bool, true, false, List, [], ◌∷◌, map, Option, Some, None, refl, ap, arith}
 use Rattle.std.specs.Prelude.{◌↔◌, is_some, if◌then◌else◌}
 use Rattle.std.specs.Option.{option_or}
 use Rattle.data_model.specs.Lists.{Each}
 use Rattle.sql_model.specs.declared.schema.Schema.{Schema}
-use Rattle.sql_model.specs.Syntax.{Query}
+use Rattle.sql_model.specs.declared.schema.Relation.TheVariants as relation
+use Rattle.sql_model.specs.Syntax.{Name, Query}
+use Rattle.sql_model.specs.Headings.{output_columns}
+use Rattle.sql_model.specs.Relations.{Relation}
 use Rattle.scope_core.specs.declared.fault.ScopeCode.{ScopeCode}
+use Rattle.scope_core.specs.declared.fault.ScopeCode.TheVariants as code
 use Rattle.scope_core.specs.declared.fault.ScopeFault.TheVariants as fault
-use Rattle.scope_core.specs.Relations.{known_of}
+use Rattle.scope_core.specs.Syntax.{RQuery}
+use Rattle.scope_core.specs.Scope.{Known, heading}
+use Rattle.scope_core.specs.Relations.{known_with, trees_with, known_of}
 use Rattle.scope_core.specs.Sites.{Site, sites}
-use Rattle.scope_core.specs.Faults.{is_too_wide}
-use Rattle.scope_core.specs.WellFormed.{HasNoFault, WellFormed, WithinWidth}
-use Rattle.scope_core.specs.FirstFault.{tests, first_code, code_at, refused, outputs_of, fault_at, first_fault, query_fault}
+use Rattle.scope_core.specs.Faults.{name_twice, is_too_wide}
+use Rattle.scope_core.specs.WellFormed.{HasNoFault, IsRelationWellFormed, AreWellFormed, SchemaWellFormed, WellFormed, IsRelationWithinWidth, AreWithinWidth, SchemaWithinWidth, WithinWidth}
+use Rattle.scope_core.specs.FirstFault.{tests, first_code, code_at, refused, outputs_of, fault_at, first_fault, query_fault, name_fault, relation_fault, relations_fault, schema_fault}
 
 some-none : {X : Type 0} (x : X) → Some x ≡ None → ⊥
 some-none x e = let b : true ≡ false = ap is_some e in grind (arith, b)
@@ -107,4 +113,43 @@ query_fault-none schema query =
     let ss = sites query (known_of schema) [] in
     (no-first ss, λ h. first-none ss h.0 h.1)
 
-pub ruleset laws = (query_fault-none)
+-- ---- of the views
+no-name-fault : (known : List Known) (query : Query) (at : ℕ) → name_fault known query at ≡ None → name_twice (output_columns query (map heading known)) ≡ false
+no-name-fault known query at e = by (name_twice (output_columns query (map heading known))) refl e
+  where
+    by : (b : Bool) → name_twice (output_columns query (map heading known)) ≡ b → (if b then Some (fault.Refused code.NameTwice at 0 0) else None) ≡ None
+        → name_twice (output_columns query (map heading known)) ≡ false
+    by true h e = absurd (some-none _ e)
+    by false h e = h
+
+no-relation-fault : (known : List Known) (r : Relation) → relation_fault known r ≡ None → IsRelationWellFormed known r × IsRelationWithinWidth known r
+no-relation-fault known (relation.Table table) e = (tt, tt)
+no-relation-fault known (relation.View query at) e =
+    let both = or-none (first_fault (sites query known [])) (name_fault known query at) e in
+    let fine = no-first (sites query known []) both.0 in
+    ((fine.0, no-name-fault known query at both.1), fine.1)
+
+relation-fault-none : (known : List Known) (r : Relation) → IsRelationWellFormed known r → IsRelationWithinWidth known r → relation_fault known r ≡ None
+relation-fault-none known (relation.Table table) h w = refl
+relation-fault-none known (relation.View query at) h w = rw (first-none (sites query known []) h.0 w, h.1) refl
+
+no-relations-fault : (known : List Known) (trees : List RQuery) (relations : List (Name × Relation)) → relations_fault known trees relations ≡ None
+    → AreWellFormed known trees relations × AreWithinWidth known trees relations
+no-relations-fault known trees [] e = (tt, tt)
+no-relations-fault known trees (r ∷ rest) e =
+    let both = or-none (relation_fault known r.1) _ e in
+    let here = no-relation-fault known r.1 both.0 in
+    let later = no-relations-fault (known_with known trees r.0 r.1) (trees_with known trees r.1) rest both.1 in
+    ((here.0, later.0), (here.1, later.1))
+
+relations-fault-none : (known : List Known) (trees : List RQuery) (relations : List (Name × Relation)) → AreWellFormed known trees relations → AreWithinWidth known trees relations
+    → relations_fault known trees relations ≡ None
+relations-fault-none known trees [] h w = refl
+relations-fault-none known trees (r ∷ rest) h w =
+    rw (relation-fault-none known r.1 h.0 w.0) (relations-fault-none (known_with known trees r.0 r.1) (trees_with known trees r.1) rest h.1 w.1)
+
+pub schema_fault-none : (schema : Schema) → (schema_fault schema ≡ None) ↔ (SchemaWellFormed schema × SchemaWithinWidth schema)
+schema_fault-none schema =
+    (no-relations-fault [] [] schema.relations.entries, λ h. relations-fault-none [] [] schema.relations.entries h.0 h.1)
+
+pub ruleset laws = (query_fault-none, schema_fault-none)

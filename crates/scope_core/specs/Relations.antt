@@ -1,6 +1,6 @@
 -- The relations of a schema as queries can name them, and the trees of its views, in order of declaration. A view sees the relations declared
 -- before it.
-use Rattle.std.specs.Prelude.{List, [], ◌∷◌, ◌++◌, map, length, Some}
+use Rattle.std.specs.Prelude.{◌≡◌, List, [], ◌∷◌, ◌++◌, map, length, Some}
 use Rattle.sql_model.specs.Syntax.{Name, Query}
 use Rattle.sql_model.specs.Headings.{output_columns}
 use Rattle.sql_model.specs.declared.schema.Schema.{Schema}
@@ -43,3 +43,6 @@ views_of schema = view_trees [] [] schema.relations.entries
 -- the tree of a query that stands by itself
 abbrev pub tree_of : Schema → Query → RQuery
 tree_of schema query = resolved query (known_of schema) []
+
+abbrev pub Resolves : Schema → Query → RQuery → Type 0
+Resolves schema query tree = tree ≡ tree_of schema query

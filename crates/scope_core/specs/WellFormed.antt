@@ -52,6 +52,18 @@ AreWellFormed known trees (r ∷ rest) =
 abbrev pub SchemaWellFormed : Schema → Type 0
 SchemaWellFormed schema = AreWellFormed [] [] schema.relations.entries
 
+abbrev pub IsRelationWithinWidth : List Known → Relation → Type 0
+IsRelationWithinWidth known (relation.Table table) = Unit {0}
+IsRelationWithinWidth known (relation.View query at) = IsWithinWidth query known []
+
+abbrev pub AreWithinWidth : List Known → List RQuery → List (Name × Relation) → Type 0
+AreWithinWidth known trees [] = Unit {0}
+AreWithinWidth known trees (r ∷ rest) =
+    IsRelationWithinWidth known r.1 × AreWithinWidth (known_with known trees r.0 r.1) (trees_with known trees r.1) rest
+
+abbrev pub SchemaWithinWidth : Schema → Type 0
+SchemaWithinWidth schema = AreWithinWidth [] [] schema.relations.entries
+
 -- a query that stands by itself, over the relations of a schema
 abbrev pub WellFormed : Schema → Query → Type 0
 WellFormed schema query = IsWellFormed query (known_of schema) []

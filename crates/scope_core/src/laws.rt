@@ -12,8 +12,8 @@ ghost use Rattle.scope_core.specs.Fitting.{AreSoundViews, IsSoundOver};
 ghost use Rattle.scope_core.specs.Relations.{known_of, tree_of, views_of};
 ghost use Rattle.scope_core.specs.Scope.{heading};
 ghost use Rattle.scope_core.specs.Width.{width};
-ghost use Rattle.scope_core.specs.WellFormed.{SchemaWellFormed, WellFormed, WithinWidth};
-ghost use Rattle.scope_core.specs.FirstFault.{query_fault};
+ghost use Rattle.scope_core.specs.WellFormed.{SchemaWellFormed, SchemaWithinWidth, WellFormed, WithinWidth};
+ghost use Rattle.scope_core.specs.FirstFault.{query_fault, schema_fault};
 
 /// The resolved tree of a well-formed query has the rows of its query, in the same order: over every domain, under every reading
 /// and on every database that meets the schema, where the views have the trees of theirs.
@@ -24,10 +24,12 @@ pub fn resolving_keeps_the_rows()
         resolved_answer n reading db (views_of schema) (tree_of schema query) ≡ answer schema n reading db query }
 {}
 
-/// A query has no first fault exactly where it is well formed and none of its blocks has more outputs than the limit admits.
+/// A schema or a query has no first fault exactly where it is well formed and no block has more outputs than the limit admits.
 #[tactic(auto, using(crate::proofs::NoFault::laws))]
 pub fn no_fault_in_well_formed()
-    ensures { (schema : Schema) (query : Query) →
+    ensures schema { (schema : Schema) →
+        (schema_fault schema ≡ None) ↔ (SchemaWellFormed schema × SchemaWithinWidth schema) }
+    ensures query { (schema : Schema) (query : Query) →
         (query_fault schema query ≡ None) ↔ (WellFormed schema query × WithinWidth schema query) }
 {}
 
