@@ -10,3 +10,4 @@ pub mod NoFault
 pub mod SoundParts
 pub mod Soundness
 pub mod SoundTrees
+pub mod PlainTrees

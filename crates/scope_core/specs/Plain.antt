@@ -3,16 +3,16 @@
 use Rattle.std.specs.Prelude.{Bool, true, false, ◌&&◌, List, find, Option, Some, None}
 use Rattle.sql_model.specs.Syntax as n
 use Rattle.sql_model.specs.Columns.{same_name}
-use Rattle.scope_core.specs.Syntax.{RSource, Table}
+use Rattle.scope_core.specs.Syntax.{RVal, Col, Lit, Values, NoValues, ValueThen, RCond, Eq, Conditions, NoConditions, ConditionThen, NoCondition, RSource, Table, Entries, NoEntries, EntryThen, Select, RQuery, OfBlock, Plain}
 use Rattle.scope_core.specs.Scope.{Known}
+
+abbrev pub is_table : RSource → Bool
+is_table (Table number) = true
+is_table _ = false
 
 abbrev pub is_base_table : Option Known → Bool
 is_base_table None = false
 is_base_table (Some k) = is_table k.source
-  where
-    is_table : RSource → Bool
-    is_table (Table number) = true
-    is_table _ = false
 
 abbrev pub is_plain_source : n.Source → List Known → Bool
 is_plain_source (n.Named name at) known = is_base_table (find (λ k. same_name name k.name) known)
@@ -56,3 +56,30 @@ abbrev pub is_plain : n.Query → List Known → Bool
 is_plain (n.OfBlock (n.Select false s items s' from where_condition n.NoGroupBy n.NoCondition)) known =
     are_plain_entries from known && is_plain_written where_condition && are_plain_items items
 is_plain _ known = false
+
+-- ---- the same of a resolved tree
+abbrev pub is_tree_point : RVal → Bool
+is_tree_point (Col up entry col) = true
+is_tree_point (Lit lit) = true
+is_tree_point _ = false
+
+abbrev pub are_tree_points : {m : _} → Values m → Bool
+are_tree_points NoValues = true
+are_tree_points (ValueThen e rest) = is_tree_point e && are_tree_points rest
+
+abbrev pub is_tree_equality : RCond → Bool
+is_tree_equality (Eq left right) = is_tree_point left && is_tree_point right
+is_tree_equality _ = false
+
+abbrev pub are_tree_equalities : {m : _} → Conditions m → Bool
+are_tree_equalities NoConditions = true
+are_tree_equalities (ConditionThen condition rest) = is_tree_equality condition && are_tree_equalities rest
+
+abbrev pub are_tree_tables : {m : _} → Entries m → Bool
+are_tree_tables NoEntries = true
+are_tree_tables (EntryThen source width rest) = is_table source && are_tree_tables rest
+
+abbrev pub is_plain_tree : RQuery → Bool
+is_plain_tree (OfBlock (Select false s entries s' conds Plain NoCondition s'' items)) =
+    are_tree_tables entries && are_tree_equalities conds && are_tree_points items
+is_plain_tree _ = false

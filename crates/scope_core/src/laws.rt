@@ -10,6 +10,7 @@ ghost use Rattle.sql_model.specs.Relations.{answer};
 ghost use Rattle.scope_core.specs.Evaluation.{answer as resolved_answer};
 ghost use Rattle.scope_core.specs.Fitting.{AreSoundViews, IsSoundOver};
 ghost use Rattle.scope_core.specs.Relations.{known_of, tree_of, views_of};
+ghost use Rattle.scope_core.specs.Plain.{is_plain, is_plain_tree};
 ghost use Rattle.scope_core.specs.Scope.{heading};
 ghost use Rattle.scope_core.specs.Width.{width};
 ghost use Rattle.scope_core.specs.WellFormed.{SchemaWellFormed, SchemaWithinWidth, WellFormed, WithinWidth};
@@ -43,4 +44,11 @@ pub fn resolved_trees_are_sound()
         IsSoundOver schema.relations.entries (views_of schema) (tree_of schema query) }
     ensures wide { (schema : Schema) (query : Query) →
         width (tree_of schema query) ≡ length (output_columns query (map heading (known_of schema))) }
+{}
+
+/// The tree of a well-formed query is plain exactly where the query is.
+#[tactic(auto, using(crate::proofs::PlainTrees::laws))]
+pub fn plain_trees()
+    ensures { (schema : Schema) (query : Query) → WellFormed schema query →
+        is_plain_tree (tree_of schema query) ≡ is_plain query (known_of schema) }
 {}
