@@ -30,11 +30,16 @@ abbrev pub columns_meant : Option Name → Level → List ColumnName
 columns_meant None level = flat_map (λ h. h.columns) level.headings
 columns_meant (Some alias) level = columns_of alias level.headings
 
+-- whether that is the innermost block of all, and whether it is one further out
 abbrev pub is_here : Option Name → Name → Levels → Bool
 is_here qual name [] = false
 is_here qual name (level ∷ outer) = offers qual name level
 
--- in the items or HAVING of a grouped block, outside aggregates; in an aggregate's argument there; in either
+abbrev pub is_outer : Option Name → Name → Levels → Bool
+is_outer qual name levels = is_some (block_meant qual name levels) && not (is_here qual name levels)
+
+-- how the innermost block is seen: as a group in the items and HAVING of a grouped block, outside aggregates; as one member in an aggregate's
+-- argument there
 abbrev pub is_group : Sight → Bool
 is_group (AsGroup columns) = true
 is_group _ = false
@@ -45,9 +50,6 @@ is_member _ = false
 
 abbrev pub is_in_group : Sight → Bool
 is_in_group sight = is_group sight || is_member sight
-
-abbrev pub is_outer : Option Name → Name → Levels → Bool
-is_outer qual name levels = is_some (block_meant qual name levels) && not (is_here qual name levels)
 
 -- ---- E30: an entry names no relation
 abbrev pub unknown_table : Site → Bool

@@ -1,12 +1,13 @@
 -- Which entry a column names.
-use Rattle.std.specs.Prelude.{◌≡◌, refl, [], ◌∷◌}
+use Rattle.std.specs.Prelude.{◌≡◌, refl, true, false, [], ◌∷◌, None}
 use Rattle.sql_model.specs.declared.tree.Expr.TheVariants as expr
-use Rattle.sql_model.specs.Syntax.{Query}
+use Rattle.sql_model.specs.Syntax.{Query, Expr, Value}
 use Rattle.sql_model.specs.samples.Forms.{select, select_where, star, only, from, join, col, bare, equal, exists, one, two, r, s, a, b, x, y, z}
 use Rattle.scope_core.specs.Syntax.{Col, Lit}
 use Rattle.scope_core.specs.declared.tree.RCond.TheVariants as c
+use Rattle.scope_core.specs.Plain.{is_plain}
 use Rattle.scope_core.specs.Compute.{resolving}
-use Rattle.scope_core.specs.samples.Trees.{tree, rows_of, entry, plain}
+use Rattle.scope_core.specs.samples.Trees.{known, tree, rows_of, entry, plain}
 
 -- SELECT x.a FROM r AS x WHERE EXISTS (SELECT * FROM s AS x WHERE x.a = 1): the inner alias hides the outer one
 abbrev inner_alias : Query
@@ -64,3 +65,16 @@ conjuncts_are_flattened : tree nested
     (Col 0 0 1 ∷ [])
 unfolding resolving
 conjuncts_are_flattened = refl
+
+-- SELECT x.a, 1 FROM r AS x JOIN s AS y ON x.a = y.a WHERE x.b = 1 AND y.a = x.b, and the same without the AND but with NOT
+abbrev points_alone : Expr → Query
+unfolding resolving
+points_alone condition = select_where (Value (col x a) None ∷ Value one None ∷ []) (from r x ∷ join s y (equal (col x a) (col y a)) ∷ []) condition
+
+a_plain_query : is_plain (points_alone (expr.And (equal (col x b) one ∷ equal (col y a) (col x b) ∷ []) 0)) known ≡ true
+unfolding resolving
+a_plain_query = refl
+
+no_plain_query : is_plain (points_alone (expr.Not (equal (col x b) one) 0)) known ≡ false
+unfolding resolving
+no_plain_query = refl

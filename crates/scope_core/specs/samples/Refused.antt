@@ -1,12 +1,12 @@
 -- Queries that are refused, one for each fault, with the place of the fault in the text.
-use Rattle.std.specs.Prelude.{ℕ, ◌≡◌, refl, false, [], ◌∷◌, Some, None, Option}
+use Rattle.std.specs.Prelude.{ℕ, zero, suc, ◌≡◌, refl, false, [], ◌∷◌, Some, None, Option}
 use Rattle.sql_model.specs.declared.tree.Expr.TheVariants as expr
 use Rattle.sql_model.specs.declared.tree.Source.TheVariants as source
 use Rattle.sql_model.specs.declared.tree.Query.TheVariants as query
 use Rattle.sql_model.specs.declared.tree.Entry.{Entry, roll-Entry}
 use Rattle.sql_model.specs.declared.schema.Relation.TheVariants as relation
-use Rattle.sql_model.specs.Syntax.{Name, Expr, Col, Item, AliasStar, Value, Query, Count, Max, Union}
-use Rattle.sql_model.specs.samples.Forms.{block, select, select_where, select_group_by, all_of, star, only, from, bare, r, s, a, b, x, y}
+use Rattle.sql_model.specs.Syntax.{Name, Expr, Col, Item, Star, AliasStar, Value, Query, Count, Max, Union}
+use Rattle.sql_model.specs.samples.Forms.{block, select, select_where, select_group_by, all_of, star, only, from, derived, bare, r, s, a, b, x, y}
 use Rattle.scope_core.specs.declared.fault.ScopeFault.{ScopeFault}
 use Rattle.scope_core.specs.declared.fault.ScopeFault.TheVariants as fault
 use Rattle.scope_core.specs.declared.fault.ScopeCode.TheVariants as code
@@ -131,3 +131,13 @@ nothing_wrong : fault_of (block false (at a 7 ∷ Value (expr.Agg Max false (Som
     (Some (expr.Eq (count_star_at 42) (expr.Lit 0 53) 42))) ≡ None
 unfolding resolving
 nothing_wrong = refl
+
+-- ---- after `CREATE TABLE r (a INT);`: SELECT * FROM (SELECT *, * FROM (.. r) x) x, with 12 times SELECT *, *
+abbrev doubled : ℕ → Query
+unfolding resolving
+doubled zero = all_of r
+doubled (suc times) = select (Star 0 ∷ Star 0 ∷ []) (derived (doubled times) x ∷ [])
+
+too_many_outputs : alone (select star (derived (doubled 12) x ∷ [])) ≡ Some (fault.TooWide 4096)
+unfolding resolving
+too_many_outputs = refl
