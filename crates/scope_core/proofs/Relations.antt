@@ -1,6 +1,7 @@
 -- The rows of a well-formed query over the relations of a schema are those of its tree over the trees of the views.
-use Rattle.std.proofs.Common.{◌≡◌, ℕ, zero, suc, ◌+◌, ◌<◌, List, [], ◌∷◌, ◌++◌, map, length, get_or, Some, refl, ap, sym, subst, ◌∙◌, arith}
+use Rattle.std.proofs.Common.{◌≡◌, ℕ, suc, ◌+◌, ◌<◌, List, [], ◌∷◌, ◌++◌, map, length, get_or, Some, refl, ap, sym, subst, ◌∙◌, arith}
 use Rattle.std.specs.Prelude.{filter_map}
+use Rattle.std.proofs.lemmas.List.{length-map}
 use Rattle.data_model.specs.Lists.{Each}
 use Rattle.data_model.specs.Rows.{Row}
 use Rattle.data_model.specs.Reading.{Reading}
@@ -22,27 +23,10 @@ use Rattle.scope_core.specs.Environments.{World, Environment}
 use Rattle.scope_core.specs.Evaluation.{rows, source_rows, world_of, view_rows, answer}
 use Rattle.scope_core.specs.WellFormed.{IsRelationWellFormed, AreWellFormed, SchemaWellFormed, WellFormed}
 use Rattle.scope_core.proofs.Each.{Each-in, Each-end}
+use Rattle.scope_core.proofs.Lists.{longer, get-between, get-before}
 use Rattle.scope_core.proofs.Wide.{IsShown, Shows, known-eq, rows-wide}
 use Rattle.scope_core.proofs.SameRows.{rows-same}
 use Rattle.scope_core.proofs.Resolvability.{well_formed-resolvable}
-
--- ---- lists
-longer : {X : Type 0} (xs : List X) (x : X) → length (xs ++ x ∷ []) ≡ suc (length xs)
-longer [] x = refl
-longer (y ∷ xs) x = ap suc (longer xs x)
-
-pub length-map : {X Y : Type 0} (f : X → Y) (xs : List X) → length (map f xs) ≡ length xs
-length-map f [] = refl
-length-map f (x ∷ xs) = ap suc (length-map f xs)
-
-at-front : {X : Type 0} (xs : List X) (x d : X) (i : ℕ) → i < length xs → get_or (xs ++ x ∷ []) i d ≡ get_or xs i d
-at-front [] x d i h = absurd (omega (arith, h))
-at-front (y ∷ xs) x d zero h = refl
-at-front (y ∷ xs) x d (suc i) h = at-front xs x d i (omega (arith, h))
-
-at-last : {X : Type 0} (xs : List X) (x d : X) → get_or (xs ++ x ∷ []) (length xs) d ≡ x
-at-last [] x d = refl
-at-last (y ∷ xs) x d = at-last xs x d
 
 Shows-end : (w : World) (rs : List ShownRelation) (ks : List Known) (r : ShownRelation) (k : Known) → Shows w rs ks → IsShown w r k → Shows w (rs ++ r ∷ []) (ks ++ k ∷ [])
 Shows-end w [] [] r k h i = (i, tt)
@@ -89,7 +73,7 @@ module _ (n : ℕ) (reading : Reading) (db : Database) where
   source-later : (views : List (List Row)) (view : List Row) (s : RSource) (env : Environment) → IsSource (length views) s → source_rows s (over (views ++ view ∷ [])) env ≡ source_rows s (over views) env
   unfolding rows
   source-later views view (TableSource number) env h = refl
-  source-later views view (View place) env h = at-front views view [] place h
+  source-later views view (View place) env h = get-before views view [] place h
   source-later views view (Derived query) env h = absurd h
 
   Shows-later : (views : List (List Row)) (view : List Row) (rs : List ShownRelation) (ks : List Known) → Each (λ k. IsSource (length views) k.source) ks
@@ -125,7 +109,7 @@ module _ (n : ℕ) (reading : Reading) (db : Database) where
     shows = Shows-end (over (shown_by trees)) shown known _ _ a.shows (record {
       name = refl;
       columns = refl;
-      wide = Each-in _ _ (λ row e. e ∙ sym (length-map Some table.columns)) (table_rows db table.number) wide;
+      wide = Each-in _ _ (λ row e. e ∙ sym (length-map table.columns Some)) (table_rows db table.number) wide;
       rows = λ env. table-shown table.number env (shown_by trees);
     });
   }
@@ -147,7 +131,7 @@ module _ (n : ℕ) (reading : Reading) (db : Database) where
               name = refl;
               columns = ap (output_columns query) eq;
               wide = rows-wide w (over views) known a.shows query [] [] fine;
-              rows = λ env. view-shown (length trees) env (views ++ view ∷ []) ∙ subst (λ p. get_or (views ++ view ∷ []) p [] ≡ view) long (at-last views view []) ∙ same;
+              rows = λ env. view-shown (length trees) env (views ++ view ∷ []) ∙ subst (λ p. get_or (views ++ view ∷ []) p [] ≡ view) long (get-between views view [] []) ∙ same;
             }));
       }
 

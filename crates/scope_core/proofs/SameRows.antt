@@ -3,6 +3,7 @@ use Rattle.std.proofs.Common.{◌≡◌, ℕ, suc, ◌+◌, Bool, true, false, n
 use Rattle.std.specs.Prelude.{nat_eq, if◌then◌else◌}
 use Rattle.std.specs.List.{flat_map}
 use Rattle.std.proofs.lemmas.Bool.Decides.{nat_tests}
+use Rattle.std.proofs.lemmas.List.{append_assoc, map-append}
 use Rattle.data_model.specs.Lists.{Each}
 use Rattle.data_model.specs.Rows.{Row, same_row, is_among, distinct, product}
 use Rattle.data_model.specs.Reading.{literal_value, function_value, predicate_holds}
@@ -29,20 +30,13 @@ use Rattle.scope_core.specs.Resolving.{group_place, group_places, grouping_of, c
 use Rattle.scope_core.specs.Environments.{World, Environment, Frame, frame_of, row_of, rows_at, members_here, outer_frames}
 use Rattle.scope_core.specs.Evaluation.{values_at, group_frame, group_of, frames, value, truth, rows, block_rows, source_rows}
 use Rattle.scope_core.proofs.Each.{Each-filter, Each-distinct}
+use Rattle.scope_core.proofs.Lists.{longer, get-between, map-map, map-id}
 use Rattle.scope_core.proofs.Resolvable.{ResolvableKey, ResolvableKeys, ResolvableGroupBy, ResolvableArgument, ResolvableScalar, Resolvable, ResolvableBlock, ResolvableEntries, ResolvableSource, ResolvableWritten, ResolvableItems, ResolvableItem, ResolvableValue, ResolvableValues, ResolvableCondition, ResolvableConditions}
 use Rattle.scope_core.proofs.Built.{values_of, every, some, held, argument_given, rows_each, and-true, value-Fun, value-Col, value-Sub, value-Agg, truth-Eq, truth-Pred, truth-Or, truth-Not, truth-Exists, truth-In, truth-conjunction, source-Query, rows-Block, rows-Set, rows-of_block}
 use Rattle.scope_core.proofs.Places.{IsBound, AtRows, read, rows_of_entries, ReadsColumns, ReadsLevel, Outer, Reads, outer, place-reads, column-same, star-same, alias_star-same}
 use Rattle.scope_core.proofs.Wide.{Heads, product-heads, Shows, named-same, choices-wide, known-eq, group-under}
 
 -- ---- lists
-map-map : {X Y Z : Type 0} (f : Y → Z) (h : X → Y) (xs : List X) → map f (map h xs) ≡ map (λ x. f (h x)) xs
-map-map f h [] = refl
-map-map f h (x ∷ xs) = ap (λ l. f (h x) ∷ l) (map-map f h xs)
-
-map-append : {X Y : Type 0} (f : X → Y) (xs ys : List X) → map f (xs ++ ys) ≡ map f xs ++ map f ys
-map-append f [] ys = refl
-map-append f (x ∷ xs) ys = ap (λ l. f x ∷ l) (map-append f xs ys)
-
 -- one row of each entry, seen as bounds or as rows
 product-map : {X Y : Type 0} (f : X → Y) (css : List (List X)) → product (map (map f) css) ≡ map (map f) (product css)
 product-map f [] = refl
@@ -68,10 +62,6 @@ made-same f P k k' made made' [] hk hm each = refl
 made-same f P k k' made made' (x ∷ xs) hk hm each =
     ap (λ b. map made (cond b (f x ∷ filter k (map f xs)) (filter k (map f xs)))) (hk x each.0)
     ∙ made-cond made made' (f x) x (filter k (map f xs)) (filter k' xs) (k' x) (hm x each.0) (made-same f P k k' made made' xs hk hm each.1)
-
-map-id : {X : Type 0} (xs : List X) → map (λ x. x) xs ≡ xs
-map-id [] = refl
-map-id (x ∷ xs) = ap (λ l. x ∷ l) (map-id xs)
 
 -- keeping commutes with mapping
 filter-map : {X Y : Type 0} (f : X → Y) (P : X → Type 0) (k : Y → Bool) (k' : X → Bool) (xs : List X) → ((x : X) → P x → k (f x) ≡ k' x) → Each P xs → filter k (map f xs) ≡ map f (filter k' xs)
@@ -150,26 +140,14 @@ key-at (c ∷ columns) rs p h = split (same_place p c) refl (λ k. key-at column
     split false e ih = ih (rw e at h)
 
 -- ---- combinations
-nth-at : (pre : List Row) (r : Row) (rest : List Row) → row_of (pre ++ r ∷ rest) (length pre) ≡ r
-nth-at [] r rest = refl
-nth-at (x ∷ pre) r rest = nth-at pre r rest
-
-append-assoc : {X : Type 0} (xs ys zs : List X) → (xs ++ ys) ++ zs ≡ xs ++ (ys ++ zs)
-append-assoc [] ys zs = refl
-append-assoc (x ∷ xs) ys zs = ap (λ l. x ∷ l) (append-assoc xs ys zs)
-
-longer : {X : Type 0} (xs : List X) (x : X) → length (xs ++ x ∷ []) ≡ suc (length xs)
-longer [] x = refl
-longer (y ∷ xs) x = ap suc (longer xs x)
-
 at_rows : (pre : List Row) (hs : List Heading) (bs : List BoundEntry) → Heads hs bs → AtRows (length pre) hs bs (pre ++ rows_of_entries bs)
 at_rows pre [] [] h = tt
 at_rows pre [] (b ∷ bs) h = absurd h
 at_rows pre (k ∷ hs) [] h = absurd h
 at_rows pre (k ∷ hs) (b ∷ bs) h = (
-  record { alias = h.0.alias; columns = h.0.columns; long = h.0.long; row = nth-at pre b.row (rows_of_entries bs) },
+  record { alias = h.0.alias; columns = h.0.columns; long = h.0.long; row = get-between pre b.row (rows_of_entries bs) [] },
   subst (λ l. AtRows l hs bs (pre ++ b.row ∷ rows_of_entries bs)) (longer pre b.row)
-      (subst (λ rs. AtRows (length (pre ++ b.row ∷ [])) hs bs rs) (append-assoc pre (b.row ∷ []) (rows_of_entries bs)) (at_rows (pre ++ b.row ∷ []) hs bs h.1)),
+      (subst (λ rs. AtRows (length (pre ++ b.row ∷ [])) hs bs rs) (append_assoc pre (b.row ∷ []) (rows_of_entries bs)) (at_rows (pre ++ b.row ∷ []) hs bs h.1)),
 )
 
 -- ---- what an ON sees

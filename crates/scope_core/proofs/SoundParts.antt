@@ -2,6 +2,7 @@
 use Rattle.std.proofs.Common.{◌≡◌, ℕ, suc, ◌+◌, ◌<◌, Bool, true, false, List, [], ◌∷◌, ◌++◌, map, length, get_or, Option, Some, None, option_map, unwrap_or, refl, ap, sym, subst, ◌∙◌, arith}
 use Rattle.std.specs.Prelude.{nat_eq, if◌then◌else◌}
 use Rattle.std.proofs.lemmas.Bool.Decides.{nat_tests}
+use Rattle.std.proofs.lemmas.List.{append_assoc, length-append}
 use Rattle.data_model.specs.Lists.{Each}
 use Rattle.sql_model.specs.Syntax.{Name}
 use Rattle.sql_model.specs.Headings.{Heading}
@@ -14,11 +15,8 @@ use Rattle.scope_core.specs.Resolving.{entry_of}
 use Rattle.scope_core.specs.Width.{count_values}
 use Rattle.scope_core.specs.Sound.{Seen, SeenRows, SeenGroup, SeenMember, SeenBlocks, widths, widths_at, output_seen, SeesGroup, SeesRows, AreKeys, IsSoundBlock, AreSoundEntries, IsSoundSource, IsSoundCondition, AreSoundConditions, IsSoundValue, AreSoundValues}
 use Rattle.scope_core.specs.Compute.{everything}
+use Rattle.scope_core.proofs.Lists.{get-between}
 use Rattle.scope_core.proofs.Resolvable.{width_in, IsFound, ResolvableColumn, IsRowLevel}
-
-pub length-append : {X : Type 0} (xs ys : List X) → length (xs ++ ys) ≡ length xs + length ys
-length-append [] ys = omega arith
-length-append (x ∷ xs) ys = rw (length-append xs ys) (omega arith)
 
 -- ---- widths
 abbrev pub heading_widths : List Heading → List ℕ
@@ -28,20 +26,12 @@ abbrev pub AtWidths : ℕ → List Heading → List ℕ → Type 0
 AtWidths k [] ks = Unit {0}
 AtWidths k (h ∷ hs) ks = (get_or ks k 0 ≡ length h.columns) × AtWidths (suc k) hs ks
 
-nth-at : (pre : List ℕ) (x : ℕ) (rest : List ℕ) → get_or (pre ++ x ∷ rest) (length pre) 0 ≡ x
-nth-at [] x rest = refl
-nth-at (y ∷ pre) x rest = nth-at pre x rest
-
-append-assoc : {X : Type 0} (xs ys zs : List X) → (xs ++ ys) ++ zs ≡ xs ++ (ys ++ zs)
-append-assoc [] ys zs = refl
-append-assoc (x ∷ xs) ys zs = ap (λ l. x ∷ l) (append-assoc xs ys zs)
-
 pub at_widths : (pre : List ℕ) (hs : List Heading) → AtWidths (length pre) hs (pre ++ heading_widths hs)
 at_widths pre [] = tt
 at_widths pre (h ∷ hs) = (
-  nth-at pre (length h.columns) (heading_widths hs),
+  get-between pre (length h.columns) (heading_widths hs) 0,
   subst (λ l. AtWidths l hs (pre ++ length h.columns ∷ heading_widths hs)) (length-append pre (length h.columns ∷ []) ∙ (omega arith))
-      (subst (λ ks. AtWidths (length (pre ++ length h.columns ∷ [])) hs ks) (append-assoc pre (length h.columns ∷ []) (heading_widths hs)) (at_widths (pre ++ length h.columns ∷ []) hs)),
+      (subst (λ ks. AtWidths (length (pre ++ length h.columns ∷ [])) hs ks) (append_assoc pre (length h.columns ∷ []) (heading_widths hs)) (at_widths (pre ++ length h.columns ∷ []) hs)),
 )
 
 pub within : (e k col : ℕ) (hs : List Heading) (ks : List ℕ) → AtWidths k hs ks → col < width_in e k hs → col < get_or ks e 0

@@ -1,5 +1,6 @@
 -- The trees of a well-formed schema and query are sound, and fit the schema and the views.
-use Rattle.std.proofs.Common.{◌≡◌, ℕ, zero, suc, List, [], ◌∷◌, ◌++◌, map, length, Some, refl, ap, sym, subst, inl, inr}
+use Rattle.std.proofs.Common.{◌≡◌, ℕ, zero, suc, List, [], ◌∷◌, ◌++◌, map, length, Some, refl, sym, subst, inl, inr}
+use Rattle.std.proofs.lemmas.List.{append_assoc, append-nil, length-map}
 use Rattle.data_model.specs.Lists.{Each}
 use Rattle.sql_model.specs.declared.schema.Schema.{Schema}
 use Rattle.sql_model.specs.declared.schema.Relation.TheVariants as relation
@@ -15,7 +16,6 @@ use Rattle.scope_core.specs.Sound.{SeenBlocks, IsSound, IsSoundSource}
 use Rattle.scope_core.specs.Fitting.{HasTable, HasView, IsSoundOver, AreSoundViews}
 use Rattle.scope_core.specs.WellFormed.{IsRelationWellFormed, AreWellFormed, SchemaWellFormed, WellFormed}
 use Rattle.scope_core.proofs.Each.{Each-in, Each-end}
-use Rattle.scope_core.proofs.Relations.{length-map}
 use Rattle.scope_core.proofs.Resolvability.{well_formed-resolvable}
 use Rattle.scope_core.proofs.Soundness.{OkSources, query-sound, width-same}
 
@@ -30,18 +30,10 @@ HasView-last [] tree wide e = e
 HasView-last (t ∷ trees) tree wide e = HasView-last trees tree wide e
 
 module _ (all : List (Name × Relation)) where
-  append-one : (xs : List RQuery) (x : RQuery) (ys : List RQuery) → (xs ++ x ∷ []) ++ ys ≡ xs ++ (x ∷ ys)
-  append-one [] x ys = refl
-  append-one (y ∷ xs) x ys = ap (λ l. y ∷ l) (append-one xs x ys)
-
   AreSoundViews-end : (earlier trees : List RQuery) (tree : RQuery) → AreSoundViews all earlier trees → IsSoundOver all (earlier ++ trees) tree → AreSoundViews all earlier (trees ++ tree ∷ [])
-  AreSoundViews-end earlier [] tree h s = (subst (λ vs. IsSoundOver all vs tree) (append-nothing earlier) s, tt)
-    where
-      append-nothing : (xs : List RQuery) → xs ++ [] ≡ xs
-      append-nothing [] = refl
-      append-nothing (x ∷ xs) = ap (λ l. x ∷ l) (append-nothing xs)
+  AreSoundViews-end earlier [] tree h s = (subst (λ vs. IsSoundOver all vs tree) (append-nil earlier) s, tt)
   AreSoundViews-end earlier (t ∷ trees) tree h s =
-      (h.0, AreSoundViews-end (earlier ++ t ∷ []) trees tree h.1 (subst (λ vs. IsSoundOver all vs tree) (sym (append-one earlier t trees)) s))
+      (h.0, AreSoundViews-end (earlier ++ t ∷ []) trees tree h.1 (subst (λ vs. IsSoundOver all vs tree) (sym (append_assoc earlier (t ∷ []) trees)) s))
 
   -- a base table, or one of these views
   abbrev IsKnownSource : List RQuery → RSource → ℕ → Type 0
@@ -76,7 +68,7 @@ module _ (all : List (Name × Relation)) where
   step : (known : List Known) (trees : List RQuery) (name : Name) (r : Relation) → AreSound known trees → IsRelationWellFormed known r → Gives r → AreSound (known_with known trees name r) (trees_with known trees r)
   step known trees name (relation.Table table) a f gives = record {
     views = a.views;
-    sources = Each-end (λ k. IsKnownSource trees k.source (length k.columns)) known _ a.sources (subst (HasTable all table.number) (sym (length-map Some table.columns)) gives);
+    sources = Each-end (λ k. IsKnownSource trees k.source (length k.columns)) known _ a.sources (subst (HasTable all table.number) (sym (length-map table.columns Some)) gives);
   }
   step known trees name (relation.View query at) a f gives =
       let tree = resolved query known [] in

@@ -2,6 +2,7 @@
 use Rattle.std.proofs.Common.{◌≡◌, ℕ, suc, ◌+◌, ◌<◌, Bool, true, false, List, [], ◌∷◌, ◌++◌, map, length, get_or, Option, Some, None, option_map, unwrap_or, cond, refl, ap, sym, subst, ◌∙◌, arith}
 use Rattle.std.specs.Prelude.{find, if◌then◌else◌, is_some}
 use Rattle.std.specs.List.{flat_map}
+use Rattle.std.proofs.lemmas.List.{length-append}
 use Rattle.data_model.specs.Lists.{Each}
 use Rattle.sql_model.specs.Syntax as n
 use Rattle.sql_model.specs.Frames.{ColumnName}
@@ -25,7 +26,7 @@ use Rattle.scope_core.specs.Compute.{everything}
 use Rattle.scope_core.proofs.Each.{Each-append}
 use Rattle.scope_core.proofs.Resolvability.{no}
 use Rattle.scope_core.proofs.Resolvable.{IsGroupLevel, ResolvableKey, ResolvableKeys, ResolvableGroupBy, Resolvable, ResolvableBlock, ResolvableEntries, ResolvableSource, ResolvableWritten, ResolvableItems, ResolvableItem, ResolvableValue, ResolvableValues, ResolvableArgument, ResolvableScalar, ResolvableCondition, ResolvableConditions}
-use Rattle.scope_core.proofs.SoundParts.{length-append, heading_widths, AtWidths, at_widths, within, ShapedLevel, ShapedOuter, Shaped, shaped-outer, sees-rows, OkVal, OkCond, sound-column, listed-values, listed-conditions, listed-entries, listed-widths, listed-count, OkHaving, block-sound}
+use Rattle.scope_core.proofs.SoundParts.{heading_widths, AtWidths, at_widths, within, ShapedLevel, ShapedOuter, Shaped, shaped-outer, sees-rows, OkVal, OkCond, sound-column, listed-values, listed-conditions, listed-entries, listed-widths, listed-count, OkHaving, block-sound}
 
 -- ---- stars
 entry_columns-long : (k col : ℕ) (cs : List ColumnName) → length (entry_columns k col cs) ≡ length cs

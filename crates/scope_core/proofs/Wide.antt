@@ -1,7 +1,8 @@
 -- The rows of a query are as wide as its columns.
-use Rattle.std.proofs.Common.{◌≡◌, ℕ, suc, ◌+◌, Bool, true, false, ◌&&◌, List, [], ◌∷◌, ◌++◌, map, filter, length, Option, Some, option_map, unwrap_or, cond, refl, ap, sym, subst, ◌∙◌, arith}
+use Rattle.std.proofs.Common.{◌≡◌, ℕ, suc, Bool, true, false, ◌&&◌, List, [], ◌∷◌, map, filter, length, Option, Some, option_map, unwrap_or, cond, refl, ap, sym, subst, ◌∙◌}
 use Rattle.std.specs.Prelude.{find}
 use Rattle.std.specs.List.{flat_map}
+use Rattle.std.proofs.lemmas.List.{length-append}
 use Rattle.data_model.specs.Lists.{Each}
 use Rattle.data_model.specs.Rows.{Row, same_row, distinct, product}
 use Rattle.sql_model.specs.Syntax as n
@@ -41,10 +42,6 @@ product-heads (k ∷ hs) [] h = absurd h
 product-heads (k ∷ hs) (bs ∷ bss) h =
     Each-flat_map (λ b. IsBound k b b.row) (Heads (k ∷ hs)) (λ b. map (λ c. b ∷ c) (product bss))
     (λ b i. Each-map (Heads hs) (Heads (k ∷ hs)) (λ c. b ∷ c) (λ c j. (i, j)) (product bss) (product-heads hs bss h.1)) bs h.0
-
-length-append : {X : Type 0} (xs ys : List X) → length (xs ++ ys) ≡ length xs + length ys
-length-append [] ys = omega arith
-length-append (x ∷ xs) ys = rw (length-append xs ys) (omega arith)
 
 star-wide : (hs : List Heading) (bs : List BoundEntry) → Heads hs bs → length (flat_map (λ b. b.row) bs) ≡ length (flat_map (λ h. h.columns) hs)
 star-wide [] [] h = refl
