@@ -17,6 +17,7 @@ use Rattle.scope_core.specs.Environments.{World, Environment, frame_of, outer_fr
 use Rattle.scope_core.specs.Evaluation.{frames, value, values, truth, all_hold, some_hold, rows, block_rows, choices, source_rows}
 use Rattle.scope_core.specs.Resolving.{entry_of, nothing, conjunction}
 use Rattle.scope_core.specs.Compute.{everything}
+use Rattle.scope_core.proofs.Booleans.{and-true}
 
 -- of lists
 abbrev pub values_of : List RVal → World → Environment → Row
@@ -37,10 +38,6 @@ held (Some c) w env = truth c w env
 abbrev pub argument_given : Option RVal → Bool → World → Environment → ℕ
 argument_given None counting w env = literal_value w.reading 0
 argument_given (Some e) counting w env = if counting then literal_value w.reading 0 else value e w env
-
-pub and-true : (b : Bool) → (b && true) ≡ b
-and-true true = refl
-and-true false = refl
 
 module _ (w : World) (env : Environment) where
   listed-values : (es : List RVal) → values (t.hidden-the_row-RVal-0 es) w env ≡ values_of es w env

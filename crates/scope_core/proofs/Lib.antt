@@ -1,3 +1,4 @@
+pub mod Booleans
 pub mod Lists
 pub mod Each
 pub mod Resolvable

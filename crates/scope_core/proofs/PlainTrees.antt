@@ -21,8 +21,8 @@ use Rattle.scope_core.specs.Relations.{known_of, tree_of}
 use Rattle.scope_core.specs.Plain.{is_table, is_base_table, is_plain_source, is_point, is_plain_condition, are_plain_conditions, is_plain_written, are_plain_entries, is_plain_item, are_plain_items, is_plain, is_tree_point, are_tree_points, is_tree_equality, are_tree_equalities, are_tree_tables, is_plain_tree}
 use Rattle.scope_core.specs.WellFormed.{WellFormed}
 use Rattle.scope_core.specs.Compute.{everything}
-use Rattle.scope_core.proofs.Built.{and-true}
-use Rattle.scope_core.proofs.Resolvability.{no, well_formed-resolvable}
+use Rattle.scope_core.proofs.Booleans.{no, and-true, and-false, and-assoc}
+use Rattle.scope_core.proofs.Resolvability.{well_formed-resolvable}
 use Rattle.scope_core.proofs.Resolvable.{Resolvable, ResolvableBlock, ResolvableEntries, ResolvableWritten, ResolvableItems, ResolvableItem, ResolvableValue, ResolvableCondition, ResolvableConditions}
 
 -- ---- of lists
@@ -52,10 +52,6 @@ listed-tables : (es : List (RSource × ℕ)) → are_tree_tables (t.hidden-the_r
 unfolding everything tables
 listed-tables [] = refl
 listed-tables (e ∷ es) = ap (λ b. is_table e.0 && b) (listed-tables es)
-
-and-assoc : (a b c : Bool) → (a && (b && c)) ≡ ((a && b) && c)
-and-assoc true b c = refl
-and-assoc false b c = refl
 
 points-append : (xs ys : List RVal) → points (xs ++ ys) ≡ (points xs && points ys)
 unfolding points
@@ -187,10 +183,6 @@ module _ (known : List Known) where
       ∙ (λ i. (source-plain source i && written-plain known seen (on-rows joined before entry h) on f.1 i) && entries-plain rest (suc entry) seen f.2 i)
 
 -- ---- blocks
-and-false : (b : Bool) → (b && false) ≡ false
-and-false true = refl
-and-false false = refl
-
 plain-block : (es : List (RSource × ℕ)) (cs : List RCond) (items : List RVal)
     → is_plain_tree (q.Block (roll-RBlock (record { distinct = false; entries = map entry_of es; conds = cs; grouping = g.Plain; having = None; items = items })))
     ≡ (tables es && equalities cs && points items)

@@ -1,5 +1,5 @@
 -- A well-formed query is resolvable.
-use Rattle.std.proofs.Common.{◌≡◌, ℕ, suc, ◌<◌, ◌≤◌, Bool, true, false, not, ◌&&◌, ◌||◌, List, [], ◌∷◌, ◌++◌, map, length, Option, Some, None, option_map, unwrap_or, position, cond, refl, sym, subst, arith}
+use Rattle.std.proofs.Common.{◌≡◌, ℕ, suc, ◌<◌, ◌≤◌, Bool, true, false, not, ◌&&◌, List, [], ◌∷◌, ◌++◌, map, length, Option, Some, None, option_map, unwrap_or, position, cond, refl, sym, subst, ◌∙◌, arith}
 use Rattle.std.specs.Prelude.{◌+◌, nat_eq, nat_lt, is_some, is_none, if◌then◌else◌}
 use Rattle.std.specs.Option.{option_or}
 use Rattle.std.specs.List.{list_any, position_or_len}
@@ -18,25 +18,9 @@ use Rattle.scope_core.specs.Resolving.{grouping_of}
 use Rattle.scope_core.specs.Sites.{Site, AColumn, AGroupColumn, TwoWidths, group_sites, group_by_sites, sites, block_sites, entry_sites, source_sites, on_sites, items_sites, item_sites, written_sites, value_sites, values_sites, argument_sites, truth_sites, truths_sites}
 use Rattle.scope_core.specs.Faults.{is_some_and, block_meant, lacks_alias, lacks_column, is_no_key, is_group, is_in_group, is_scalar}
 use Rattle.scope_core.specs.WellFormed.{HasNoFault, IsWellFormed}
+use Rattle.scope_core.proofs.Booleans.{no, not-false, or-left, or-right, and-true}
 use Rattle.scope_core.proofs.Each.{Each-left, Each-right}
 use Rattle.scope_core.proofs.Resolvable.{width_in, IsFound, ResolvableColumn, IsGroupLevel, IsRowLevel, ResolvableKey, ResolvableKeys, ResolvableGroupBy, Resolvable, ResolvableBlock, ResolvableEntries, ResolvableSource, ResolvableWritten, ResolvableItems, ResolvableItem, ResolvableValue, ResolvableValues, ResolvableArgument, ResolvableScalar, ResolvableCondition, ResolvableConditions}
-
--- ---- tests
-pub or-left : (a b : Bool) → (a || b) ≡ false → a ≡ false
-or-left true b e = e
-or-left false b e = refl
-
-pub or-right : (a b : Bool) → (a || b) ≡ false → b ≡ false
-or-right true b e = grind (arith, e)
-or-right false b e = e
-
-not-false : (b : Bool) → not b ≡ false → b ≡ true
-not-false true e = refl
-not-false false e = grind (arith, e)
-
-and-true-false : (b : Bool) → (b && true) ≡ false → b ≡ false
-and-true-false true e = e
-and-true-false false e = refl
 
 -- ---- places are within the block
 abbrev Within : ℕ → List Heading → Option Place → Type 0
@@ -141,9 +125,6 @@ found-outer qual name [] f m = absurd m
 found-outer qual name (level ∷ outer) f m =
     subst (λ sight. IsFound sight level (place_at qual name level) (ResolvableColumn qual name outer)) (sym f.0)
     (at-level qual name level (block_meant qual name outer) AsRows (place_at qual name level) (ResolvableColumn qual name outer) refl refl m (λ m. found-outer qual name outer f.1 m))
-
-pub no : true ≡ false → ⊥
-no e = let b : true ≡ false = e in grind (arith, b)
 
 column-found : (qual : Option Name) (qual_at : ℕ) (name : Name) (levels : Levels) (at : ℕ) → Fits levels → HasNoFault (AColumn qual qual_at name levels at) → ResolvableColumn qual name levels
 column-found qual qual_at name [] at f e = absurd f
@@ -290,7 +271,7 @@ module _ (known : List Known) where
         let fits = group-levels ls f (not-false (is_group (sight_here ls)) h.0.aggregate_may_stand) in
         (fits.0, argument-ok argument (member_levels ls) fits.1 h.1)
     value-ok (n.Sub query at) ls f h =
-        let rows = row-levels ls f (and-true-false (is_in_group (sight_here ls)) h.0.subquery_may_stand) in
+        let rows = row-levels ls f (sym (and-true (is_in_group (sight_here ls))) ∙ h.0.subquery_may_stand) in
         (rows.0, scalar-ok query ls rows.1 (not-false (is_scalar query) h.0.scalar_is_aggregate) h.1)
     value-ok (n.Pred symbol s args at) ls f h = absurd (no h.0.value_is_value)
     value-ok (n.Eq a b at) ls f h = absurd (no h.0.value_is_value)
@@ -322,10 +303,10 @@ module _ (known : List Known) where
     truth-ok (n.Or s parts at) ls f h = truths-ok parts ls f h
     truth-ok (n.Not part at) ls f h = truth-ok part ls f h
     truth-ok (n.Exists query at) ls f h =
-        let rows = row-levels ls f (and-true-false (is_in_group (sight_here ls)) h.0.subquery_may_stand) in
+        let rows = row-levels ls f (sym (and-true (is_in_group (sight_here ls))) ∙ h.0.subquery_may_stand) in
         (rows.0, query-ok query ls rows.1 h.1)
     truth-ok (n.In a query at in_at) ls f h =
-        let rows = row-levels ls f (and-true-false (is_in_group (sight_here ls)) h.0.subquery_may_stand) in
+        let rows = row-levels ls f (sym (and-true (is_in_group (sight_here ls))) ∙ h.0.subquery_may_stand) in
         let parts = value_sites a known ls ++ sites query known ls in
         let widths = TwoWidths 1 (length (output_columns query hs)) in_at ∷ [] in
         let front = left parts widths h.1 in (

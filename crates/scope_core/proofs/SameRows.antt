@@ -29,10 +29,11 @@ use Rattle.scope_core.specs.Scope.{Known, heading, Place, same_place, is_among_p
 use Rattle.scope_core.specs.Resolving.{group_place, group_places, grouping_of, conjunction, resolved_value, resolved_values, resolved_argument, only_block, conjuncts, conjuncts_of_each, resolved_conditions, conjuncts_written, resolved_having, resolved, resolved_block, resolved_entries, resolved_source, on_conjuncts, resolved_items, resolved_item}
 use Rattle.scope_core.specs.Environments.{World, Environment, Frame, frame_of, row_of, rows_at, members_here, outer_frames}
 use Rattle.scope_core.specs.Evaluation.{values_at, group_frame, group_of, frames, value, truth, rows, block_rows, source_rows}
+use Rattle.scope_core.proofs.Booleans.{and-first, and-second, and-true, and-assoc}
 use Rattle.scope_core.proofs.Each.{Each-filter, Each-distinct}
 use Rattle.scope_core.proofs.Lists.{longer, get-between, map-map, map-id}
 use Rattle.scope_core.proofs.Resolvable.{ResolvableKey, ResolvableKeys, ResolvableGroupBy, ResolvableArgument, ResolvableScalar, Resolvable, ResolvableBlock, ResolvableEntries, ResolvableSource, ResolvableWritten, ResolvableItems, ResolvableItem, ResolvableValue, ResolvableValues, ResolvableCondition, ResolvableConditions}
-use Rattle.scope_core.proofs.Built.{values_of, every, some, held, argument_given, rows_each, and-true, value-Fun, value-Col, value-Sub, value-Agg, truth-Eq, truth-Pred, truth-Or, truth-Not, truth-Exists, truth-In, truth-conjunction, source-Query, rows-Block, rows-Set, rows-of_block}
+use Rattle.scope_core.proofs.Built.{values_of, every, some, held, argument_given, rows_each, value-Fun, value-Col, value-Sub, value-Agg, truth-Eq, truth-Pred, truth-Or, truth-Not, truth-Exists, truth-In, truth-conjunction, source-Query, rows-Block, rows-Set, rows-of_block}
 use Rattle.scope_core.proofs.Places.{IsBound, AtRows, read, rows_of_entries, ReadsColumns, ReadsLevel, Outer, Reads, outer, place-reads, column-same, star-same, alias_star-same}
 use Rattle.scope_core.proofs.Wide.{Heads, product-heads, Shows, named-same, choices-wide, known-eq, group-under}
 
@@ -114,14 +115,6 @@ kept-passes p (x ∷ xs) = keep (p x) refl (kept-passes p xs)
     keep true e h = (e, h)
     keep false e h = h
 
-and-first : (a b : Bool) → (a && b) ≡ true → a ≡ true
-and-first true b e = refl
-and-first false b e = e
-
-and-second : (a b : Bool) → (a && b) ≡ true → b ≡ true
-and-second true b e = e
-and-second false b e = grind (arith, e)
-
 key-at : (columns : List Place) (rs : List Row) (p : Place) → is_among_places p columns ≡ true → get_or (values_at columns rs) (index_of p columns) 0 ≡ read rs p
 key-at [] rs p h = grind (arith, h)
 key-at (c ∷ columns) rs p h = split (same_place p c) refl (λ k. key-at columns rs p k)
@@ -177,10 +170,6 @@ seen_next false l item full k h b s is = record { sight = refl; at = (is, tt); n
 every-append : (xs ys : List RCond) (w : World) (env : Environment) → every (xs ++ ys) w env ≡ (every xs w env && every ys w env)
 every-append [] ys w env = refl
 every-append (x ∷ xs) ys w env = ap (λ b. truth x w env && b) (every-append xs ys w env) ∙ and-assoc (truth x w env) (every xs w env) (every ys w env)
-  where
-    and-assoc : (a b c : Bool) → (a && (b && c)) ≡ ((a && b) && c)
-    and-assoc true b c = refl
-    and-assoc false b c = refl
 
 module _ (w : NamedWorld) (known : List Known) (db : Database) (views : List (List Row)) where
   abbrev pub rd : World

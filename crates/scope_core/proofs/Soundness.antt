@@ -24,7 +24,7 @@ use Rattle.scope_core.specs.Faults.{is_group, is_scalar, is_one_aggregate}
 use Rattle.scope_core.specs.Sound.{Seen, SeenRows, SeenGroup, SeenMember, SeenBlocks, output_seen, SeesGroup, SeesRows, member_seen, AreKeys, IsSound, IsSoundBlock, IsSoundScalar, IsSoundAggregate, IsSoundSource, AreSoundConditions}
 use Rattle.scope_core.specs.Compute.{everything}
 use Rattle.scope_core.proofs.Each.{Each-append}
-use Rattle.scope_core.proofs.Resolvability.{no}
+use Rattle.scope_core.proofs.Booleans.{no}
 use Rattle.scope_core.proofs.Resolvable.{IsGroupLevel, ResolvableKey, ResolvableKeys, ResolvableGroupBy, Resolvable, ResolvableBlock, ResolvableEntries, ResolvableSource, ResolvableWritten, ResolvableItems, ResolvableItem, ResolvableValue, ResolvableValues, ResolvableArgument, ResolvableScalar, ResolvableCondition, ResolvableConditions}
 use Rattle.scope_core.proofs.SoundParts.{heading_widths, AtWidths, at_widths, within, ShapedLevel, ShapedOuter, Shaped, shaped-outer, sees-rows, OkVal, OkCond, sound-column, listed-values, listed-conditions, listed-entries, listed-widths, listed-count, OkHaving, block-sound}
 
