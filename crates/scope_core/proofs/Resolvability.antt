@@ -1,4 +1,4 @@
--- A well-formed query is resolvable.
+-- A well-formed query is resolvable: what the fourteen predicates say at each site is what the proofs ask.
 use Rattle.std.proofs.Common.{◌≡◌, ℕ, suc, ◌<◌, ◌≤◌, Bool, true, false, not, ◌&&◌, List, [], ◌∷◌, ◌++◌, map, length, Option, Some, None, option_map, unwrap_or, position, cond, refl, sym, subst, ◌∙◌, arith}
 use Rattle.std.specs.Prelude.{◌+◌, nat_eq, nat_lt, is_some, is_none, if◌then◌else◌}
 use Rattle.std.specs.Option.{option_or}

@@ -1,4 +1,5 @@
 -- The rows of a query are those of its resolved tree, in the same order.
+--     w and env are the world and the environment of names, rd and renv those of places; ls are the levels, and H the headings of FROM.
 use Rattle.std.proofs.Common.{◌≡◌, ℕ, suc, ◌+◌, Bool, true, false, not, ◌&&◌, ◌||◌, List, [], ◌∷◌, ◌++◌, map, filter, length, get_or, option_map, unwrap_or, cond, refl, ap, sym, subst, ◌∙◌, arith}
 use Rattle.std.specs.Prelude.{nat_eq, if◌then◌else◌}
 use Rattle.std.specs.List.{flat_map}
@@ -38,7 +39,7 @@ use Rattle.scope_core.proofs.Places.{IsBound, AtRows, read, rows_of_entries, Rea
 use Rattle.scope_core.proofs.Wide.{Heads, product-heads, Shows, named-same, choices-wide, known-eq, group-under}
 
 -- ---- lists
--- one row of each entry, seen as bounds or as rows
+-- one row of each entry, with its names or alone
 product-map : {X Y : Type 0} (f : X → Y) (css : List (List X)) → product (map (map f) css) ≡ map (map f) (product css)
 product-map f [] = refl
 product-map f (cs ∷ css) = (λ i. flat_map (λ b. map (λ bs. b ∷ bs) (product-map f css i)) (map f cs)) ∙ flat f cs (product css)
