@@ -1,0 +1,15 @@
+pub mod Booleans
+pub mod Lists
+pub mod Each
+pub mod Resolvable
+pub mod Built
+pub mod Places
+pub mod Wide
+pub mod SameRows
+pub mod Resolvability
+pub mod Relations
+pub mod NoFault
+pub mod SoundParts
+pub mod Soundness
+pub mod SoundTrees
+pub mod PlainTrees

@@ -1,0 +1,18 @@
+-- Resolved trees, in the order in which they are read: their vocabulary, which tree a query has, what trees mean, and which queries are well
+-- formed.
+pub mod Syntax
+pub mod Scope
+pub mod Resolving
+pub mod Relations
+pub mod Environments
+pub mod Evaluation
+pub mod Width
+pub mod Sites
+pub mod Faults
+pub mod WellFormed
+pub mod FirstFault
+pub mod Plain
+pub mod Sound
+pub mod Fitting
+pub mod Compute
+pub mod samples

@@ -1,0 +1,54 @@
+//! Laws of the definitions, each the contract of a function that does nothing.
+ghost use Rattle.std.specs.Prelude.{◌≡◌, ◌↔◌, ℕ, [], length, map, None};
+ghost use Rattle.data_model.specs.Reading.{Reading};
+ghost use Rattle.data_model.specs.Database.{Database};
+ghost use Rattle.sql_model.specs.declared.schema.Schema.{Schema};
+ghost use Rattle.sql_model.specs.Syntax.{Query};
+ghost use Rattle.sql_model.specs.Headings.{output_columns};
+ghost use Rattle.sql_model.specs.Meets.{Meets};
+ghost use Rattle.sql_model.specs.Relations.{answer};
+ghost use Rattle.scope_core.specs.Evaluation.{answer as resolved_answer};
+ghost use Rattle.scope_core.specs.Fitting.{AreSoundViews, IsSoundOver};
+ghost use Rattle.scope_core.specs.Relations.{known_of, tree_of, views_of};
+ghost use Rattle.scope_core.specs.Plain.{is_plain, is_plain_tree};
+ghost use Rattle.scope_core.specs.Scope.{heading};
+ghost use Rattle.scope_core.specs.Width.{width};
+ghost use Rattle.scope_core.specs.WellFormed.{SchemaWellFormed, SchemaWithinWidth, WellFormed, WithinWidth};
+ghost use Rattle.scope_core.specs.FirstFault.{query_fault, schema_fault};
+
+/// The resolved tree of a well-formed query has the rows of its query, in the same order: over every domain, under every reading
+/// and on every database that meets the schema, where the views have the trees of theirs.
+#[tactic(auto, using(crate::proofs::Relations::laws))]
+pub fn resolving_keeps_the_rows()
+    ensures { (schema : Schema) (query : Query) (n : ℕ) (reading : Reading) (db : Database) →
+        SchemaWellFormed schema → WellFormed schema query → Meets schema n db →
+        resolved_answer n reading db (views_of schema) (tree_of schema query) ≡ answer schema n reading db query }
+{}
+
+/// A schema or a query has no first fault exactly where it is well formed and no block has more outputs than the limit admits.
+#[tactic(auto, using(crate::proofs::NoFault::laws))]
+pub fn no_fault_in_well_formed()
+    ensures schema { (schema : Schema) →
+        (schema_fault schema ≡ None) ↔ (SchemaWellFormed schema × SchemaWithinWidth schema) }
+    ensures query { (schema : Schema) (query : Query) →
+        (query_fault schema query ≡ None) ↔ (WellFormed schema query × WithinWidth schema query) }
+{}
+
+/// The trees of a well-formed schema and query are sound, and fit the schema and the views before them; and a tree is as wide as
+/// its query has columns.
+#[tactic(auto, using(crate::proofs::SoundTrees::laws))]
+pub fn resolved_trees_are_sound()
+    ensures views { (schema : Schema) → SchemaWellFormed schema →
+        AreSoundViews schema.relations.entries [] (views_of schema) }
+    ensures query { (schema : Schema) (query : Query) → SchemaWellFormed schema → WellFormed schema query →
+        IsSoundOver schema.relations.entries (views_of schema) (tree_of schema query) }
+    ensures wide { (schema : Schema) (query : Query) →
+        width (tree_of schema query) ≡ length (output_columns query (map heading (known_of schema))) }
+{}
+
+/// The tree of a well-formed query is plain exactly where the query is.
+#[tactic(auto, using(crate::proofs::PlainTrees::laws))]
+pub fn plain_trees()
+    ensures { (schema : Schema) (query : Query) → WellFormed schema query →
+        is_plain_tree (tree_of schema query) ≡ is_plain query (known_of schema) }
+{}
