@@ -21,3 +21,4 @@ pub mod QueryFirsts
 pub mod QueryRests
 pub mod QueryItems
 pub mod QueryKnown
+pub mod NoSubqueries
