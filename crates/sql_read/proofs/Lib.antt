@@ -22,3 +22,4 @@ pub mod QueryRests
 pub mod QueryItems
 pub mod QueryKnown
 pub mod NoSubqueries
+pub mod PlanInsides

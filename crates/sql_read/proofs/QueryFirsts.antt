@@ -1,21 +1,19 @@
 -- References, aggregates and first parts of expressions by the grammar, the plan reads.
-use Rattle.std.proofs.Common.{◌≡◌, ℕ, Bool, true, false, List, [], ◌∷◌, ◌++◌, length, ◌⊎◌, inl, inr, refl, sym, ◌∙◌, ap, subst, append_assoc, Option, Some, None}
+use Rattle.std.proofs.Common.{◌≡◌, ℕ, List, [], ◌++◌, length, ◌⊎◌, inl, inr, refl, sym, ◌∙◌, ap, subst, append_assoc, Option, Some, None}
 use Rattle.std.proofs.lemmas.List.{append-nil}
-use Rattle.grammar.specs.Language.{Language, Includes}
-use Rattle.grammar.specs.Form.{Form, Room, empty, token, seq, alt, star, nest, map, only, nonempty, counted, fork, ref}
-use Rattle.grammar.specs.Productions.{skip_then, then_skip, optional}
-use Rattle.grammar.proofs.Alike.{Alike, alt_seq, map_alt, map_map, same_values, applied}
+use Rattle.grammar.specs.Form.{Room, empty, seq, alt, map, only, ref}
+use Rattle.grammar.specs.Productions.{optional}
+use Rattle.grammar.proofs.Alike.{alt_seq, map_alt, applied}
 use Rattle.sql_lex.specs.Lexemes.{Lexeme}
 use Rattle.sql_model.specs.declared.tree.Expr.{Expr}
-use Rattle.sql_model.specs.declared.tree.Query.{Query}
 use Rattle.sql_read.specs.Kinds as k
 use Rattle.sql_read.specs.Kinds.{Kind, kind_of, same, among}
 use Rattle.sql_read.specs.Numbering.{Built, plain}
 use Rattle.sql_read.specs.QueryTrees as t
 use Rattle.sql_read.specs.QueryTrees.{Left, Enclosed, Inside, not_sub}
-use Rattle.sql_read.specs.QueryGrammar.{Production, Read, The, a, one_of, name, name_kinds, called_word, aggregate_word, in_parentheses, parens, listed, insides, subquery, call, rules, query, expr, reference, primary, agg, inner}
-use Rattle.sql_read.proofs.QueryPlan.{plan, sort, literal, dot_name, arguments, one_argument, other_aggregate, count_arguments, word_with, words, column_of, named_first, enclosed_first}
-use Rattle.sql_read.proofs.QueryInside.{P, fl, opens, closes, deeper, deeper_there, deeper_back, deeper_spells, deeper_front, sorted}
+use Rattle.sql_read.specs.QueryGrammar.{The, a, name, called_word, aggregate_word, parens, listed, subquery, call, rules, expr, reference, primary, agg, inner}
+use Rattle.sql_read.proofs.QueryPlan.{plan, sort, literal, dot_name, one_argument, other_aggregate, count_arguments, column_of, named_first, enclosed_first}
+use Rattle.sql_read.proofs.QueryInside.{P, fl, opens, closes, deeper_there, deeper_back, deeper_spells, deeper_front, sorted}
 use Rattle.sql_read.proofs.QueryInsides.{insides_included, query_sorted, query_front}
 use Rattle.sql_read.proofs.QueryWords.{Below, of_alike, to_alike, through, itself, below_map, below_seq, below_alt, below_nest, either, at_first, at_second, aggregate_parts, with_dot, any_named, any_called, any_count, any_aggregate}
 
@@ -29,9 +27,12 @@ pub parens_map : {A B : Type 0} (h : A → B) (f : The A) → Below (map h (pare
 parens_map {A = A} {B = B} h f = record { holds = λ room. record { spells = spells room; front = front room } }
   where
     spells : (room : Room) (ts : List Lexeme) (v : B) → (fl room (map h (parens f))).spells ts v → (fl room (parens (map h f))).spells ts v
-    spells room ts v (u, (p, s, i), j) =
-        ((p.0, h p.1), (deeper_back (map h f) room).spells ts (p.0, h p.1)
-        (deeper_spells (λ r. fl r f) (λ r. fl r (map h f)) room ts p (h p.1) (λ r z w. (p.1, w, refl)) ((deeper_there f room).spells ts p s)), j ∙ ap h i)
+    spells room ts v (u, (p, s, i), j) = (
+      (p.0, h p.1),
+      (deeper_back (map h f) room).spells ts (p.0, h p.1)
+          (deeper_spells (λ r. fl r f) (λ r. fl r (map h f)) room ts p (h p.1) (λ r z w. (p.1, w, refl)) ((deeper_there f room).spells ts p s)),
+      j ∙ ap h i,
+    )
 
     front : (room : Room) (ts : List Lexeme) → (fl room (map h (parens f))).front ts → (fl room (parens (map h f))).front ts
     front room ts s =
@@ -49,9 +50,17 @@ abbrev dotted : The Expr
 dotted = map (λ p. column_or p.0 p.1) (seq name dot_name)
 
 reference_spells : (room : Room) (ts : List Lexeme) (v : Expr) → (fl room (rules reference)).spells ts v → (fl room dotted).spells ts v
-reference_spells room ts v (u, (x, y, e, inl (w, (p, (x1, y1, e1, n, d), j), l), m), i) =
-    ((w, Some u.1), (x1, y1 ++ y, e ∙ (ap (λ z. z ++ y) e1 ∙ append_assoc x1 y1 y), subst (λ z. (fl room name).spells x1 z) (sym j) n,
-    inl (u.1, ((p.1, u.1), (y1, y, refl, d, m), refl), refl)), i ∙ ap (λ o. t.column (o, u.1)) l)
+reference_spells room ts v (u, (x, y, e, inl (w, (p, (x1, y1, e1, n, d), j), l), m), i) = (
+  (w, Some u.1),
+  (
+    x1,
+    y1 ++ y,
+    e ∙ (ap (λ z. z ++ y) e1 ∙ append_assoc x1 y1 y),
+    subst (λ z. (fl room name).spells x1 z) (sym j) n,
+    inl (u.1, ((p.1, u.1), (y1, y, refl, d, m), refl), refl),
+  ),
+  i ∙ ap (λ o. t.column (o, u.1)) l,
+)
 reference_spells room ts v (u, (x, y, e, inr (w, n, l), m), i) =
     ((u.1, None), (y, [], e ∙ (ap (λ z. z ++ y) n ∙ sym (append-nil y)), m, inr (tt, refl, refl)), i ∙ ap (λ o. t.column (o, u.1)) l)
 
@@ -152,9 +161,12 @@ expr_first : Below (parens (only not_sub (ref expr))) enclosed_first
 expr_first = record { holds = λ room. record { spells = spells room; front = front room } }
   where
     spells : (room : Room) (ts : List Lexeme) (v : Built Expr) → (fl room (parens (only not_sub (ref expr)))).spells ts v → (fl room enclosed_first).spells ts v
-    spells room ts v (p, s, i) =
-        ((p.0, inr (inr (p.1, tt))), (deeper_back (ref inner) room).spells ts (p.0, inr (inr (p.1, tt)))
-        (deeper_spells (λ r. fl r (only not_sub (ref expr))) (λ r. P r inner) room ts p (inr (inr (p.1, tt))) (λ r z w. expr_inner r z p.1 w) ((deeper_there (only not_sub (ref expr)) room).spells ts p s)), i)
+    spells room ts v (p, s, i) = (
+      (p.0, inr (inr (p.1, tt))),
+      (deeper_back (ref inner) room).spells ts (p.0, inr (inr (p.1, tt)))
+          (deeper_spells (λ r. fl r (only not_sub (ref expr))) (λ r. P r inner) room ts p (inr (inr (p.1, tt))) (λ r z w. expr_inner r z p.1 w) ((deeper_there (only not_sub (ref expr)) room).spells ts p s)),
+      i,
+    )
 
     front : (room : Room) (ts : List Lexeme) → (fl room (parens (only not_sub (ref expr)))).front ts → (fl room enclosed_first).front ts
     front room ts s =

@@ -1,34 +1,29 @@
 -- The items of a query by the grammar, the plan reads.
-use Rattle.std.proofs.Common.{◌≡◌, ℕ, Bool, true, false, List, [], ◌∷◌, ◌++◌, length, ◌⊎◌, inl, inr, refl, sym, ◌∙◌, ap, subst, append_assoc, Option, Some, None}
+use Rattle.std.proofs.Common.{◌≡◌, List, [], ◌++◌, length, ◌⊎◌, inl, inr, refl, sym, ◌∙◌, ap, subst, append_assoc, Option, Some, None}
 use Rattle.std.proofs.lemmas.List.{append-nil}
-use Rattle.grammar.specs.Language.{Language, Includes}
-use Rattle.grammar.specs.Form.{Form, Room, empty, token, seq, alt, star, nest, map, only, nonempty, counted, fork, ref}
-use Rattle.grammar.specs.Productions.{skip_then, then_skip, optional}
-use Rattle.grammar.proofs.Alike as alike
-use Rattle.grammar.proofs.Alike.{Alike, alt_seq, seq_alt, map_alt, map_map, applied}
+use Rattle.grammar.specs.Form.{Room, empty, seq, alt, map, counted, fork, ref}
+use Rattle.grammar.specs.Productions.{then_skip, optional}
+use Rattle.grammar.proofs.Alike.{alt_seq, map_alt}
 use Rattle.sql_lex.specs.Lexemes.{Lexeme}
 use Rattle.sql_model.specs.declared.tree.Expr.{Expr}
 use Rattle.sql_model.specs.declared.tree.Item.{Item}
 use Rattle.sql_read.specs.Kinds as k
 use Rattle.sql_read.specs.Kinds.{Kind, kind_of}
-use Rattle.sql_read.specs.Numbering.{Built, plain}
+use Rattle.sql_read.specs.Numbering.{Built}
 use Rattle.sql_read.specs.QueryTrees as t
 use Rattle.sql_read.specs.QueryTrees.{Left}
-use Rattle.sql_read.specs.QueryGrammar.{Production, Read, The, a, name, called_word, alias, minus, parens, rules, item, expr, expr_tail, unary, primary}
+use Rattle.sql_read.specs.QueryGrammar.{The, a, name, called_word, alias, minus, parens, rules, item, expr, expr_tail}
 use Rattle.sql_read.proofs.QueryPlan.{plan, literal, dot_name, dot_star_or_name, arguments, one_argument, other_aggregate, count_arguments, word_with, words, column_of, named_first, enclosed_first, going_on, going_on_by_and, star_or_column, star_or_left, Starred}
-use Rattle.sql_read.proofs.QueryInside.{P, fl, opens, closes}
-use Rattle.sql_read.proofs.QueryInsides.{kept, bare_first, expr_parts, counted_as}
-use Rattle.sql_read.proofs.QueryWords.{Below, of_alike, to_alike, through, itself, below_map, below_seq, below_alt, either, at_first, at_second, with_dot, any_named}
+use Rattle.sql_read.proofs.QueryInside.{P, fl}
+use Rattle.sql_read.proofs.QueryInsides.{expr_parts}
+use Rattle.sql_read.proofs.QueryWords.{Below, of_alike, through, itself, below_map, below_seq, below_alt, either, at_first, at_second, with_dot, any_named}
 
 -- ---- names that may be followed by a point and a star
 
 abbrev starred_words : The Starred
 starred_words = words dot_star_or_name star_or_column (λ x. inr x)
 
--- what follows a name may be followed there too
-dot_below : Below (map (λ o. o) dot_name) (map (λ o. o) dot_name)
-dot_below = itself (map (λ o. o) dot_name)
-
+-- what follows a name may follow it there too
 abbrev as_star : Option Lexeme → Option (Lexeme ⊎ Lexeme)
 as_star None = None
 as_star (Some word) = Some (inr word)
@@ -56,9 +51,11 @@ word_starred : (word : The Lexeme) (args : The (Lexeme → Built Expr)) → Belo
 word_starred word args = record { holds = λ room. record { spells = spells room; front = front room } }
   where
     spells : (room : Room) (ts : List Lexeme) (v : Starred) → (fl room (map right_of (word_with word args dot_name column_of (λ x. x)))).spells ts v → (fl room (word_with word args dot_star_or_name star_or_column right_of)).spells ts v
-    spells room ts v (z, (u, (x, y, e, w, inl (o, d, l)), j), i) =
-        ((u.0, (λ q. star_or_column q (as_star o))), (x, y, e, w, inl (as_star o, dot_spells room y o d, refl)),
-        i ∙ (ap right_of (j ∙ ap (λ g. g u.0) l) ∙ sym (same_column u.0 o)))
+    spells room ts v (z, (u, (x, y, e, w, inl (o, d, l)), j), i) = (
+      (u.0, (λ q. star_or_column q (as_star o))),
+      (x, y, e, w, inl (as_star o, dot_spells room y o d, refl)),
+      i ∙ (ap right_of (j ∙ ap (λ g. g u.0) l) ∙ sym (same_column u.0 o)),
+    )
     spells room ts v (z, (u, (x, y, e, w, inr (g, r, l)), j), i) =
         ((u.0, (λ q. right_of (g q))), (x, y, e, w, inr (g, r, refl)), i ∙ ap right_of (j ∙ ap (λ f. f u.0) l))
 
@@ -117,9 +114,14 @@ star_planned = record { holds = λ room. record { spells = spells room; front = 
         ((w, Some (inl p.1)), (x, y, refl, n, inl (inl p.1, ((p.0, inl p.1), (x1, y1, e1, d, inl (p.1, s, refl)), refl), refl)), refl)
 
     spells : (room : Room) (ts : List Lexeme) (v : Built Item) → (fl room (map t.alias_star_item name_and_star)).spells ts v → (fl room by_name).spells ts v
-    spells room ts v (w, (p, (x, y, e, n, s), j), i) =
-        (ts, [], inl p.0, sym (append-nil ts), ((inl p.0, length ts), (subst (λ z. (fl room starred_words).spells z (inl p.0)) (sym e) (first_star room x y p.0 p.1 n s), refl), refl),
-        ((λ qual. t.alias_star_item qual), (tt, refl, refl), i ∙ ap t.alias_star_item j))
+    spells room ts v (w, (p, (x, y, e, n, s), j), i) = (
+      ts,
+      [],
+      inl p.0,
+      sym (append-nil ts),
+      ((inl p.0, length ts), (subst (λ z. (fl room starred_words).spells z (inl p.0)) (sym e) (first_star room x y p.0 p.1 n s), refl), refl),
+      ((λ qual. t.alias_star_item qual), (tt, refl, refl), i ∙ ap t.alias_star_item j),
+    )
 
     front : (room : Room) (ts : List Lexeme) → (fl room (seq name (seq (a k.Dot) (a k.Star)))).front ts → (fl room by_name).front ts
     front room ts s = inl (((any_named dot_star_or_name star_or_column right_of).holds room).front ts (dotted ts s))
@@ -140,9 +142,14 @@ named_planned = record { holds = λ room. record { spells = spells room; front =
     first_left room x left (s, n) = ((inr left.0, left.1), ((named_starred.holds room).spells x (inr left.0) (left.0, s, refl), n), refl)
 
     spells : (room : Room) (ts : List Lexeme) (v : Built Item) → (fl room (with_alias (going_on named_first))).spells ts v → (fl room by_name).spells ts v
-    spells room ts v (p, (x, y, e, (u, (x1, y1, e1, s, r), j), o), i) =
-        (x1, y1 ++ y, inr u.0, e ∙ (ap (λ z. z ++ y) e1 ∙ append_assoc x1 y1 y), first_left room x1 u.0 s,
-        ((λ left. t.value_item (u.1 left) p.1), ((u.1, p.1), (y1, y, refl, r, o), refl), i ∙ ap (λ z. t.value_item z p.1) j))
+    spells room ts v (p, (x, y, e, (u, (x1, y1, e1, s, r), j), o), i) = (
+      x1,
+      y1 ++ y,
+      inr u.0,
+      e ∙ (ap (λ z. z ++ y) e1 ∙ append_assoc x1 y1 y),
+      first_left room x1 u.0 s,
+      ((λ left. t.value_item (u.1 left) p.1), ((u.1, p.1), (y1, y, refl, r, o), refl), i ∙ ap (λ z. t.value_item z p.1) j),
+    )
 
     front : (room : Room) (ts : List Lexeme) → (fl room (seq (going_on named_first) (optional alias))).front ts → (fl room by_name).front ts
     front room ts (inl (inl s)) = inl ((named_starred.holds room).front ts s)
@@ -195,11 +202,11 @@ expr_by_first =
     through (of_alike expr_parts)
     (either (at_second (going_on named_first) (at_second (going_on other_firsts) (itself going_on_by_and)))
     (either
-        (through (go_on_either minus (alt literal named_first))
-        (either (at_second (going_on named_first) (at_first going_on_by_and (go_on_below (at_first (alt literal enclosed_first) (itself minus)))))
-        (through (go_on_either literal named_first)
-        (either (at_second (going_on named_first) (at_first going_on_by_and (go_on_below (at_second minus (at_first enclosed_first (itself literal))))))
-        (at_first by_others (itself (going_on named_first)))))))
+    (through (go_on_either minus (alt literal named_first))
+    (either (at_second (going_on named_first) (at_first going_on_by_and (go_on_below (at_first (alt literal enclosed_first) (itself minus)))))
+    (through (go_on_either literal named_first)
+    (either (at_second (going_on named_first) (at_first going_on_by_and (go_on_below (at_second minus (at_first enclosed_first (itself literal))))))
+    (at_first by_others (itself (going_on named_first)))))))
     (at_second (going_on named_first) (at_first going_on_by_and (go_on_below (at_second minus (at_second literal (itself enclosed_first))))))))
 
 value_planned : Below (with_alias (ref expr)) (alt by_name others)

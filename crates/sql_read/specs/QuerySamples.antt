@@ -1,6 +1,5 @@
 -- Queries as texts of tokens with one blank between them, and the trees that they spell, computed.
 use Rattle.std.specs.Prelude.{ℕ, ◌≡◌, ◌+◌, ◌==◌, Bool, if◌then◌else◌, List, [], ◌∷◌, ◌++◌, map, codes, length, true, false, refl, Option, Some, None}
-use Rattle.grammar.specs.Form.{Room}
 use Rattle.grammar.specs.Parses.{name_parses, whole_values}
 use Rattle.sql_model.specs.declared.tree.Query.{Query}
 use Rattle.sql_model.specs.declared.tree.Expr.{Expr}
@@ -18,7 +17,7 @@ use Rattle.sql_lex.specs.declared.token.TokenKind.TheVariants as token
 use Rattle.sql_lex.specs.Bytes.{begins_word, is_digit, quote, double_quote}
 use Rattle.sql_lex.specs.Lexemes.{Lexeme}
 use Rattle.sql_read.specs.Kinds.{kind_of}
-use Rattle.sql_read.specs.Numbering.{Built, Numbers, first_numbers}
+use Rattle.sql_read.specs.Numbering.{first_numbers}
 use Rattle.sql_read.specs.QueryGrammar.{rules}
 use Rattle.sql_read.specs.QueryGrammar as g
 
@@ -222,9 +221,9 @@ calls = refl
 
 pub chains : expressions (codes "NOT a = b OR a = c AND EXISTS ( SELECT * FROM r ) OR r . a = 1") ≡
     expr.Or (
-        expr.Not (expr.Eq (a 4) (b 8) 4) 0
-        ∷ expr.And (expr.Eq (a 13) (c 17) 13 ∷ expr.Exists (all_of (codes "r") 39 46) 23 ∷ []) 13
-        ∷ expr.Eq (expr.Col (Some (codes "r")) 53 (codes "a") 57) (expr.Lit 0 61) 53 ∷ []) 0 ∷ []
+    expr.Not (expr.Eq (a 4) (b 8) 4) 0
+    ∷ expr.And (expr.Eq (a 13) (c 17) 13 ∷ expr.Exists (all_of (codes "r") 39 46) 23 ∷ []) 13
+    ∷ expr.Eq (expr.Col (Some (codes "r")) 53 (codes "a") 57) (expr.Lit 0 61) 53 ∷ []) 0 ∷ []
 unfolding everything
 chains = refl
 
@@ -266,27 +265,27 @@ one_level_after_the_other_within = refl
 
 pub set_operators : queries (codes "SELECT * FROM r UNION ALL SELECT * FROM s INTERSECT SELECT * FROM r EXCEPT ( SELECT * FROM s )") ≡
     query.Set Except (query.Set UnionAll (all_of (codes "r") 7 14)
-        (query.Set Intersect (all_of (codes "s") 33 40) (all_of (codes "r") 59 66) 42) 16) (all_of (codes "s") 84 91) 68 ∷ []
+    (query.Set Intersect (all_of (codes "s") 33 40) (all_of (codes "r") 59 66) 42) 16) (all_of (codes "s") 84 91) 68 ∷ []
 unfolding everything
 set_operators = refl
 
 pub whole_block : queries (codes "SELECT DISTINCT a AS x , r . * , b y FROM r , s z JOIN t ON a = b CROSS JOIN u WHERE a = 1 GROUP BY a , r . b HAVING c = 1") ≡
     block true
-        (item.Value (a 16) (Some (codes "x")) ∷ item.AliasStar (codes "r") 25 ∷ item.Value (b 33) (Some (codes "y")) ∷ [])
-        (table (codes "r") 42 ∷ entry (codes "s") 46 (codes "z") 48 false None
-        ∷ entry (codes "t") 55 (codes "t") 55 true (Some (expr.Eq (a 60) (b 64) 60))
-        ∷ entry (codes "u") 77 (codes "u") 77 true None ∷ [])
-        (Some (expr.Eq (a 85) (expr.Lit 0 89) 85))
-        (Some (a 100 ∷ expr.Col (Some (codes "r")) 104 (codes "b") 108 ∷ []))
-        (Some (expr.Eq (c 117) (expr.Lit 0 121) 117)) ∷ []
+    (item.Value (a 16) (Some (codes "x")) ∷ item.AliasStar (codes "r") 25 ∷ item.Value (b 33) (Some (codes "y")) ∷ [])
+    (table (codes "r") 42 ∷ entry (codes "s") 46 (codes "z") 48 false None
+    ∷ entry (codes "t") 55 (codes "t") 55 true (Some (expr.Eq (a 60) (b 64) 60))
+    ∷ entry (codes "u") 77 (codes "u") 77 true None ∷ [])
+    (Some (expr.Eq (a 85) (expr.Lit 0 89) 85))
+    (Some (a 100 ∷ expr.Col (Some (codes "r")) 104 (codes "b") 108 ∷ []))
+    (Some (expr.Eq (c 117) (expr.Lit 0 121) 117)) ∷ []
 unfolding everything
 whole_block = refl
 
 pub derived_table : queries (codes "SELECT * FROM ( SELECT * FROM r ) AS d INNER JOIN s ON d . a = b") ≡
     block false (item.Star 7 ∷ [])
-        (roll-Entry (record { source = source.Query (all_of (codes "r") 23 30); alias = codes "d"; at = 37; joined = false; on = None })
-        ∷ entry (codes "s") 50 (codes "s") 50 true (Some (expr.Eq (expr.Col (Some (codes "d")) 55 (codes "a") 59) (b 63) 55)) ∷ [])
-        None None None ∷ []
+    (roll-Entry (record { source = source.Query (all_of (codes "r") 23 30); alias = codes "d"; at = 37; joined = false; on = None })
+    ∷ entry (codes "s") 50 (codes "s") 50 true (Some (expr.Eq (expr.Col (Some (codes "d")) 55 (codes "a") 59) (b 63) 55)) ∷ [])
+    None None None ∷ []
 unfolding everything
 derived_table = refl
 

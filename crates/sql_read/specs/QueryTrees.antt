@@ -161,8 +161,11 @@ tested left (Some rest) = rest left
 -- an expression, from its first part of this many tokens and what follows it: `* /`, `+ - ||`, a test, AND and OR
 abbrev pub continued : (List (Lexeme × Built Expr) × List (Lexeme × Built Expr)) × ℕ → Option (Left → Built Expr) → List (Built Expr) → List (Built Expr) → Left → Built Expr
 continued operators rest ands ors first =
-    chained or_node (chained and_node
-        (tested (operated (operated first.0 operators.0.0) operators.0.1, first.1 + operators.1) rest, ands), ors)
+    chained or_node (
+      chained and_node
+          (tested (operated (operated first.0 operators.0.0) operators.0.1, first.1 + operators.1) rest, ands),
+      ors,
+    )
 
 -- the same, from a part of AND
 abbrev pub joined : List (Built Expr) → List (Built Expr) → Built Expr → Built Expr
