@@ -23,3 +23,4 @@ pub mod QueryItems
 pub mod QueryKnown
 pub mod NoSubqueries
 pub mod PlanInsides
+pub mod PlanWords
