@@ -1,17 +1,18 @@
 -- What the plan reads of a name, and what it reads behind a word, stands so in the grammar.
 use Rattle.std.proofs.Common.{◌≡◌, List, [], ◌++◌, inl, inr, refl, sym, ◌∙◌, ap, subst, append_assoc, Option, Some, None}
 use Rattle.std.proofs.lemmas.List.{append-nil}
-use Rattle.grammar.specs.Form.{Room, seq, map}
-use Rattle.grammar.specs.Productions.{then_skip}
+use Rattle.grammar.specs.Form.{Room, seq, alt, map, ref}
+use Rattle.grammar.specs.Productions.{then_skip, optional}
 use Rattle.grammar.proofs.Alike as alike
 use Rattle.grammar.proofs.Alike.{Alike}
 use Rattle.sql_lex.specs.Lexemes.{Lexeme}
 use Rattle.sql_model.specs.declared.tree.Expr.{Expr}
 use Rattle.sql_read.specs.Kinds as k
 use Rattle.sql_read.specs.Kinds.{kind_of}
+use Rattle.sql_read.specs.Numbering.{Built}
 use Rattle.sql_read.specs.QueryTrees as t
-use Rattle.sql_read.specs.QueryGrammar.{The, a, name, in_parentheses, parens, rules, reference}
-use Rattle.sql_read.proofs.QueryPlan.{dot_name}
+use Rattle.sql_read.specs.QueryGrammar.{The, a, name, called_word, in_parentheses, parens, listed, call, rules, reference, expr}
+use Rattle.sql_read.proofs.QueryPlan.{dot_name, arguments, one_argument, count_arguments}
 use Rattle.sql_read.proofs.PlanInsides.{G, gl}
 
 abbrev Same : {A : Type 0} → The A → The A → Type 0
@@ -59,3 +60,57 @@ dotted_front room ts (inr (x, y, w, e, n, inl (inl d))) = inl (inl (inr (x, y, w
 dotted_front room ts (inr (x, y, w, e, n, inl (inr (x1, y1, c, e1, d, m)))) =
     inr (x ++ x1, y1, Some w, e ∙ (ap (λ z. x ++ z) e1 ∙ sym (append_assoc x x1 y1)), inl (w, ((w, c), (x, x1, refl, n, d), refl), refl), m)
 dotted_front room ts (inr (x, y, w, e, (i, q), inr d)) = inl (inl (inl (inr (w, e ∙ (ap (λ z. x ++ z) d ∙ (append-nil x ∙ i)), q))))
+
+-- ---- arguments
+
+-- either of two in parentheses
+parens_alt : {A : Type 0} (f g : The A) → Same (parens (alt f g)) (alt (parens f) (parens g))
+parens_alt {A = A} f g =
+    alike.chain kind_of G (alike.alike_map kind_of G _ _ (alike.alike_nest kind_of G _ _ (alike.alike_second kind_of G _ _ closed_alt (a k.Open))) second)
+    (alike.chain kind_of G (alike.alike_map kind_of G _ _ (alike.alike_nest kind_of G _ _ (alike.seq_alt kind_of G (then_skip f (a k.Close)) (then_skip g (a k.Close)) (a k.Open))) second)
+    (alike.chain kind_of G (alike.alike_map kind_of G _ _ (alike.nest_alt kind_of G (seq (a k.Open) (then_skip f (a k.Close))) (seq (a k.Open) (then_skip g (a k.Close)))) second)
+    (alike.map_alt kind_of G second (in_parentheses f) (in_parentheses g))))
+  where
+    second : Lexeme × A → A
+    second p = p.1
+
+    closed_alt : Same (then_skip (alt f g) (a k.Close)) (alt (then_skip f (a k.Close)) (then_skip g (a k.Close)))
+    closed_alt =
+        alike.chain kind_of G (alike.alike_map kind_of G _ _ (alike.alt_seq kind_of G f g (a k.Close)) (λ p. p.0))
+        (alike.map_alt kind_of G (λ p. p.0) (seq f (a k.Close)) (seq g (a k.Close)))
+
+abbrev applied_to : Lexeme × (Lexeme → Built Expr) → Built Expr
+applied_to p = p.1 p.0
+
+abbrev distinct_argument : The (Option Lexeme × Built Expr)
+distinct_argument = seq (optional (a k.Distinct)) (ref expr)
+
+abbrev aggregate_of : Lexeme × (Option Lexeme × Built Expr) → Built Expr
+aggregate_of p = t.aggregated p.0 p.1.0 p.1.1
+
+abbrev to_argument : Option Lexeme × Built Expr → Lexeme → Built Expr
+to_argument p word = t.aggregated word p.0 p.1
+
+after_word : (word : The Lexeme) → Same (map applied_to (seq word (parens one_argument))) (map aggregate_of (seq word (parens distinct_argument)))
+after_word word =
+    alike.chain kind_of G (alike.alike_map kind_of G _ _ (alike.alike_second kind_of G _ _ (parens_map to_argument distinct_argument) word) applied_to)
+    (alike.applied kind_of G to_argument word (parens distinct_argument))
+
+abbrev row_count : Lexeme → Lexeme → Built Expr
+row_count sign word = t.count_rows word
+
+-- COUNT with its arguments
+count_parts : Same (map applied_to (seq (a k.Count) count_arguments))
+    (alt (map (λ p. t.count_rows p.0) (seq (a k.Count) (parens (a k.Star)))) (map aggregate_of (seq (a k.Count) (parens distinct_argument))))
+count_parts =
+    alike.chain kind_of G (alike.alike_map kind_of G _ _ (alike.alike_second kind_of G _ _ (parens_alt (map row_count (a k.Star)) one_argument) (a k.Count)) applied_to)
+    (alike.chain kind_of G (alike.alike_map kind_of G _ _ (alike.seq_alt kind_of G (parens (map row_count (a k.Star))) (parens one_argument) (a k.Count)) applied_to)
+    (alike.chain kind_of G (alike.map_alt kind_of G applied_to (seq (a k.Count) (parens (map row_count (a k.Star)))) (seq (a k.Count) (parens one_argument)))
+    (alike.alike_alt kind_of G _ _ _ _
+        (alike.chain kind_of G (alike.alike_map kind_of G _ _ (alike.alike_second kind_of G _ _ (parens_map row_count (a k.Star)) (a k.Count)) applied_to)
+        (alike.applied kind_of G row_count (a k.Count) (parens (a k.Star))))
+        (after_word (a k.Count)))))
+
+-- ( .. ) behind a word that is not an aggregate's name
+pub call_part : Same (map applied_to (seq called_word arguments)) call
+call_part = alike.applied kind_of G (λ args word. t.call word args) called_word (parens (optional (listed (ref expr))))
