@@ -1,5 +1,5 @@
 -- A test that each kind of the list passes, every kind passes.
-use Rattle.std.proofs.Common.{◌≡◌, ℕ, zero, suc, Bool, true, ◌&&◌, List, [], ◌∷◌, refl}
+use Rattle.std.proofs.Common.{◌≡◌, ℕ, zero, suc, Bool, true, List, [], ◌∷◌, refl}
 use Rattle.std.specs.List.{list_all}
 use Rattle.grammar.specs.Lookahead.{AreAll}
 use Rattle.grammar.proofs.Sets.{and_left, and_right}

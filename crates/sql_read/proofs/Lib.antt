@@ -23,3 +23,6 @@ pub mod QueryFirsts
 pub mod QueryRests
 pub mod QueryItems
 pub mod QueryKnown
+pub mod NoSubqueries
+pub mod PlanInsides
+pub mod PlanWords

@@ -1,21 +1,19 @@
 -- References, aggregates and first parts of expressions by the grammar, the plan reads.
-use Rattle.std.proofs.Common.{◌≡◌, ℕ, Bool, true, false, List, [], ◌∷◌, ◌++◌, length, ◌⊎◌, inl, inr, refl, sym, ◌∙◌, ap, subst, append_assoc, Option, Some, None}
+use Rattle.std.proofs.Common.{◌≡◌, ℕ, List, [], ◌++◌, length, ◌⊎◌, inl, inr, refl, sym, ◌∙◌, ap, subst, append_assoc, Option, Some, None}
 use Rattle.std.proofs.lemmas.List.{append-nil}
-use Rattle.grammar.specs.Language.{Language, Includes}
-use Rattle.grammar.specs.Form.{Form, Room, empty, token, seq, alt, star, nest, map, only, nonempty, counted, fork, ref}
-use Rattle.grammar.specs.Productions.{skip_then, then_skip, optional}
-use Rattle.grammar.proofs.Alike.{Alike, alt_seq, map_alt, map_map, same_values, applied}
+use Rattle.grammar.specs.Form.{Room, empty, seq, alt, map, only, ref}
+use Rattle.grammar.specs.Productions.{optional}
+use Rattle.grammar.proofs.Alike.{alt_seq, map_alt, applied}
 use Rattle.sql_lex.specs.Lexemes.{Lexeme}
 use Rattle.sql_model.specs.declared.tree.Expr.{Expr}
-use Rattle.sql_model.specs.declared.tree.Query.{Query}
 use Rattle.sql_read.specs.Kinds as k
 use Rattle.sql_read.specs.Kinds.{Kind, kind_of, same, among}
 use Rattle.sql_read.specs.Numbering.{Built, plain}
 use Rattle.sql_read.specs.QueryTrees as t
 use Rattle.sql_read.specs.QueryTrees.{Left, Enclosed, Inside, not_sub}
-use Rattle.sql_read.specs.QueryGrammar.{Production, Read, The, a, one_of, name, name_kinds, called_word, aggregate_word, in_parentheses, parens, listed, insides, subquery, call, rules, query, expr, reference, primary, agg, inner}
-use Rattle.sql_read.proofs.QueryPlan.{plan, sort, literal, dot_name, arguments, one_argument, other_aggregate, count_arguments, word_with, words, column_of, named_first, enclosed_first}
-use Rattle.sql_read.proofs.QueryInside.{P, fl, opens, closes, deeper, deeper_there, deeper_back, deeper_spells, deeper_front, sorted}
+use Rattle.sql_read.specs.QueryGrammar.{The, a, name, called_word, aggregate_word, parens, listed, subquery, call, rules, expr, reference, primary, agg, inner}
+use Rattle.sql_read.proofs.QueryPlan.{plan, sort, literal, dot_name, one_argument, other_aggregate, count_arguments, column_of, named_first, enclosed_first}
+use Rattle.sql_read.proofs.QueryInside.{P, fl, opens, closes, deeper_there, deeper_back, deeper_spells, deeper_front, sorted}
 use Rattle.sql_read.proofs.QueryInsides.{insides_included, query_sorted, query_front}
 use Rattle.sql_read.proofs.QueryWords.{Below, of_alike, to_alike, through, itself, below_map, below_seq, below_alt, below_nest, either, at_first, at_second, aggregate_parts, with_dot, any_named, any_called, any_count, any_aggregate}
 

@@ -1,11 +1,9 @@
 -- What the plan reads of a query in parentheses.
-use Rattle.std.proofs.Common.{◌≡◌, ℕ, zero, suc, ◌≤◌, Bool, true, false, List, [], ◌∷◌, ◌++◌, length, ◌⊎◌, inl, inr, refl, sym, ◌∙◌, ap, subst, append_assoc, Option, Some, None, arith}
-use Rattle.grammar.specs.Language.{Language, Includes, HasFronts, seq_language, map_language, token_language, no_language}
-use Rattle.grammar.specs.Form.{Form, Room, empty, seq, alt, star, nest, map, only, nonempty, counted, fork, ref, form_language, language, language_within}
+use Rattle.std.proofs.Common.{◌≡◌, ℕ, zero, suc, List, [], ◌∷◌, ◌++◌, length, ◌⊎◌, inl, inr, refl, sym, ◌∙◌, ap, subst, append_assoc, Option, Some, None, arith}
+use Rattle.grammar.specs.Language.{Language, Includes, seq_language, map_language, token_language, no_language}
+use Rattle.grammar.specs.Form.{Room, star, map, counted, ref, form_language, language, language_within}
 use Rattle.grammar.proofs.Forms.{front_of_nil}
 use Rattle.grammar.proofs.Heights.{to_rule, from_rule, lifted, in_name, spelled_at, front_at, name_fronts}
-use Rattle.grammar.proofs.Alike.{Alike}
-use Rattle.grammar.proofs.Known.{Known}
 use Rattle.grammar.proofs.Predictions.{named}
 use Rattle.sql_lex.specs.Lexemes.{Lexeme}
 use Rattle.sql_model.specs.declared.tree.Query.{Query}
@@ -14,10 +12,9 @@ use Rattle.sql_read.specs.Kinds.{Kind, kind_of, same}
 use Rattle.sql_read.specs.Numbering.{Built}
 use Rattle.sql_read.specs.QueryTrees as t
 use Rattle.sql_read.specs.QueryTrees.{Left, Enclosed, Inside}
-use Rattle.sql_read.specs.QueryGrammar.{Production, Read, The, in_parentheses, parens, rules, next_intersect, next_union, next_product, next_sum, next_and, next_or, intersects, unions, query, part, operand, block, item, from, entry, reference, expr, conj, neg, test, rest, value, term, unary, primary, agg, set_tail, and_tail, expr_tail, inner, in_inner}
+use Rattle.sql_read.specs.QueryGrammar.{Production, Read, The, in_parentheses, rules, next_intersect, next_union, next_product, next_sum, next_and, next_or, intersects, unions, query, operand, block, set_tail, expr_tail, inner}
 use Rattle.sql_read.proofs.QueryPlan.{plan, sort}
 use Rattle.sql_read.proofs.QueryTable.{planned}
-use Rattle.sql_read.proofs.QuerySplits.{is_kept}
 
 abbrev pub P : Room → (p : Production) → Language Lexeme (Read p)
 P = language kind_of plan

@@ -1,22 +1,21 @@
 -- What may stand in parentheses by the grammar, the plan reads.
-use Rattle.std.proofs.Common.{◌≡◌, ℕ, zero, suc, Bool, true, false, List, [], ◌∷◌, ◌++◌, length, ◌⊎◌, inl, inr, refl, sym, ◌∙◌, ap, subst, append_assoc, Option, Some, None}
-use Rattle.grammar.specs.Language.{Language, Includes}
-use Rattle.grammar.specs.Form.{Form, Room, empty, seq, alt, star, nest, map, only, nonempty, counted, fork, ref}
+use Rattle.std.proofs.Common.{◌≡◌, ℕ, true, false, List, [], ◌∷◌, ◌++◌, length, inl, inr, refl, sym, ◌∙◌, ap, subst, append_assoc}
+use Rattle.grammar.specs.Language.{Includes}
+use Rattle.grammar.specs.Form.{Room, alt, fork, ref}
 use Rattle.grammar.proofs.Alike as alike
 use Rattle.grammar.proofs.Alike.{Alike, alt_alt}
 use Rattle.sql_lex.specs.Lexemes.{Lexeme}
 use Rattle.sql_model.specs.declared.tree.Expr.{Expr}
-use Rattle.sql_model.specs.declared.tree.Query.{Query}
 use Rattle.sql_model.specs.Compute.{everything}
 use Rattle.sql_read.specs.Kinds.{kind_of}
 use Rattle.sql_read.specs.Numbering.{Built}
 use Rattle.sql_read.specs.QueryTrees as t
 use Rattle.sql_read.specs.QueryTrees.{Left, Enclosed, Inside, not_sub}
-use Rattle.sql_read.specs.QueryGrammar.{Production, Read, The, in_parentheses, insides, longer_query, minus, rules, query, part, operand, block, item, from, entry, reference, expr, conj, neg, test, rest, value, term, unary, primary, agg, set_tail, and_tail, expr_tail, inner, in_inner}
+use Rattle.sql_read.specs.QueryGrammar.{Production, The, in_parentheses, insides, minus, rules, query, part, operand, block, item, from, entry, reference, expr, conj, neg, test, rest, value, term, unary, primary, agg, set_tail, and_tail, expr_tail, inner, in_inner}
 use Rattle.sql_read.proofs.QueryPlan.{plan, sort, after_query, after_expression, plan_of_insides, no_parenthesis, going_on, going_on_by_and, enclosed_first, literal, named_first}
 use Rattle.sql_read.proofs.QuerySplits.{is_kept}
 use Rattle.sql_read.proofs.QuerySplits as split
-use Rattle.sql_read.proofs.QueryInside.{P, fl, opens, closes, deeper_there, deeper_back, sorted, sorted_query, sorted_front, query_inside, query_front_inside, tail_identity}
+use Rattle.sql_read.proofs.QueryInside.{P, fl, opens, closes, deeper_there, sorted, sorted_query, sorted_front, query_inside, query_front_inside, tail_identity}
 
 own : (p : Production) → plan p ≡ rules p → Alike kind_of P (ref p) (rules p)
 own p e = record {

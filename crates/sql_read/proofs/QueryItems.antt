@@ -1,34 +1,29 @@
 -- The items of a query by the grammar, the plan reads.
-use Rattle.std.proofs.Common.{◌≡◌, ℕ, Bool, true, false, List, [], ◌∷◌, ◌++◌, length, ◌⊎◌, inl, inr, refl, sym, ◌∙◌, ap, subst, append_assoc, Option, Some, None}
+use Rattle.std.proofs.Common.{◌≡◌, List, [], ◌++◌, length, ◌⊎◌, inl, inr, refl, sym, ◌∙◌, ap, subst, append_assoc, Option, Some, None}
 use Rattle.std.proofs.lemmas.List.{append-nil}
-use Rattle.grammar.specs.Language.{Language, Includes}
-use Rattle.grammar.specs.Form.{Form, Room, empty, token, seq, alt, star, nest, map, only, nonempty, counted, fork, ref}
-use Rattle.grammar.specs.Productions.{skip_then, then_skip, optional}
-use Rattle.grammar.proofs.Alike as alike
-use Rattle.grammar.proofs.Alike.{Alike, alt_seq, seq_alt, map_alt, map_map, applied}
+use Rattle.grammar.specs.Form.{Room, empty, seq, alt, map, counted, fork, ref}
+use Rattle.grammar.specs.Productions.{then_skip, optional}
+use Rattle.grammar.proofs.Alike.{alt_seq, map_alt}
 use Rattle.sql_lex.specs.Lexemes.{Lexeme}
 use Rattle.sql_model.specs.declared.tree.Expr.{Expr}
 use Rattle.sql_model.specs.declared.tree.Item.{Item}
 use Rattle.sql_read.specs.Kinds as k
 use Rattle.sql_read.specs.Kinds.{Kind, kind_of}
-use Rattle.sql_read.specs.Numbering.{Built, plain}
+use Rattle.sql_read.specs.Numbering.{Built}
 use Rattle.sql_read.specs.QueryTrees as t
 use Rattle.sql_read.specs.QueryTrees.{Left}
-use Rattle.sql_read.specs.QueryGrammar.{Production, Read, The, a, name, called_word, alias, minus, parens, rules, item, expr, expr_tail, unary, primary}
+use Rattle.sql_read.specs.QueryGrammar.{The, a, name, called_word, alias, minus, parens, rules, item, expr, expr_tail}
 use Rattle.sql_read.proofs.QueryPlan.{plan, literal, dot_name, dot_star_or_name, arguments, one_argument, other_aggregate, count_arguments, word_with, words, column_of, named_first, enclosed_first, going_on, going_on_by_and, star_or_column, star_or_left, Starred}
-use Rattle.sql_read.proofs.QueryInside.{P, fl, opens, closes}
-use Rattle.sql_read.proofs.QueryInsides.{kept, bare_first, expr_parts, counted_as}
-use Rattle.sql_read.proofs.QueryWords.{Below, of_alike, to_alike, through, itself, below_map, below_seq, below_alt, either, at_first, at_second, with_dot, any_named}
+use Rattle.sql_read.proofs.QueryInside.{P, fl}
+use Rattle.sql_read.proofs.QueryInsides.{expr_parts}
+use Rattle.sql_read.proofs.QueryWords.{Below, of_alike, through, itself, below_map, below_seq, below_alt, either, at_first, at_second, with_dot, any_named}
 
 -- ---- names that may be followed by a point and a star
 
 abbrev starred_words : The Starred
 starred_words = words dot_star_or_name star_or_column (λ x. inr x)
 
--- what follows a name may be followed there too
-dot_below : Below (map (λ o. o) dot_name) (map (λ o. o) dot_name)
-dot_below = itself (map (λ o. o) dot_name)
-
+-- what follows a name may follow it there too
 abbrev as_star : Option Lexeme → Option (Lexeme ⊎ Lexeme)
 as_star None = None
 as_star (Some word) = Some (inr word)

@@ -1,6 +1,6 @@
 -- The grammar is included in the plan, so one token tells of it what the table says, and no list of tokens spells two queries.
-use Rattle.std.proofs.Common.{◌≡◌, List, ◌∙◌, sym, ap, Some, None}
-use Rattle.grammar.specs.Language.{Language, Includes}
+use Rattle.std.proofs.Common.{◌≡◌, List, ◌∙◌, sym, ap, None}
+use Rattle.grammar.specs.Language.{Includes}
 use Rattle.grammar.specs.Form.{Room, language}
 use Rattle.grammar.proofs.Forms.{includes_through}
 use Rattle.grammar.proofs.Heights.{name_fronts}
@@ -10,7 +10,7 @@ use Rattle.grammar.proofs.Predictions.{named}
 use Rattle.sql_lex.specs.Lexemes.{Lexeme}
 use Rattle.sql_model.specs.declared.tree.Query.{Query}
 use Rattle.sql_read.specs.Kinds.{kind_of}
-use Rattle.sql_read.specs.Numbering.{Built, Numbers}
+use Rattle.sql_read.specs.Numbering.{Numbers}
 use Rattle.sql_read.specs.Queries.{Spells}
 use Rattle.sql_read.specs.QueryGrammar.{Production, rules, query, part, operand, block, item, from, entry, reference, expr, conj, neg, test, rest, value, term, unary, primary, agg, set_tail, and_tail, expr_tail, inner, in_inner, commas}
 use Rattle.grammar.specs.Form.{empty}

@@ -1,17 +1,15 @@
 -- The grammar of queries once more, so that one token always tells how to go on: names of the same languages, with other productions.
-use Rattle.std.proofs.Common.{ℕ, List, [], ◌∷◌, Option, Some, None, ◌⊎◌, inl, inr}
-use Rattle.grammar.specs.Form.{Form, Rules, empty, seq, alt, star, nest, map, nonempty, counted, fork, ref}
-use Rattle.grammar.specs.Productions.{skip_then, then_skip, optional}
+use Rattle.std.proofs.Common.{ℕ, [], ◌∷◌, Option, Some, None, ◌⊎◌, inl, inr}
+use Rattle.grammar.specs.Form.{Rules, empty, seq, alt, map, nonempty, counted, fork, ref}
+use Rattle.grammar.specs.Productions.{skip_then, optional}
 use Rattle.sql_model.specs.declared.tree.Expr.{Expr}
 use Rattle.sql_model.specs.declared.tree.Item.{Item}
-use Rattle.sql_model.specs.declared.tree.Query.{Query}
 use Rattle.sql_lex.specs.Lexemes.{Lexeme}
 use Rattle.sql_read.specs.Kinds as k
 use Rattle.sql_read.specs.Kinds.{Kind}
 use Rattle.sql_read.specs.Numbering.{Built, plain}
 use Rattle.sql_read.specs.QueryTrees as t
 use Rattle.sql_read.specs.QueryTrees.{Left, Enclosed, Inside}
-use Rattle.sql_read.specs.QueryGrammar as g
 use Rattle.sql_read.specs.QueryGrammar.{Production, Read, The, a, one_of, name, called_word, in_parentheses, parens, listed, alias, not_neg, exists, minus, commas, comparison, rules, query, part, operand, block, item, from, entry, reference, expr, conj, neg, test, rest, value, term, unary, primary, agg, set_tail, and_tail, expr_tail, inner, in_inner}
 
 -- ---- first parts of expressions

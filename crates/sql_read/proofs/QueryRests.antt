@@ -1,12 +1,7 @@
 -- What tests a value by the grammar, the plan reads.
-use Rattle.std.proofs.Common.{◌≡◌, ℕ, zero, suc, Bool, true, false, List, [], ◌∷◌, ◌++◌, length, ◌⊎◌, inl, inr, refl, sym, ◌∙◌, ap, subst, append_assoc, Option, Some, None}
-use Rattle.std.proofs.lemmas.List.{append-nil}
-use Rattle.grammar.specs.Language.{Language, Includes}
-use Rattle.grammar.specs.Form.{Form, Room, empty, token, seq, alt, star, nest, map, only, nonempty, counted, fork, ref}
-use Rattle.grammar.specs.Productions.{skip_then, then_skip, optional}
-use Rattle.grammar.proofs.Forms.{front_of_nil}
-use Rattle.grammar.proofs.Heights.{of_form}
-use Rattle.grammar.proofs.Alike.{Alike}
+use Rattle.std.proofs.Common.{◌≡◌, zero, suc, true, List, [], ◌∷◌, ◌++◌, length, inl, inr, refl, sym, ◌∙◌, ap, subst, append_assoc, Option, Some, None}
+use Rattle.grammar.specs.Form.{Room, seq, alt, map, only, fork, ref}
+use Rattle.grammar.specs.Productions.{skip_then, optional}
 use Rattle.sql_lex.specs.Lexemes.{Lexeme}
 use Rattle.sql_model.specs.declared.tree.Expr.{Expr}
 use Rattle.sql_model.specs.declared.tree.Query.{Query}
@@ -15,12 +10,12 @@ use Rattle.sql_read.specs.Kinds.{Kind, kind_of}
 use Rattle.sql_read.specs.Numbering.{Built}
 use Rattle.sql_read.specs.QueryTrees as t
 use Rattle.sql_read.specs.QueryTrees.{Left, Enclosed, Inside, not_sub}
-use Rattle.sql_read.specs.QueryGrammar.{Production, Read, The, a, in_parentheses, parens, listed, commas, next_comma, insides, comparison, in_query, in_list, between, like, rules, query, operand, block, set_tail, expr, expr_tail, value, rest, inner, in_inner}
-use Rattle.sql_read.proofs.QueryPlan.{plan, sort, after_query, after_expression, plan_of_insides, no_parenthesis, going_on, going_on_by_and, enclosed_first, by_word}
+use Rattle.sql_read.specs.QueryGrammar.{The, a, in_parentheses, parens, listed, commas, next_comma, insides, comparison, rules, query, operand, set_tail, expr, expr_tail, value, rest, inner, in_inner}
+use Rattle.sql_read.proofs.QueryPlan.{plan, after_query, after_expression, plan_of_insides, going_on, going_on_by_and, enclosed_first, by_word}
 use Rattle.sql_read.proofs.QuerySplits as split
-use Rattle.sql_read.proofs.QueryInside.{P, fl, opens, closes, star_none, deeper, deeper_there, deeper_back, deeper_spells, deeper_front, sorted, sets_identity, tail_identity}
-use Rattle.sql_read.proofs.QueryInsides.{kept, bare_first, expr_parts, counted_as, sorted_of, tail_of_expression, more_of_expression, enclosed_tail, expr_spells, expr_front, insides_included}
-use Rattle.sql_read.proofs.QueryWords.{Below, through, itself, either, at_first, at_second}
+use Rattle.sql_read.proofs.QueryInside.{P, fl, opens, closes, star_none, deeper_there, deeper_back, deeper_front, sorted, sets_identity, tail_identity}
+use Rattle.sql_read.proofs.QueryInsides.{kept, bare_first, expr_parts, counted_as, sorted_of, tail_of_expression, more_of_expression, expr_spells, expr_front, insides_included}
+use Rattle.sql_read.proofs.QueryWords.{Below, itself, either, at_first, at_second}
 
 abbrev planned_list : The (Inside (List (Built Expr)))
 planned_list = plan_of_insides commas
@@ -107,9 +102,6 @@ data QueryRead (room : Room) (ts : List Lexeme) (q : Built Query) : Type 0 where
   wrapped : (o : Lexeme) → (fl room planned_list).spells ts (inr (inl ((o, q), []))) → QueryRead room ts q
 
 module _ (room : Room) where
-  abbrev grammar_list : The (Inside (List (Built Expr)))
-  grammar_list = insides commas
-
   included : (ts : List Lexeme) (v : Inside (List (Built Expr))) → (fl room (insides commas)).spells ts v → (fl room planned_list).spells ts v
   included = (insides_included commas room).spells
 

@@ -1,17 +1,16 @@
 -- Queries and expressions by their first parts, in any languages that have these productions.
-use Rattle.std.proofs.Common.{◌≡◌, Bool, true, false, List, [], ◌∷◌, ◌⊎◌, inl, inr, refl, Option, Some, None, ℕ, ◌+◌}
-use Rattle.grammar.specs.Language.{Language, HasFronts}
-use Rattle.grammar.specs.Form.{Form, Room, empty, seq, alt, star, nest, map, only, nonempty, counted, ref}
-use Rattle.grammar.specs.Productions.{skip_then, then_skip, optional}
-use Rattle.grammar.proofs.Alike as alike
-use Rattle.grammar.proofs.Alike.{Alike, chain, flip, flattened, applied, alike_itself, alike_map, alike_first, alike_second, alike_alt, alike_counted, map_map, map_alt, seq_map, seq_with_map, seq_seq, alt_seq, counted_seq, counted_map, counted_alt, alt_alt, regrouped, counted_both}
+use Rattle.std.proofs.Common.{◌≡◌, Bool, true, false, List, refl, Option, ℕ, ◌+◌}
+use Rattle.grammar.specs.Language.{Language}
+use Rattle.grammar.specs.Form.{Room, seq, alt, map, counted, ref}
+use Rattle.grammar.specs.Productions.{optional}
+use Rattle.grammar.proofs.Alike.{Alike, chain, flip, flattened, applied, alike_itself, alike_map, alike_first, alike_second, alike_alt, alike_counted, map_map, map_alt, seq_with_map, seq_seq, alt_seq, counted_seq, counted_map, counted_alt, alt_alt, regrouped, counted_both}
 use Rattle.sql_lex.specs.Lexemes.{Lexeme}
 use Rattle.sql_model.specs.declared.tree.Expr.{Expr}
-use Rattle.sql_read.specs.Kinds.{Kind, kind_of}
+use Rattle.sql_read.specs.Kinds.{kind_of}
 use Rattle.sql_read.specs.Numbering.{Built}
 use Rattle.sql_read.specs.QueryTrees as t
 use Rattle.sql_read.specs.QueryTrees.{Left, SetWord}
-use Rattle.sql_read.specs.QueryGrammar.{Production, Read, The, rules, intersects, unions, products, sums, ands, ors, not_neg, exists, minus, query, part, operand, block, item, from, entry, reference, expr, conj, neg, test, rest, value, term, unary, primary, agg, set_tail, and_tail, expr_tail, inner, in_inner}
+use Rattle.sql_read.specs.QueryGrammar.{Production, Read, The, rules, intersects, unions, products, sums, ands, ors, not_neg, exists, query, part, operand, item, reference, expr, conj, neg, test, rest, value, term, unary, primary, agg, set_tail, and_tail, expr_tail, inner, in_inner}
 use Rattle.sql_read.proofs.QueryPlan.{going_on, going_on_by_and}
 
 -- whether the plan has the grammar's own production of a name

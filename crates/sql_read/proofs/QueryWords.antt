@@ -1,24 +1,18 @@
 -- What begins with a name by the grammar, and first parts in parentheses, the plan reads.
-use Rattle.std.proofs.Common.{◌≡◌, ℕ, Bool, true, false, not, ◌||◌, List, [], ◌∷◌, ◌++◌, length, ◌⊎◌, inl, inr, refl, sym, ◌∙◌, ap, subst, append_assoc, Option, Some, None}
-use Rattle.std.proofs.lemmas.List.{append-nil}
-use Rattle.grammar.specs.Language.{Language, Includes}
-use Rattle.grammar.specs.Form.{Form, Room, empty, token, seq, alt, star, nest, map, only, nonempty, counted, fork, ref}
-use Rattle.grammar.specs.Productions.{skip_then, then_skip, optional}
+use Rattle.std.proofs.Common.{◌≡◌, Bool, true, false, not, ◌||◌, List, [], ◌∷◌, ◌⊎◌, inl, inr, refl}
+use Rattle.grammar.specs.Language.{Includes}
+use Rattle.grammar.specs.Form.{Room, token, seq, alt, nest, map}
 use Rattle.grammar.proofs.Sets.{implied}
-use Rattle.grammar.proofs.Alike.{Alike, Under, under_itself, under_through, under_map, under_seq, under_alt, under_nest, under_either, under_first, under_second, alt_seq, map_alt, map_map, same_values, applied}
+use Rattle.grammar.proofs.Alike.{Alike, under_itself, under_through, under_map, under_seq, under_alt, under_nest, under_either, under_first, under_second, alt_seq, map_alt, applied}
 use Rattle.sql_lex.specs.Lexemes.{Lexeme}
 use Rattle.sql_model.specs.declared.tree.Expr.{Expr}
-use Rattle.sql_model.specs.declared.tree.Query.{Query}
 use Rattle.sql_read.specs.Kinds as k
 use Rattle.sql_read.specs.Kinds.{Kind, kind_of, same, among}
-use Rattle.sql_read.specs.Numbering.{Built, plain}
-use Rattle.sql_read.specs.QueryTrees as t
-use Rattle.sql_read.specs.QueryTrees.{Left, Enclosed, Inside, not_sub}
-use Rattle.sql_read.specs.QueryGrammar.{Production, Read, The, a, one_of, name, name_kinds, called_word, aggregate_word, in_parentheses, parens, listed, insides, subquery, call, rules, query, expr, reference, primary, agg, inner}
+use Rattle.sql_read.specs.Numbering.{Built}
+use Rattle.sql_read.specs.QueryGrammar.{The, a, name, name_kinds, called_word, aggregate_word, parens}
 use Rattle.sql_read.proofs.EveryKind.{every_kind_is_there}
-use Rattle.sql_read.proofs.QueryPlan.{plan, sort, literal, dot_name, arguments, one_argument, other_aggregate, count_arguments, word_with, words, column_of, named_first, enclosed_first}
-use Rattle.sql_read.proofs.QueryInside.{P, fl, opens, closes, deeper, deeper_there, deeper_back, deeper_spells, deeper_front, sorted, query_inside, query_front_inside}
-use Rattle.sql_read.proofs.QueryInsides.{insides_included, query_sorted, query_front}
+use Rattle.sql_read.proofs.QueryPlan.{arguments, one_argument, other_aggregate, count_arguments, word_with, words}
+use Rattle.sql_read.proofs.QueryInside.{P, fl}
 
 -- what f spells and begins, g does
 pub record Below {A : Type 0} (f g : The A) : Type 0 where
@@ -82,13 +76,6 @@ token_parts p q r m = record { holds = λ room. record { spells = spells room; f
     front : (room : Room) (ts : List Lexeme) → (fl room (token p)).front ts → (fl room (alt (token q) (token r))).front ts
     front room ts (inl e) = inl (inl e)
     front room ts (inr (v, e, s)) = elim (or_cases (q (kind_of v)) (r (kind_of v)) (m (kind_of v) s)) [ inl x ↦ inl (inr (v, e, x)) | inr y ↦ inr (inr (v, e, y)) ]
-
-token_in : (p q : Kind → Bool) → ((kind : Kind) → p kind ≡ true → q kind ≡ true) → Below (token p) (token q)
-token_in p q m = record { holds = λ room. record { spells = λ ts v s. (s.0, m (kind_of v) s.1); front = front room } }
-  where
-    front : (room : Room) (ts : List Lexeme) → (fl room (token p)).front ts → (fl room (token q)).front ts
-    front room ts (inl e) = inl e
-    front room ts (inr (v, e, s)) = inr (v, e, m (kind_of v) s)
 
 abbrev after_quoted : Kind → Bool
 after_quoted kind = among (k.Word ∷ k.Key ∷ k.View ∷ k.Index ∷ []) kind || (same k.Count kind || among (k.Sum ∷ k.Avg ∷ k.Min ∷ k.Max ∷ []) kind)

@@ -1,5 +1,5 @@
 -- How what is read numbers literals and called names in the order of the text, and counts what is copied.
-use Rattle.std.specs.Prelude.{ℕ, zero, ◌+◌, Bool, true, false, ◌&&◌, if◌then◌else◌, List, [], ◌∷◌, ◌++◌, Option, Some, None}
+use Rattle.std.specs.Prelude.{ℕ, ◌+◌, Bool, true, false, ◌&&◌, if◌then◌else◌, List, [], ◌∷◌, Option, Some, None}
 use Rattle.data_model.specs.Rows.{same_row}
 use Rattle.sql_model.specs.declared.symbols.Lit.{Lit}
 use Rattle.sql_model.specs.declared.symbols.LitKind.{LitKind}

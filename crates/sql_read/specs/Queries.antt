@@ -1,5 +1,5 @@
 -- What a list of tokens spells as a query, and where it passes the limits on depth and length.
-use Rattle.std.specs.Prelude.{ℕ, ◌≡◌, List, [], ◌∷◌, ◌++◌, Option, Some, None}
+use Rattle.std.specs.Prelude.{ℕ, ◌≡◌, List, [], ◌∷◌, ◌++◌, Some, None}
 use Rattle.grammar.specs.Form.{Room, language}
 use Rattle.grammar.specs.Language.{Language}
 use Rattle.sql_lex.specs.Lexemes.{Lexeme}

@@ -1,7 +1,7 @@
 -- The grammar of queries, with the trees that it spells. `optional f` is [f], `star most f` is {f} and `listed f` is f {, f}. Each `(`,
 -- prefix NOT and prefix minus opens a level; within the limits a chain of set operators, of `+ - ||` or of `* /` has at most 63 of them,
 -- and one of AND or OR and a list at most 255.
-use Rattle.std.specs.Prelude.{ℕ, List, [], ◌∷◌, Option, Some, None}
+use Rattle.std.specs.Prelude.{List, [], ◌∷◌, Option, Some, None}
 use Rattle.std.proofs.Common.{inl, inr}
 use Rattle.grammar.specs.Form.{Form, Rules, empty, token, seq, alt, star, nest, map, only, nonempty, counted, ref}
 use Rattle.grammar.specs.Productions.{skip_then, then_skip, optional, separated}

@@ -1,6 +1,5 @@
 -- Queries as texts of tokens with one blank between them, and the trees that they spell, computed.
 use Rattle.std.specs.Prelude.{ℕ, ◌≡◌, ◌+◌, ◌==◌, Bool, if◌then◌else◌, List, [], ◌∷◌, ◌++◌, map, codes, length, true, false, refl, Option, Some, None}
-use Rattle.grammar.specs.Form.{Room}
 use Rattle.grammar.specs.Parses.{name_parses, whole_values}
 use Rattle.sql_model.specs.declared.tree.Query.{Query}
 use Rattle.sql_model.specs.declared.tree.Expr.{Expr}
@@ -18,7 +17,7 @@ use Rattle.sql_lex.specs.declared.token.TokenKind.TheVariants as token
 use Rattle.sql_lex.specs.Bytes.{begins_word, is_digit, quote, double_quote}
 use Rattle.sql_lex.specs.Lexemes.{Lexeme}
 use Rattle.sql_read.specs.Kinds.{kind_of}
-use Rattle.sql_read.specs.Numbering.{Built, Numbers, first_numbers}
+use Rattle.sql_read.specs.Numbering.{first_numbers}
 use Rattle.sql_read.specs.QueryGrammar.{rules}
 use Rattle.sql_read.specs.QueryGrammar as g
 

@@ -1,0 +1,200 @@
+-- What the plan reads of a name, and what it reads behind a word, stands so in the grammar.
+use Rattle.std.proofs.Common.{◌≡◌, Bool, true, not, ◌||◌, List, [], ◌∷◌, ◌++◌, inl, inr, refl, sym, ◌∙◌, ap, subst, append_assoc, Option, Some, None}
+use Rattle.std.proofs.lemmas.List.{append-nil}
+use Rattle.grammar.specs.Language.{Includes}
+use Rattle.grammar.specs.Form.{Room, token, seq, alt, map, ref}
+use Rattle.grammar.proofs.Forms.{includes_through}
+use Rattle.grammar.proofs.Sets.{implied, or_left}
+use Rattle.grammar.specs.Productions.{then_skip, optional}
+use Rattle.grammar.proofs.Alike as alike
+use Rattle.grammar.proofs.Alike.{Alike}
+use Rattle.sql_lex.specs.Lexemes.{Lexeme}
+use Rattle.sql_model.specs.declared.tree.Expr.{Expr}
+use Rattle.sql_read.specs.Kinds as k
+use Rattle.sql_read.specs.Kinds.{Kind, kind_of, same, among}
+use Rattle.sql_read.proofs.EveryKind.{every_kind_is_there}
+use Rattle.sql_read.specs.Numbering.{Built, plain}
+use Rattle.sql_read.specs.QueryTrees as t
+use Rattle.sql_read.specs.QueryGrammar.{The, a, name, called_word, in_parentheses, parens, listed, call, name_kinds, rules, reference, primary, agg, expr}
+use Rattle.sql_read.proofs.QueryPlan.{column_of, word_with, dot_name, arguments, one_argument, count_arguments}
+use Rattle.sql_read.proofs.PlanInsides.{G, gl, closes}
+
+abbrev Same : {A : Type 0} → The A → The A → Type 0
+Same f g = Alike kind_of G f g
+
+-- another value for what stands in parentheses
+pub parens_map : {A B : Type 0} (h : A → B) (f : The A) → Same (parens (map h f)) (map h (parens f))
+parens_map {A = A} {B = B} h f =
+    alike.chain kind_of G (alike.alike_map kind_of G _ _ (alike.alike_nest kind_of G _ _ (alike.alike_second kind_of G _ _ closed_map (a k.Open))) second)
+    (alike.chain kind_of G (alike.alike_map kind_of G _ _ (alike.alike_nest kind_of G _ _ (alike.seq_with_map kind_of G h (then_skip f (a k.Close)) (a k.Open))) second)
+    (alike.chain kind_of G (alike.alike_map kind_of G _ _ (alike.nest_map kind_of G with_h (seq (a k.Open) (then_skip f (a k.Close)))) second)
+    (alike.chain kind_of G (alike.map_map kind_of G second with_h (in_parentheses f))
+    (alike.flip kind_of G (alike.map_map kind_of G h (λ p. p.1) (in_parentheses f))))))
+  where
+    second : Lexeme × B → B
+    second p = p.1
+
+    with_h : Lexeme × A → Lexeme × B
+    with_h p = (p.0, h p.1)
+
+    closed_map : Same (then_skip (map h f) (a k.Close)) (map h (then_skip f (a k.Close)))
+    closed_map =
+        alike.chain kind_of G (alike.alike_map kind_of G _ _ (alike.seq_map kind_of G h f (a k.Close)) (λ p. p.0))
+        (alike.chain kind_of G (alike.map_map kind_of G (λ p. p.0) (λ p. (h p.0, p.1)) (seq f (a k.Close)))
+        (alike.flip kind_of G (alike.map_map kind_of G h (λ p. p.0) (seq f (a k.Close)))))
+
+-- ---- references
+
+abbrev pub column_or : Lexeme → Option Lexeme → Expr
+column_or word None = t.column (None, word)
+column_or qual (Some word) = t.column (Some qual, word)
+
+-- a name and what follows it
+pub dotted_reference : (room : Room) (ts x y : List Lexeme) (w : Lexeme) (o : Option Lexeme) → ts ≡ x ++ y → (gl room name).spells x w → (gl room dot_name).spells y o → (gl room (rules reference)).spells ts (column_or w o)
+dotted_reference room ts x y w o e n (inl (c, (p, (x1, y1, e1, d, m), j), l)) =
+    subst (λ z. (gl room (rules reference)).spells ts (column_or w z)) (sym (l ∙ ap (λ z. Some z) j))
+    ((Some w, p.1), (x ++ x1, y1, e ∙ (ap (λ z. x ++ z) e1 ∙ sym (append_assoc x x1 y1)), inl (w, ((w, p.0), (x, x1, refl, n, d), refl), refl), m), refl)
+dotted_reference room ts x y w o e n (inr (c, d, l)) =
+    subst (λ z. (gl room (rules reference)).spells ts (column_or w z)) (sym l)
+    ((None, w), ([], ts, refl, inr (tt, refl, refl), subst (λ z. (gl room name).spells z w) (sym (e ∙ (ap (λ z. x ++ z) d ∙ append-nil x))) n), refl)
+
+pub dotted_front : (room : Room) (ts : List Lexeme) → (gl room (seq name dot_name)).front ts → (gl room (rules reference)).front ts
+dotted_front room ts (inl n) = inl (inl (inl n))
+dotted_front room ts (inr (x, y, w, e, n, inl (inl d))) = inl (inl (inr (x, y, w, e, n, d)))
+dotted_front room ts (inr (x, y, w, e, n, inl (inr (x1, y1, c, e1, d, m)))) =
+    inr (x ++ x1, y1, Some w, e ∙ (ap (λ z. x ++ z) e1 ∙ sym (append_assoc x x1 y1)), inl (w, ((w, c), (x, x1, refl, n, d), refl), refl), m)
+dotted_front room ts (inr (x, y, w, e, (i, q), inr d)) = inl (inl (inl (inr (w, e ∙ (ap (λ z. x ++ z) d ∙ (append-nil x ∙ i)), q))))
+
+-- ---- arguments
+
+-- either of two in parentheses
+parens_alt : {A : Type 0} (f g : The A) → Same (parens (alt f g)) (alt (parens f) (parens g))
+parens_alt {A = A} f g =
+    alike.chain kind_of G (alike.alike_map kind_of G _ _ (alike.alike_nest kind_of G _ _ (alike.alike_second kind_of G _ _ closed_alt (a k.Open))) second)
+    (alike.chain kind_of G (alike.alike_map kind_of G _ _ (alike.alike_nest kind_of G _ _ (alike.seq_alt kind_of G (then_skip f (a k.Close)) (then_skip g (a k.Close)) (a k.Open))) second)
+    (alike.chain kind_of G (alike.alike_map kind_of G _ _ (alike.nest_alt kind_of G (seq (a k.Open) (then_skip f (a k.Close))) (seq (a k.Open) (then_skip g (a k.Close)))) second)
+    (alike.map_alt kind_of G second (in_parentheses f) (in_parentheses g))))
+  where
+    second : Lexeme × A → A
+    second p = p.1
+
+    closed_alt : Same (then_skip (alt f g) (a k.Close)) (alt (then_skip f (a k.Close)) (then_skip g (a k.Close)))
+    closed_alt =
+        alike.chain kind_of G (alike.alike_map kind_of G _ _ (alike.alt_seq kind_of G f g (a k.Close)) (λ p. p.0))
+        (alike.map_alt kind_of G (λ p. p.0) (seq f (a k.Close)) (seq g (a k.Close)))
+
+abbrev applied_to : Lexeme × (Lexeme → Built Expr) → Built Expr
+applied_to p = p.1 p.0
+
+abbrev distinct_argument : The (Option Lexeme × Built Expr)
+distinct_argument = seq (optional (a k.Distinct)) (ref expr)
+
+abbrev aggregate_of : Lexeme × (Option Lexeme × Built Expr) → Built Expr
+aggregate_of p = t.aggregated p.0 p.1.0 p.1.1
+
+abbrev to_argument : Option Lexeme × Built Expr → Lexeme → Built Expr
+to_argument p word = t.aggregated word p.0 p.1
+
+after_word : (word : The Lexeme) → Same (map applied_to (seq word (parens one_argument))) (map aggregate_of (seq word (parens distinct_argument)))
+after_word word =
+    alike.chain kind_of G (alike.alike_map kind_of G _ _ (alike.alike_second kind_of G _ _ (parens_map to_argument distinct_argument) word) applied_to)
+    (alike.applied kind_of G to_argument word (parens distinct_argument))
+
+abbrev row_count : Lexeme → Lexeme → Built Expr
+row_count sign word = t.count_rows word
+
+-- COUNT with its arguments
+count_parts : Same (map applied_to (seq (a k.Count) count_arguments))
+    (alt (map (λ p. t.count_rows p.0) (seq (a k.Count) (parens (a k.Star)))) (map aggregate_of (seq (a k.Count) (parens distinct_argument))))
+count_parts =
+    alike.chain kind_of G (alike.alike_map kind_of G _ _ (alike.alike_second kind_of G _ _ (parens_alt (map row_count (a k.Star)) one_argument) (a k.Count)) applied_to)
+    (alike.chain kind_of G (alike.alike_map kind_of G _ _ (alike.seq_alt kind_of G (parens (map row_count (a k.Star))) (parens one_argument) (a k.Count)) applied_to)
+    (alike.chain kind_of G (alike.map_alt kind_of G applied_to (seq (a k.Count) (parens (map row_count (a k.Star)))) (seq (a k.Count) (parens one_argument)))
+    (alike.alike_alt kind_of G _ _ _ _
+    (alike.chain kind_of G (alike.alike_map kind_of G _ _ (alike.alike_second kind_of G _ _ (parens_map row_count (a k.Star)) (a k.Count)) applied_to)
+    (alike.applied kind_of G row_count (a k.Count) (parens (a k.Star))))
+    (after_word (a k.Count)))))
+
+-- ( .. ) behind a word that is not an aggregate's name
+pub call_part : Same (map applied_to (seq called_word arguments)) call
+call_part = alike.applied kind_of G (λ args word. t.call word args) called_word (parens (optional (listed (ref expr))))
+
+-- ---- first parts that begin with a name
+
+quoted_name : (kind : Kind) → same k.Quoted kind ≡ true → among name_kinds kind ≡ true
+quoted_name kind e = implied (same k.Quoted kind) (among name_kinds kind) (every_kind_is_there (λ x. not (same k.Quoted x) || among name_kinds x) refl kind) e
+
+called_name : (kind : Kind) → among (k.Word ∷ k.Key ∷ k.View ∷ k.Index ∷ []) kind ≡ true → among name_kinds kind ≡ true
+called_name kind e = implied _ (among name_kinds kind) (every_kind_is_there (λ x. not (among (k.Word ∷ k.Key ∷ k.View ∷ k.Index ∷ []) x) || among name_kinds x) refl kind) e
+
+count_name : (kind : Kind) → same k.Count kind ≡ true → among name_kinds kind ≡ true
+count_name kind e = implied (same k.Count kind) (among name_kinds kind) (every_kind_is_there (λ x. not (same k.Count x) || among name_kinds x) refl kind) e
+
+other_name : (kind : Kind) → among (k.Sum ∷ k.Avg ∷ k.Min ∷ k.Max ∷ []) kind ≡ true → among name_kinds kind ≡ true
+other_name kind e = implied _ (among name_kinds kind) (every_kind_is_there (λ x. not (among (k.Sum ∷ k.Avg ∷ k.Min ∷ k.Max ∷ []) x) || among name_kinds x) refl kind) e
+
+column_is : (w : Lexeme) (o : Option Lexeme) → column_of w o ≡ plain (column_or w o)
+column_is w None = refl
+column_is w (Some n) = refl
+
+-- a word of some kinds of names, with what may follow it
+module _ (p : Kind → Bool) (in_names : (kind : Kind) → p kind ≡ true → among name_kinds kind ≡ true) where
+  dotted_spells : (room : Room) (ts : List Lexeme) (v : Built Expr) (w : Lexeme) (o : Option Lexeme) (x y : List Lexeme) → ts ≡ x ++ y → (gl room (token p)).spells x w → (gl room dot_name).spells y o
+      → v ≡ column_of w o → (gl room (rules primary)).spells ts v
+  dotted_spells room ts v w o x y e (n, q) d i =
+      inr (inr (inl (column_or w o, (closes room reference).spells ts (column_or w o) (dotted_reference room ts x y w o e (n, in_names (kind_of w) q) d), i ∙ column_is w o)))
+
+  named_token : (room : Room) (ts : List Lexeme) → (gl room (seq (token p) dot_name)).front ts → (gl room (seq name dot_name)).front ts
+  named_token room ts (inl (inl e)) = inl (inl e)
+  named_token room ts (inl (inr (w, e, q))) = inl (inr (w, e, in_names (kind_of w) q))
+  named_token room ts (inr (x, y, w, e, (n, q), d)) = inr (x, y, w, e, (n, in_names (kind_of w) q), d)
+
+  pub dotted_first : (room : Room) → Includes (gl room (rules primary)) (gl room (map (λ u. column_of u.0 u.1) (seq (token p) dot_name)))
+  dotted_first room = record {
+    spells = λ ts v s. dotted_spells room ts v s.0.0 s.0.1 s.1.0 s.1.1 s.1.2 s.1.3 s.1.4 s.2;
+    front = λ ts f. inr (inr (inl ((closes room reference).front ts (dotted_front room ts (named_token room ts f)))));
+  }
+
+  -- or with arguments
+  pub word_first : (args : The (Lexeme → Built Expr)) (room : Room) → Includes (gl room (rules primary)) (gl room (map applied_to (seq (token p) args)))
+      → Includes (gl room (rules primary)) (gl room (word_with (token p) args dot_name column_of (λ x. x)))
+  word_first args room m = record { spells = spells; front = front }
+    where
+      spells : (ts : List Lexeme) (v : Built Expr) → (gl room (word_with (token p) args dot_name column_of (λ x. x))).spells ts v → (gl room (rules primary)).spells ts v
+      spells ts v (u, (x, y, e, w, inl (o, d, l)), i) = dotted_spells room ts v u.0 o x y e w d (i ∙ ap (λ g. g u.0) l)
+      spells ts v (u, (x, y, e, w, inr (g, r, l)), i) = m.spells ts v ((u.0, g), (x, y, e, w, r), i ∙ ap (λ f. f u.0) l)
+
+      front : (ts : List Lexeme) → (gl room (word_with (token p) args dot_name column_of (λ x. x))).front ts → (gl room (rules primary)).front ts
+      front ts (inl w) = (dotted_first room).front ts (inl w)
+      front ts (inr (x, y, u, e, w, inl d)) = (dotted_first room).front ts (inr (x, y, u, e, w, d))
+      front ts (inr (x, y, u, e, w, inr r)) = m.front ts (inr (x, y, u, e, w, r))
+
+-- an aggregate as a first part
+agg_first : (room : Room) → Includes (gl room (rules primary)) (gl room (rules agg))
+agg_first room = record {
+  spells = λ ts v s. inr (inr (inr (inl ((closes room agg).spells ts v s))));
+  front = λ ts f. inr (inr (inr (inl ((closes room agg).front ts f))));
+}
+
+count_first : (room : Room) → Includes (gl room (rules primary)) (gl room (map applied_to (seq (a k.Count) count_arguments)))
+count_first room =
+    includes_through _ (gl room (rules agg)) _ (record { spells = spells; front = front }) (agg_first room)
+  where
+    aggregate_kind : (kind : Kind) → same k.Count kind ≡ true → among (k.Count ∷ k.Sum ∷ k.Avg ∷ k.Min ∷ k.Max ∷ []) kind ≡ true
+    aggregate_kind kind e = or_left _ _ e
+
+    spells : (ts : List Lexeme) (v : Built Expr) → (gl room (map applied_to (seq (a k.Count) count_arguments))).spells ts v → (gl room (rules agg)).spells ts v
+    spells ts v s = go ((count_parts.there room).spells ts v s)
+      where
+        go : (gl room (alt (map (λ p. t.count_rows p.0) (seq (a k.Count) (parens (a k.Star)))) (map aggregate_of (seq (a k.Count) (parens distinct_argument))))).spells ts v → (gl room (rules agg)).spells ts v
+        go (inl r) = inl r
+        go (inr (u, (x, y, e, (n, q), r), i)) = inr (u, (x, y, e, (n, aggregate_kind (kind_of u.0) q), r), i)
+
+    front : (ts : List Lexeme) → (gl room (map applied_to (seq (a k.Count) count_arguments))).front ts → (gl room (rules agg)).front ts
+    front ts s = go ((count_parts.there room).front ts s)
+      where
+        go : (gl room (alt (map (λ p. t.count_rows p.0) (seq (a k.Count) (parens (a k.Star)))) (map aggregate_of (seq (a k.Count) (parens distinct_argument))))).front ts → (gl room (rules agg)).front ts
+        go (inl r) = inl r
+        go (inr (inl (inl e))) = inr (inl (inl e))
+        go (inr (inl (inr (w, e, q)))) = inr (inl (inr (w, e, aggregate_kind (kind_of w) q)))
+        go (inr (inr (x, y, w, e, (n, q), r))) = inr (inr (x, y, w, e, (n, aggregate_kind (kind_of w) q), r))
