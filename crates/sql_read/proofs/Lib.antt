@@ -12,7 +12,6 @@ pub mod CaseLaws
 pub mod Cursors
 pub mod Unquoting
 pub mod EveryKind
-pub mod QueryPlan
 pub mod QueryTable
 pub mod QueryFronts
 pub mod QuerySplits

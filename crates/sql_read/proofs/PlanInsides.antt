@@ -15,6 +15,7 @@ use Rattle.sql_read.specs.QueryTrees.{Left, Enclosed, Inside, not_sub}
 use Rattle.sql_read.specs.QueryGrammar.{Production, Read, The, next_intersect, next_union, next_product, next_sum, next_and, next_or, rules, expr, unary, primary, set_tail, expr_tail, rest}
 use Rattle.sql_read.proofs.QuerySplits.{is_kept}
 use Rattle.sql_read.proofs.QuerySplits as split
+use Rattle.sql_read.proofs.QueryInside.{no_set_words}
 use Rattle.sql_read.proofs.QueryKnown.{production_known}
 use Rattle.sql_read.proofs.NoSubqueries.{MakesNone, MayMakeNone, Something, nothing, something, something_or_not, continued_is, comparison_makes, in_query_makes, in_list_makes, between_makes, like_makes}
 
@@ -35,18 +36,13 @@ own p e = record { there = λ room. opens room p; back = λ room. closes room p 
 
 -- ---- tails
 
-star_none : {A : Type 0} (room : Room) (most : Option ℕ) (f : The A) → (gl room (star most f)).spells [] []
-star_none None most f = refl
-star_none (Some levels) None f = refl
-star_none (Some levels) (Some most) f = (refl, omega arith)
-
 star_empty : {A : Type 0} (room : Room) (most : Option ℕ) (f : The A) (ts : List Lexeme) → (gl room (star most f)).spells ts [] → ts ≡ []
 star_empty None most f ts s = s
 star_empty (Some levels) None f ts s = s
 star_empty (Some levels) (Some most) f ts s = s.0
 
 pub no_sets : (room : Room) → (G room set_tail).spells [] (λ q. q)
-no_sets room = (closes room set_tail).spells [] (λ q. q) (([], []), ([], [], refl, star_none room (Some 63) next_intersect, star_none room (Some 63) next_union), refl)
+no_sets room = (closes room set_tail).spells [] (λ q. q) (no_set_words G room)
 
 pub sets_identity : (room : Room) (f : Built Query → Built Query) → (G room set_tail).spells [] f → f ≡ (λ q. q)
 sets_identity room f s = (production_known room set_tail).unique [] f (λ q. q) s (no_sets room)

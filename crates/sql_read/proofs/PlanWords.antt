@@ -16,7 +16,7 @@ use Rattle.sql_read.proofs.EveryKind.{every_kind_is_there}
 use Rattle.sql_read.specs.Numbering.{Built, plain}
 use Rattle.sql_read.specs.QueryTrees as t
 use Rattle.sql_read.specs.QueryGrammar.{The, a, name, called_word, in_parentheses, parens, listed, call, name_kinds, rules, reference, primary, agg, expr}
-use Rattle.sql_read.proofs.QueryPlan.{column_of, word_with, dot_name, arguments, one_argument, count_arguments}
+use Rattle.sql_read.specs.QueryPlan.{column_of, word_with, dot_name, arguments, one_argument, count_arguments}
 use Rattle.sql_read.proofs.PlanInsides.{G, gl, closes}
 
 abbrev Same : {A : Type 0} → The A → The A → Type 0

@@ -12,32 +12,32 @@ use Rattle.sql_read.specs.Numbering.{Built, plain}
 use Rattle.sql_read.specs.QueryTrees as t
 use Rattle.sql_read.specs.QueryTrees.{Left, Enclosed, Inside, not_sub}
 use Rattle.sql_read.specs.QueryGrammar.{The, a, name, called_word, aggregate_word, parens, listed, subquery, call, rules, expr, reference, primary, agg, inner}
-use Rattle.sql_read.proofs.QueryPlan.{plan, sort, literal, dot_name, one_argument, other_aggregate, count_arguments, column_of, named_first, enclosed_first}
+use Rattle.sql_read.specs.QueryPlan.{plan, sort, literal, dot_name, one_argument, other_aggregate, count_arguments, column_of, named_first, enclosed_first}
 use Rattle.sql_read.proofs.QueryInside.{P, fl, opens, closes, deeper_there, deeper_back, deeper_spells, deeper_front, sorted}
 use Rattle.sql_read.proofs.QueryInsides.{insides_included, query_sorted, query_front}
 use Rattle.sql_read.proofs.QueryWords.{Below, of_alike, to_alike, through, itself, below_map, below_seq, below_alt, below_nest, either, at_first, at_second, aggregate_parts, with_dot, any_named, any_called, any_count, any_aggregate}
 
 -- ---- parentheses
 
-pub parens_below : {A : Type 0} {f g : The A} → Below f g → Below (parens f) (parens g)
+pub parens_below : {A : Type 0} {f g : The A} → Below P f g → Below P (parens f) (parens g)
 parens_below l = below_map (λ p. p.1) (below_nest (below_seq (itself (a k.Open)) (below_map (λ p. p.0) (below_seq l (itself (a k.Close))))))
 
 -- another value for what stands in them
-pub parens_map : {A B : Type 0} (h : A → B) (f : The A) → Below (map h (parens f)) (parens (map h f))
+pub parens_map : {A B : Type 0} (h : A → B) (f : The A) → Below P (map h (parens f)) (parens (map h f))
 parens_map {A = A} {B = B} h f = record { holds = λ room. record { spells = spells room; front = front room } }
   where
     spells : (room : Room) (ts : List Lexeme) (v : B) → (fl room (map h (parens f))).spells ts v → (fl room (parens (map h f))).spells ts v
     spells room ts v (u, (p, s, i), j) = (
       (p.0, h p.1),
-      (deeper_back (map h f) room).spells ts (p.0, h p.1)
-          (deeper_spells (λ r. fl r f) (λ r. fl r (map h f)) room ts p (h p.1) (λ r z w. (p.1, w, refl)) ((deeper_there f room).spells ts p s)),
+      (deeper_back P (map h f) room).spells ts (p.0, h p.1)
+          (deeper_spells (λ r. fl r f) (λ r. fl r (map h f)) room ts p (h p.1) (λ r z w. (p.1, w, refl)) ((deeper_there P f room).spells ts p s)),
       j ∙ ap h i,
     )
 
     front : (room : Room) (ts : List Lexeme) → (fl room (map h (parens f))).front ts → (fl room (parens (map h f))).front ts
     front room ts s =
-        (deeper_back (map h f) room).front ts
-        (deeper_front (λ r. fl r f) (λ r. fl r (map h f)) room (λ r z w. w) (λ r z v w. (h v, (v, w, refl))) ts ((deeper_there f room).front ts s))
+        (deeper_back P (map h f) room).front ts
+        (deeper_front (λ r. fl r f) (λ r. fl r (map h f)) room (λ r z w. w) (λ r z v w. (h v, (v, w, refl))) ts ((deeper_there P f room).front ts s))
 
 -- ---- references
 
@@ -72,7 +72,7 @@ reference_front room ts (inr (x, y, v, e, inl (w, (p, (x1, y1, e1, n, d), j), l)
     inr (x1, y1 ++ y, p.0, e ∙ (ap (λ z. z ++ y) e1 ∙ append_assoc x1 y1 y), n, inl (inr (y1, y, p.1, refl, d, f)))
 reference_front room ts (inr (x, y, v, e, inr (w, n, l), f)) = subst (fl room dotted).front (sym (e ∙ ap (λ z. z ++ y) n)) (inl f)
 
-pub reference_below : Below (rules reference) (plan reference)
+pub reference_below : Below P (rules reference) (plan reference)
 reference_below = record { holds = λ room. record { spells = λ ts v s. planned room ts v (reference_spells room ts v s); front = reference_front room } }
   where
     planned : (room : Room) (ts : List Lexeme) (v : Expr) → (fl room dotted).spells ts v → (fl room (plan reference)).spells ts v
@@ -80,7 +80,7 @@ reference_below = record { holds = λ room. record { spells = λ ts v s. planned
     planned room ts v ((w, Some n), s, i) = ((w, Some n), s, i)
 
 -- a column as a first part
-reference_first : Below (map (λ x. plain x) (ref reference)) named_first
+reference_first : Below P (map (λ x. plain x) (ref reference)) named_first
 reference_first = through plain_names (any_named dot_name column_of (λ x. x))
   where
     spells : (room : Room) (ts : List Lexeme) (v : Built Expr) → (fl room (map (λ x. plain x) (ref reference))).spells ts v → (fl room (with_dot dot_name column_of (λ x. x) name)).spells ts v
@@ -90,7 +90,7 @@ reference_first = through plain_names (any_named dot_name column_of (λ x. x))
         go ((w, None), r, j) = ((w, None), r, i ∙ ap (λ z. plain z) j)
         go ((w, Some n), r, j) = ((w, Some n), r, i ∙ ap (λ z. plain z) j)
 
-    plain_names : Below (map (λ x. plain x) (ref reference)) (with_dot dot_name column_of (λ x. x) name)
+    plain_names : Below P (map (λ x. plain x) (ref reference)) (with_dot dot_name column_of (λ x. x) name)
     plain_names = record { holds = λ room. record { spells = spells room; front = λ ts f. (opens room reference).front ts f } }
 
 -- ---- aggregates and calls
@@ -108,23 +108,23 @@ abbrev aggregate_of : Lexeme × (Option Lexeme × Built Expr) → Built Expr
 aggregate_of p = t.aggregated p.0 p.1.0 p.1.1
 
 -- one argument after a word
-after_word : (word : The Lexeme) → Below (map aggregate_of (seq word (parens distinct_argument))) (map applied_to (seq word (parens one_argument)))
+after_word : (word : The Lexeme) → Below P (map aggregate_of (seq word (parens distinct_argument))) (map applied_to (seq word (parens one_argument)))
 after_word word =
     through (to_alike (applied kind_of P to_argument word (parens distinct_argument)))
     (below_map applied_to (below_seq (itself word) (parens_map to_argument distinct_argument)))
 
-one_of_count : Below (parens one_argument) count_arguments
+one_of_count : Below P (parens one_argument) count_arguments
 one_of_count = parens_below (at_second (map (λ sign word. t.count_rows word) (a k.Star)) (itself one_argument))
 
 abbrev rows_of : Lexeme × Lexeme → Built Expr
 rows_of p = t.count_rows p.0
 
-star_of_count : Below (map rows_of (seq (a k.Count) (parens (a k.Star)))) (map applied_to (seq (a k.Count) count_arguments))
+star_of_count : Below P (map rows_of (seq (a k.Count) (parens (a k.Star)))) (map applied_to (seq (a k.Count) count_arguments))
 star_of_count =
     through (to_alike (applied kind_of P (λ sign word. t.count_rows word) (a k.Count) (parens (a k.Star))))
     (below_map applied_to (below_seq (itself (a k.Count)) (through (parens_map (λ sign word. t.count_rows word) (a k.Star)) (parens_below (at_first one_argument (itself (map (λ sign word. t.count_rows word) (a k.Star))))))))
 
-aggregates : Below (map aggregate_of (seq aggregate_word (parens distinct_argument)))
+aggregates : Below P (map aggregate_of (seq aggregate_word (parens distinct_argument)))
     (alt (map applied_to (seq (a k.Count) count_arguments)) (map applied_to (seq other_aggregate (parens one_argument))))
 aggregates =
     through (below_map aggregate_of (below_seq aggregate_parts (itself (parens distinct_argument))))
@@ -132,16 +132,16 @@ aggregates =
     (through (of_alike (map_alt kind_of P aggregate_of (seq (a k.Count) (parens distinct_argument)) (seq other_aggregate (parens distinct_argument))))
     (below_alt (through (after_word (a k.Count)) (below_map applied_to (below_seq (itself (a k.Count)) one_of_count))) (after_word other_aggregate))))
 
-pub agg_below : Below (rules agg) (plan agg)
+pub agg_below : Below P (rules agg) (plan agg)
 agg_below = either (at_first (map applied_to (seq other_aggregate (parens one_argument))) star_of_count) aggregates
 
-agg_first : Below (ref agg) named_first
+agg_first : Below P (ref agg) named_first
 agg_first = record { holds = λ room. let m = each.holds room in let o = opens room agg in record { spells = λ ts v s. m.spells ts v (o.spells ts v s); front = λ ts f. m.front ts (o.front ts f) } }
   where
-    each : Below (plan agg) named_first
+    each : Below P (plan agg) named_first
     each = either (any_count dot_name column_of (λ x. x)) (any_aggregate dot_name column_of (λ x. x))
 
-call_first : Below call named_first
+call_first : Below P call named_first
 call_first =
     through (to_alike (applied kind_of P (λ args word. t.call word args) called_word (parens (optional (listed (ref expr))))))
     (any_called dot_name column_of (λ x. x))
@@ -157,22 +157,22 @@ expr_inner room z v s =
 expr_inner_front : (room : Room) (z : List Lexeme) → (fl room (only not_sub (ref expr))).front z → (P room inner).front z
 expr_inner_front room z f = (closes room inner).front z ((insides_included empty room).front z (inr (inr (inl f))))
 
-expr_first : Below (parens (only not_sub (ref expr))) enclosed_first
+expr_first : Below P (parens (only not_sub (ref expr))) enclosed_first
 expr_first = record { holds = λ room. record { spells = spells room; front = front room } }
   where
     spells : (room : Room) (ts : List Lexeme) (v : Built Expr) → (fl room (parens (only not_sub (ref expr)))).spells ts v → (fl room enclosed_first).spells ts v
     spells room ts v (p, s, i) = (
       (p.0, inr (inr (p.1, tt))),
-      (deeper_back (ref inner) room).spells ts (p.0, inr (inr (p.1, tt)))
-          (deeper_spells (λ r. fl r (only not_sub (ref expr))) (λ r. P r inner) room ts p (inr (inr (p.1, tt))) (λ r z w. expr_inner r z p.1 w) ((deeper_there (only not_sub (ref expr)) room).spells ts p s)),
+      (deeper_back P (ref inner) room).spells ts (p.0, inr (inr (p.1, tt)))
+          (deeper_spells (λ r. fl r (only not_sub (ref expr))) (λ r. P r inner) room ts p (inr (inr (p.1, tt))) (λ r z w. expr_inner r z p.1 w) ((deeper_there P (only not_sub (ref expr)) room).spells ts p s)),
       i,
     )
 
     front : (room : Room) (ts : List Lexeme) → (fl room (parens (only not_sub (ref expr)))).front ts → (fl room enclosed_first).front ts
     front room ts s =
-        (deeper_back (ref inner) room).front ts
+        (deeper_back P (ref inner) room).front ts
         (deeper_front (λ r. fl r (only not_sub (ref expr))) (λ r. P r inner) room expr_inner_front (λ r z v w. (inr (inr (v, tt)), expr_inner r z v w)) ts
-        ((deeper_there (only not_sub (ref expr)) room).front ts s))
+        ((deeper_there P (only not_sub (ref expr)) room).front ts s))
 
 abbrev query_in : Enclosed → (Enclosed × ℕ) ⊎ Left → Enclosed
 query_in other (inl u) = u.0
@@ -184,7 +184,7 @@ enclosed_as (o, inl q) n p m e = ap (λ z. t.sub z) (sym (ap (query_in p) e))
 enclosed_as (o, inr (inl r)) n p m e = ap (λ z. t.sub z) (sym (ap (query_in p) e))
 enclosed_as (o, inr (inr r)) n p m e = cc
 
-subquery_first : Below subquery enclosed_first
+subquery_first : Below P subquery enclosed_first
 subquery_first = record { holds = λ room. record { spells = spells room; front = λ ts f. query_front empty room ts f } }
   where
     spells : (room : Room) (ts : List Lexeme) (v : Built Expr) → (fl room subquery).spells ts v → (fl room enclosed_first).spells ts v
@@ -195,7 +195,7 @@ subquery_first = record { holds = λ room. record { spells = spells room; front 
 
 -- ---- all first parts
 
-pub primary_below : Below (rules primary) (plan primary)
+pub primary_below : Below P (rules primary) (plan primary)
 primary_below =
     either (at_first _ (at_first (map t.text_literal (a k.Text)) (itself (map t.number_literal (a k.Number)))))
     (either (at_first _ (at_second (map t.number_literal (a k.Number)) (itself (map t.text_literal (a k.Text)))))

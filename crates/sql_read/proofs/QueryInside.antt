@@ -13,7 +13,7 @@ use Rattle.sql_read.specs.Numbering.{Built}
 use Rattle.sql_read.specs.QueryTrees as t
 use Rattle.sql_read.specs.QueryTrees.{Left, Enclosed, Inside}
 use Rattle.sql_read.specs.QueryGrammar.{Production, Read, The, in_parentheses, rules, next_intersect, next_union, next_product, next_sum, next_and, next_or, intersects, unions, query, operand, block, set_tail, expr_tail, inner}
-use Rattle.sql_read.proofs.QueryPlan.{plan, sort}
+use Rattle.sql_read.specs.QueryPlan.{plan, sort}
 use Rattle.sql_read.proofs.QueryTable.{planned}
 
 abbrev pub P : Room → (p : Production) → Language Lexeme (Read p)
@@ -28,33 +28,46 @@ opens room p = to_rule kind_of plan room p
 pub closes : (room : Room) (p : Production) → Includes (P room p) (fl room (plan p))
 closes room p = from_rule kind_of plan room p
 
+-- where the names have these languages
+abbrev pub Names : Type 1
+Names = Room → (p : Production) → Language Lexeme (Read p)
+
 -- ---- nothing, of what follows
 
-pub star_none : {A : Type 0} (room : Room) (most : Option ℕ) (f : The A) → (fl room (star most f)).spells [] []
-star_none None most f = refl
-star_none (Some levels) None f = refl
-star_none (Some levels) (Some most) f = (refl, omega arith)
+module _ (E : Names) where
+  abbrev el : {A : Type 0} → Room → The A → Language Lexeme A
+  el room f = form_language kind_of E room f
+
+  pub star_none : {A : Type 0} (room : Room) (most : Option ℕ) (f : The A) → (el room (star most f)).spells [] []
+  star_none None most f = refl
+  star_none (Some levels) None f = refl
+  star_none (Some levels) (Some most) f = (refl, omega arith)
+
+  pub no_set_words : (room : Room) → (el room (rules set_tail)).spells [] (λ q. q)
+  no_set_words room = (([], []), ([], [], refl, star_none room (Some 63) next_intersect, star_none room (Some 63) next_union), refl)
+
+  pub no_operators : (room : Room) → (el room (rules expr_tail)).spells [] (λ left. left.0)
+  no_operators room = (
+    ((([], []), 0), (None, ([], []))),
+    (
+      [],
+      [],
+      refl,
+      (([], [], refl, star_none room (Some 63) next_product, star_none room (Some 63) next_sum), refl),
+      ([], [], refl, inr (tt, refl, refl), ([], [], refl, star_none room (Some 255) next_and, star_none room (Some 255) next_or)),
+    ),
+    refl,
+  )
 
 no_sets : (room : Room) → (P room set_tail).spells [] (λ q. q)
-no_sets room = (closes room set_tail).spells [] (λ q. q) (([], []), ([], [], refl, star_none room (Some 63) next_intersect, star_none room (Some 63) next_union), refl)
+no_sets room = (closes room set_tail).spells [] (λ q. q) (no_set_words P room)
 
 -- a query with no set operator behind it is that query
 pub sets_identity : (room : Room) (f : Built Query → Built Query) → (P room set_tail).spells [] f → f ≡ (λ q. q)
 sets_identity room f s = (named planned room set_tail).unique [] f (λ q. q) s (no_sets room)
 
 no_tail : (room : Room) → (P room expr_tail).spells [] (λ left. left.0)
-no_tail room =
-    (closes room expr_tail).spells [] (λ left. left.0) (
-      ((([], []), 0), (None, ([], []))),
-      (
-        [],
-        [],
-        refl,
-        (([], [], refl, star_none room (Some 63) next_product, star_none room (Some 63) next_sum), refl),
-        ([], [], refl, inr (tt, refl, refl), ([], [], refl, star_none room (Some 255) next_and, star_none room (Some 255) next_or)),
-      ),
-      refl,
-    )
+no_tail room = (closes room expr_tail).spells [] (λ left. left.0) (no_operators P room)
 
 -- a first part with nothing behind it is that part
 pub tail_identity : (room : Room) (f : Left → Built _) → (P room expr_tail).spells [] f → f ≡ (λ left. left.0)
@@ -72,15 +85,16 @@ deeper L None = pair (L None)
 deeper L (Some zero) = no_language
 deeper L (Some (suc levels)) = pair (L (Some levels))
 
-pub deeper_there : {A : Type 0} (f : The A) (room : Room) → Includes (deeper (λ r. fl r f) room) (fl room (in_parentheses f))
-deeper_there f None = record { spells = λ ts v s. s; front = λ ts s. s }
-deeper_there f (Some zero) = record { spells = λ ts v s. s; front = λ ts s. s }
-deeper_there f (Some (suc levels)) = record { spells = λ ts v s. s; front = λ ts s. s }
+module _ (E : Names) {A : Type 0} (f : The A) where
+  pub deeper_there : (room : Room) → Includes (deeper (λ r. form_language kind_of E r f) room) (form_language kind_of E room (in_parentheses f))
+  deeper_there None = record { spells = λ ts v s. s; front = λ ts s. s }
+  deeper_there (Some zero) = record { spells = λ ts v s. s; front = λ ts s. s }
+  deeper_there (Some (suc levels)) = record { spells = λ ts v s. s; front = λ ts s. s }
 
-pub deeper_back : {A : Type 0} (f : The A) (room : Room) → Includes (fl room (in_parentheses f)) (deeper (λ r. fl r f) room)
-deeper_back f None = record { spells = λ ts v s. s; front = λ ts s. s }
-deeper_back f (Some zero) = record { spells = λ ts v s. s; front = λ ts s. s }
-deeper_back f (Some (suc levels)) = record { spells = λ ts v s. s; front = λ ts s. s }
+  pub deeper_back : (room : Room) → Includes (form_language kind_of E room (in_parentheses f)) (deeper (λ r. form_language kind_of E r f) room)
+  deeper_back None = record { spells = λ ts v s. s; front = λ ts s. s }
+  deeper_back (Some zero) = record { spells = λ ts v s. s; front = λ ts s. s }
+  deeper_back (Some (suc levels)) = record { spells = λ ts v s. s; front = λ ts s. s }
 
 module _ {A C : Type 0} where
   -- what stands in them, with other values
@@ -140,7 +154,7 @@ sorted_query (Some (suc levels)) L m ts v s = go v s
 
 pub sorted_front : (room : Room) (L : Room → Language Lexeme (Built Query)) (m : (r : Room) (z : List Lexeme) (q : Built Query) → (L r).spells z q → ReadsQuery r z q)
     → ((r : Room) (z : List Lexeme) → (L r).front z → (P r inner).front z) → (ts : List Lexeme) → (deeper L room).front ts → (fl room sorted).front ts
-sorted_front room L m f ts s = (deeper_back (ref inner) room).front ts (deeper_front L (λ r. P r inner) room f some ts s)
+sorted_front room L m f ts s = (deeper_back P (ref inner) room).front ts (deeper_front L (λ r. P r inner) room f some ts s)
   where
     some : (r : Room) (z : List Lexeme) (q : Built Query) → (L r).spells z q → (w : Inside (Unit {0})) × (P r inner).spells z w
     some r z q s = elim (m r z q s) [ plainly p ↦ (inl q, p) | wrapped o p ↦ (inr (inl ((o, q), tt)), p) ]

@@ -12,7 +12,7 @@ use Rattle.sql_read.specs.Numbering.{Built}
 use Rattle.sql_read.specs.QueryTrees as t
 use Rattle.sql_read.specs.QueryTrees.{Left, Enclosed, Inside, not_sub}
 use Rattle.sql_read.specs.QueryGrammar.{Production, The, in_parentheses, insides, minus, rules, query, part, operand, block, item, from, entry, reference, expr, conj, neg, test, rest, value, term, unary, primary, agg, set_tail, and_tail, expr_tail, inner, in_inner}
-use Rattle.sql_read.proofs.QueryPlan.{plan, sort, after_query, after_expression, plan_of_insides, no_parenthesis, going_on, going_on_by_and, enclosed_first, literal, named_first}
+use Rattle.sql_read.specs.QueryPlan.{plan, sort, after_query, after_expression, plan_of_insides, no_parenthesis, going_on, going_on_by_and, enclosed_first, literal, named_first}
 use Rattle.sql_read.proofs.QuerySplits.{is_kept}
 use Rattle.sql_read.proofs.QuerySplits as split
 use Rattle.sql_read.proofs.QueryInside.{P, fl, opens, closes, deeper_there, sorted, sorted_query, sorted_front, query_inside, query_front_inside, tail_identity}
@@ -192,10 +192,10 @@ module _ {M : Type 0} (more : The M) (room : Room) where
           (inr (inr (enclosed_more a b y w u.1 o q (subst (λ z. not_sub z ≡ true) value n) r))))
 
   pub query_sorted : (x : List Lexeme) (p : Enclosed) → (fl room (in_parentheses (ref query))).spells x p → (fl room sorted).spells x (inl (p, length x))
-  query_sorted x p s = sorted_query room (λ r. P r query) query_inside x p ((deeper_there (ref query) room).spells x p s)
+  query_sorted x p s = sorted_query room (λ r. P r query) query_inside x p ((deeper_there P (ref query) room).spells x p s)
 
   pub query_front : (x : List Lexeme) → (fl room (in_parentheses (ref query))).front x → (fl room sorted).front x
-  query_front x s = sorted_front room (λ r. P r query) query_inside query_front_inside x ((deeper_there (ref query) room).front x s)
+  query_front x s = sorted_front room (λ r. P r query) query_inside query_front_inside x ((deeper_there P (ref query) room).front x s)
 
   insides_spells : (ts : List Lexeme) (v : Inside M) → (fl room (insides more)).spells ts v → (fl room planned_insides).spells ts v
   insides_spells ts v (inl (q, inl (u, s, i), j)) = inl (u, s, j ∙ ap (λ z. inl z) i)

@@ -13,10 +13,10 @@ use Rattle.sql_read.specs.Numbering.{Built}
 use Rattle.sql_read.specs.QueryTrees as t
 use Rattle.sql_read.specs.QueryTrees.{Left}
 use Rattle.sql_read.specs.QueryGrammar.{The, a, name, called_word, alias, minus, parens, rules, item, expr, expr_tail}
-use Rattle.sql_read.proofs.QueryPlan.{plan, literal, dot_name, dot_star_or_name, arguments, one_argument, other_aggregate, count_arguments, word_with, words, column_of, named_first, enclosed_first, going_on, going_on_by_and, star_or_column, star_or_left, Starred}
+use Rattle.sql_read.specs.QueryPlan.{plan, literal, dot_name, dot_star_or_name, arguments, one_argument, other_aggregate, count_arguments, word_with, words, column_of, named_first, enclosed_first, going_on, going_on_by_and, star_or_column, star_or_left, Starred}
 use Rattle.sql_read.proofs.QueryInside.{P, fl}
 use Rattle.sql_read.proofs.QueryInsides.{expr_parts}
-use Rattle.sql_read.proofs.QueryWords.{Below, of_alike, through, itself, below_map, below_seq, below_alt, either, at_first, at_second, with_dot, any_named}
+use Rattle.sql_read.proofs.QueryWords.{Below, of_alike, through, itself, below_map, below_seq, below_alt, either, at_first, at_second, go_on_below, with_dot, any_named}
 
 -- ---- names that may be followed by a point and a star
 
@@ -47,7 +47,7 @@ abbrev right_of : Built Expr → Starred
 right_of x = inr x
 
 -- a word with a name behind its point, or with arguments
-word_starred : (word : The Lexeme) (args : The (Lexeme → Built Expr)) → Below (map right_of (word_with word args dot_name column_of (λ x. x))) (word_with word args dot_star_or_name star_or_column right_of)
+word_starred : (word : The Lexeme) (args : The (Lexeme → Built Expr)) → Below P (map right_of (word_with word args dot_name column_of (λ x. x))) (word_with word args dot_star_or_name star_or_column right_of)
 word_starred word args = record { holds = λ room. record { spells = spells room; front = front room } }
   where
     spells : (room : Room) (ts : List Lexeme) (v : Starred) → (fl room (map right_of (word_with word args dot_name column_of (λ x. x)))).spells ts v → (fl room (word_with word args dot_star_or_name star_or_column right_of)).spells ts v
@@ -64,7 +64,7 @@ word_starred word args = record { holds = λ room. record { spells = spells room
     front room ts (inr (x, y, u, e, w, inl d)) = inr (x, y, u, e, w, inl (dot_front room y d))
     front room ts (inr (x, y, u, e, w, inr r)) = inr (x, y, u, e, w, inr r)
 
-quoted_starred : Below (map right_of (with_dot dot_name column_of (λ x. x) (a k.Quoted))) (with_dot dot_star_or_name star_or_column right_of (a k.Quoted))
+quoted_starred : Below P (map right_of (with_dot dot_name column_of (λ x. x) (a k.Quoted))) (with_dot dot_star_or_name star_or_column right_of (a k.Quoted))
 quoted_starred = record { holds = λ room. record { spells = spells room; front = front room } }
   where
     spells : (room : Room) (ts : List Lexeme) (v : Starred) → (fl room (map right_of (with_dot dot_name column_of (λ x. x) (a k.Quoted)))).spells ts v → (fl room (with_dot dot_star_or_name star_or_column right_of (a k.Quoted))).spells ts v
@@ -78,7 +78,7 @@ quoted_starred = record { holds = λ room. record { spells = spells room; front 
 abbrev plain_word : The Lexeme → The (Lexeme → Built Expr) → The (Built Expr)
 plain_word word args = word_with word args dot_name column_of (λ x. x)
 
-pub named_starred : Below (map right_of named_first) starred_words
+pub named_starred : Below P (map right_of named_first) starred_words
 named_starred =
     through (of_alike (map_alt kind_of P right_of (with_dot dot_name column_of (λ x. x) (a k.Quoted)) (alt (plain_word called_word arguments) (alt (plain_word (a k.Count) count_arguments) (plain_word other_aggregate (parens one_argument))))))
     (below_alt quoted_starred
@@ -105,7 +105,7 @@ abbrev name_and_star : The Lexeme
 name_and_star = then_skip name (seq (a k.Dot) (a k.Star))
 
 -- name . *
-star_planned : Below (map t.alias_star_item name_and_star) by_name
+star_planned : Below P (map t.alias_star_item name_and_star) by_name
 star_planned = record { holds = λ room. record { spells = spells room; front = front room } }
   where
     first_star : (room : Room) (x y : List Lexeme) (w : Lexeme) (p : Lexeme × Lexeme) → (fl room name).spells x w → (fl room (seq (a k.Dot) (a k.Star))).spells y p → (fl room starred_words).spells (x ++ y) (inl w)
@@ -135,7 +135,7 @@ abbrev with_alias : The (Built Expr) → The (Built Item)
 with_alias f = map (λ p. t.value_item p.0 p.1) (seq f (optional alias))
 
 -- an expression that begins with a name
-named_planned : Below (with_alias (going_on named_first)) by_name
+named_planned : Below P (with_alias (going_on named_first)) by_name
 named_planned = record { holds = λ room. record { spells = spells room; front = front room } }
   where
     first_left : (room : Room) (x : List Lexeme) (left : Left) → (fl room (counted named_first)).spells x left → (fl room (map star_or_left (counted starred_words))).spells x (inr left)
@@ -159,17 +159,7 @@ named_planned = record { holds = λ room. record { spells = spells room; front =
 
 -- ---- all items
 
-go_on_below : {f g : The (Built Expr)} → Below f g → Below (going_on f) (going_on g)
-go_on_below {f = f} {g = g} l = record { holds = λ room. record { spells = spells room; front = front room } }
-  where
-    spells : (room : Room) (ts : List Lexeme) (v : Built Expr) → (fl room (going_on f)).spells ts v → (fl room (going_on g)).spells ts v
-    spells room ts v (u, (x, y, e, (s, n), r), i) = (u, (x, y, e, ((l.holds room).spells x u.0.0 s, n), r), i)
-
-    front : (room : Room) (ts : List Lexeme) → (fl room (going_on f)).front ts → (fl room (going_on g)).front ts
-    front room ts (inl s) = inl ((l.holds room).front ts s)
-    front room ts (inr (x, y, v, e, (s, n), r)) = inr (x, y, v, e, ((l.holds room).spells x v.0 s, n), r)
-
-go_on_either : (f g : The (Built Expr)) → Below (going_on (alt f g)) (alt (going_on f) (going_on g))
+go_on_either : (f g : The (Built Expr)) → Below P (going_on (alt f g)) (alt (going_on f) (going_on g))
 go_on_either f g = record { holds = λ room. record { spells = spells room; front = front room } }
   where
     spells : (room : Room) (ts : List Lexeme) (v : Built Expr) → (fl room (going_on (alt f g))).spells ts v → (fl room (alt (going_on f) (going_on g))).spells ts v
@@ -182,12 +172,12 @@ go_on_either f g = record { holds = λ room. record { spells = spells room; fron
     front room ts (inr (x, y, v, e, (inl s, n), r)) = inl (inr (x, y, v, e, (s, n), r))
     front room ts (inr (x, y, v, e, (inr s, n), r)) = inr (inr (x, y, v, e, (s, n), r))
 
-with_alias_either : (f g : The (Built Expr)) → Below (with_alias (alt f g)) (alt (with_alias f) (with_alias g))
+with_alias_either : (f g : The (Built Expr)) → Below P (with_alias (alt f g)) (alt (with_alias f) (with_alias g))
 with_alias_either f g =
     through (below_map (λ p. t.value_item p.0 p.1) (of_alike (alt_seq kind_of P f g (optional alias))))
     (of_alike (map_alt kind_of P (λ p. t.value_item p.0 p.1) (seq f (optional alias)) (seq g (optional alias))))
 
-with_alias_below : {f g : The (Built Expr)} → Below f g → Below (with_alias f) (with_alias g)
+with_alias_below : {f g : The (Built Expr)} → Below P f g → Below P (with_alias f) (with_alias g)
 with_alias_below l = below_map (λ p. t.value_item p.0 p.1) (below_seq l (itself (optional alias)))
 
 abbrev other_firsts : The (Built Expr)
@@ -197,7 +187,7 @@ abbrev by_others : The (Built Expr)
 by_others = alt (going_on other_firsts) going_on_by_and
 
 -- an expression begins with a name, or otherwise
-expr_by_first : Below (ref expr) (alt (going_on named_first) by_others)
+expr_by_first : Below P (ref expr) (alt (going_on named_first) by_others)
 expr_by_first =
     through (of_alike expr_parts)
     (either (at_second (going_on named_first) (at_second (going_on other_firsts) (itself going_on_by_and)))
@@ -209,13 +199,13 @@ expr_by_first =
     (at_first by_others (itself (going_on named_first)))))))
     (at_second (going_on named_first) (at_first going_on_by_and (go_on_below (at_second minus (at_second literal (itself enclosed_first))))))))
 
-value_planned : Below (with_alias (ref expr)) (alt by_name others)
+value_planned : Below P (with_alias (ref expr)) (alt by_name others)
 value_planned =
     through (with_alias_below expr_by_first)
     (through (with_alias_either (going_on named_first) by_others)
     (below_alt named_planned (itself others)))
 
-pub item_below : Below (rules item) (plan item)
+pub item_below : Below P (rules item) (plan item)
 item_below =
     either (at_first (alt by_name others) (itself (map t.star_item (a k.Star))))
     (either (at_second (map t.star_item (a k.Star)) (at_first others star_planned))

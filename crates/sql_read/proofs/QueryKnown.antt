@@ -14,7 +14,7 @@ use Rattle.sql_read.specs.Numbering.{Numbers}
 use Rattle.sql_read.specs.Queries.{Spells}
 use Rattle.sql_read.specs.QueryGrammar.{Production, rules, query, part, operand, block, item, from, entry, reference, expr, conj, neg, test, rest, value, term, unary, primary, agg, set_tail, and_tail, expr_tail, inner, in_inner, commas}
 use Rattle.grammar.specs.Form.{empty}
-use Rattle.sql_read.proofs.QueryPlan.{plan}
+use Rattle.sql_read.specs.QueryPlan.{plan}
 use Rattle.sql_read.specs.QueryLookahead.{table}
 use Rattle.sql_read.proofs.QueryTable.{planned}
 use Rattle.sql_read.proofs.QueryInside.{P, fl, closes}
@@ -24,7 +24,7 @@ use Rattle.sql_read.proofs.QueryFirsts.{reference_below, agg_below, primary_belo
 use Rattle.sql_read.proofs.QueryRests.{rest_below}
 use Rattle.sql_read.proofs.QueryItems.{item_below}
 
-rules_below : (p : Production) → Below (rules p) (plan p)
+rules_below : (p : Production) → Below P (rules p) (plan p)
 rules_below item = item_below
 rules_below reference = reference_below
 rules_below rest = rest_below

@@ -11,7 +11,7 @@ use Rattle.sql_read.specs.Numbering.{Built}
 use Rattle.sql_read.specs.QueryTrees as t
 use Rattle.sql_read.specs.QueryTrees.{Left, Enclosed, Inside, not_sub}
 use Rattle.sql_read.specs.QueryGrammar.{The, a, in_parentheses, parens, listed, commas, next_comma, insides, comparison, rules, query, operand, set_tail, expr, expr_tail, value, rest, inner, in_inner}
-use Rattle.sql_read.proofs.QueryPlan.{plan, after_query, after_expression, plan_of_insides, going_on, going_on_by_and, enclosed_first, by_word}
+use Rattle.sql_read.specs.QueryPlan.{plan, after_query, after_expression, plan_of_insides, going_on, going_on_by_and, enclosed_first, by_word}
 use Rattle.sql_read.proofs.QuerySplits as split
 use Rattle.sql_read.proofs.QueryInside.{P, fl, opens, closes, star_none, deeper_there, deeper_back, deeper_front, sorted, sets_identity, tail_identity}
 use Rattle.sql_read.proofs.QueryInsides.{kept, bare_first, expr_parts, counted_as, sorted_of, tail_of_expression, more_of_expression, expr_spells, expr_front, insides_included}
@@ -21,7 +21,7 @@ abbrev planned_list : The (Inside (List (Built Expr)))
 planned_list = plan_of_insides commas
 
 abbrev no_commas : (room : Room) → (fl room commas).spells [] []
-no_commas room = star_none room (Some 255) next_comma
+no_commas room = star_none P room (Some 255) next_comma
 
 -- ---- a list
 
@@ -206,8 +206,8 @@ module _ {A : Type 0} (f : The A) (test_ : A → Option Lexeme → Lexeme → Le
 
   in_parens_front : ((r : Room) (z : List Lexeme) → (fl r f).front z → (P r in_inner).front z) → (room : Room) (y : List Lexeme) → (fl room (parens f)).front y → (fl room (parens (ref in_inner))).front y
   in_parens_front g room y s =
-      (deeper_back (ref in_inner) room).front y
-      (deeper_front (λ r. fl r f) (λ r. P r in_inner) room g (λ r z v w. let i = m r z v w in (i.inside, i.spelled)) y ((deeper_there f room).front y s))
+      (deeper_back P (ref in_inner) room).front y
+      (deeper_front (λ r. fl r f) (λ r. P r in_inner) room g (λ r z v w. let i = m r z v w in (i.inside, i.spelled)) y ((deeper_there P f room).front y s))
 
 abbrev query_test : Built Query → Option Lexeme → Lexeme → Left → Built Expr
 query_test q word in_word left = t.in_query word in_word q left
@@ -215,7 +215,7 @@ query_test q word in_word left = t.in_query word in_word q left
 abbrev list_test : Built Expr × List (Built Expr) → Option Lexeme → Lexeme → Left → Built Expr
 list_test p word in_word left = t.in_list word p left
 
-in_query_planned : Below in_a_query in_planned
+in_query_planned : Below P in_a_query in_planned
 in_query_planned = record { holds = λ room. record { spells = spells room; front = front room } }
   where
     spells : (room : Room) (ts : List Lexeme) (v : Option Lexeme → Left → Built Expr) → (fl room in_a_query).spells ts v → (fl room in_planned).spells ts v
@@ -227,7 +227,7 @@ in_query_planned = record { holds = λ room. record { spells = spells room; fron
     front room ts (inl o) = inl o
     front room ts (inr (x, y, w, e, o, s)) = inr (x, y, w, e, o, in_parens_front (ref query) query_test query_inner query_inner_front room y s)
 
-in_list_planned : Below in_a_list in_planned
+in_list_planned : Below P in_a_list in_planned
 in_list_planned = record { holds = λ room. record { spells = spells room; front = front room } }
   where
     spells : (room : Room) (ts : List Lexeme) (v : Option Lexeme → Left → Built Expr) → (fl room in_a_list).spells ts v → (fl room in_planned).spells ts v
@@ -247,11 +247,11 @@ not_by_word = map (λ p. p.1 (Some p.0)) (seq (a k.Not) by_word)
 abbrev by_word_alone : The (Left → Built Expr)
 by_word_alone = map (λ f. f None) by_word
 
-module _ {A : Type 0} (f : The A) (h : Option Lexeme → A → Left → Built Expr) (m : Below (map (λ x word left. h word x left) f) by_word) where
+module _ {A : Type 0} (f : The A) (h : Option Lexeme → A → Left → Built Expr) (m : Below P (map (λ x word left. h word x left) f) by_word) where
   abbrev given : The (Left → Built Expr)
   given = map (λ p left. h p.0 p.1 left) (seq (optional (a k.Not)) f)
 
-  perhaps_not : Below given (alt not_by_word by_word_alone)
+  perhaps_not : Below P given (alt not_by_word by_word_alone)
   perhaps_not = record { holds = λ room. record { spells = spells room; front = front room } }
     where
       spells : (room : Room) (ts : List Lexeme) (v : Left → Built Expr) → (fl room given).spells ts v → (fl room (alt not_by_word by_word_alone)).spells ts v
@@ -276,7 +276,7 @@ between_words = map (λ p word left. t.between word p.0 p.1 left) (skip_then (a 
 abbrev like_words : The (Option Lexeme → Left → Built Expr)
 like_words = map (λ x word left. t.like word x left) (skip_then (a k.Like) (ref value))
 
-pub rest_below : Below (rules rest) (plan rest)
+pub rest_below : Below P (rules rest) (plan rest)
 rest_below =
     either (at_first (alt not_by_word by_word_alone) (itself comparison))
     (either (at_second comparison (perhaps_not (seq (a k.In) (parens (ref query))) (λ word p left. t.in_query word p.0 p.1 left) (at_first (alt between_words like_words) in_query_planned)))

@@ -11,7 +11,7 @@ use Rattle.sql_read.specs.Numbering.{Built}
 use Rattle.sql_read.specs.QueryTrees as t
 use Rattle.sql_read.specs.QueryTrees.{Left, SetWord}
 use Rattle.sql_read.specs.QueryGrammar.{Production, Read, The, rules, intersects, unions, products, sums, ands, ors, not_neg, exists, query, part, operand, item, reference, expr, conj, neg, test, rest, value, term, unary, primary, agg, set_tail, and_tail, expr_tail, inner, in_inner}
-use Rattle.sql_read.proofs.QueryPlan.{going_on, going_on_by_and}
+use Rattle.sql_read.specs.QueryPlan.{going_on, going_on_by_and}
 
 -- whether the plan has the grammar's own production of a name
 abbrev pub is_kept : Production → Bool

@@ -6,7 +6,7 @@ use Rattle.sql_read.specs.Kinds.{Kind, kind_of, every_kind}
 use Rattle.sql_read.specs.QueryGrammar.{Production, Read, query, part, operand, block, item, from, entry, reference, expr, conj, neg, test, rest, value, term, unary, primary, agg, set_tail, and_tail, expr_tail, inner, in_inner}
 use Rattle.sql_read.specs.QueryLookahead.{table}
 use Rattle.sql_read.proofs.EveryKind.{every_kind_is_there}
-use Rattle.sql_read.proofs.QueryPlan.{plan}
+use Rattle.sql_read.specs.QueryPlan.{plan}
 
 abbrev pub right : (p : Production) → is_right every_kind table plan p ≡ true
 right query = refl

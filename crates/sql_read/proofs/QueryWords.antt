@@ -1,55 +1,63 @@
 -- What begins with a name by the grammar, and first parts in parentheses, the plan reads.
 use Rattle.std.proofs.Common.{◌≡◌, Bool, true, false, not, ◌||◌, List, [], ◌∷◌, ◌⊎◌, inl, inr, refl}
 use Rattle.grammar.specs.Language.{Includes}
-use Rattle.grammar.specs.Form.{Room, token, seq, alt, nest, map}
+use Rattle.grammar.specs.Form.{Room, token, seq, alt, nest, map, counted, ref, form_language}
 use Rattle.grammar.proofs.Sets.{implied}
-use Rattle.grammar.proofs.Alike.{Alike, under_itself, under_through, under_map, under_seq, under_alt, under_nest, under_either, under_first, under_second, alt_seq, map_alt, applied}
+use Rattle.grammar.proofs.Alike.{Alike, under_itself, under_through, under_map, under_seq, under_alt, under_nest, under_counted, under_either, under_first, under_second, alt_seq, map_alt, applied}
 use Rattle.sql_lex.specs.Lexemes.{Lexeme}
 use Rattle.sql_model.specs.declared.tree.Expr.{Expr}
 use Rattle.sql_read.specs.Kinds as k
 use Rattle.sql_read.specs.Kinds.{Kind, kind_of, same, among}
 use Rattle.sql_read.specs.Numbering.{Built}
-use Rattle.sql_read.specs.QueryGrammar.{The, a, name, name_kinds, called_word, aggregate_word, parens}
+use Rattle.sql_read.specs.QueryGrammar.{The, a, name, name_kinds, called_word, aggregate_word, parens, expr_tail}
 use Rattle.sql_read.proofs.EveryKind.{every_kind_is_there}
-use Rattle.sql_read.proofs.QueryPlan.{arguments, one_argument, other_aggregate, count_arguments, word_with, words}
-use Rattle.sql_read.proofs.QueryInside.{P, fl}
+use Rattle.sql_read.specs.QueryPlan.{arguments, one_argument, other_aggregate, count_arguments, word_with, words, going_on}
+use Rattle.sql_read.proofs.QueryInside.{Names, P, fl}
 
 -- what f spells and begins, g does
-pub record Below {A : Type 0} (f g : The A) : Type 0 where
-  pub holds : (room : Room) → Includes (fl room g) (fl room f)
+pub record Below (E : Names) {A : Type 0} (f g : The A) : Type 0 where
+  pub holds : (room : Room) → Includes (form_language kind_of E room g) (form_language kind_of E room f)
 
-pub of_alike : {A : Type 0} {f g : The A} → Alike kind_of P f g → Below f g
-of_alike l = record { holds = l.there }
+module _ {E : Names} where
+  pub of_alike : {A : Type 0} {f g : The A} → Alike kind_of E f g → Below E f g
+  of_alike l = record { holds = l.there }
 
-pub to_alike : {A : Type 0} {f g : The A} → Alike kind_of P f g → Below g f
-to_alike l = record { holds = l.back }
+  pub to_alike : {A : Type 0} {f g : The A} → Alike kind_of E f g → Below E g f
+  to_alike l = record { holds = l.back }
 
-pub through : {A : Type 0} {f g h : The A} → Below f g → Below g h → Below f h
-through {f = f} {g = g} {h = h} l m = record { holds = under_through kind_of P f g h l.holds m.holds }
+  pub through : {A : Type 0} {f g h : The A} → Below E f g → Below E g h → Below E f h
+  through {f = f} {g = g} {h = h} l m = record { holds = under_through kind_of E f g h l.holds m.holds }
 
-pub itself : {A : Type 0} (f : The A) → Below f f
-itself f = record { holds = under_itself kind_of P f }
+  pub itself : {A : Type 0} (f : The A) → Below E f f
+  itself f = record { holds = under_itself kind_of E f }
 
-pub below_map : {A B : Type 0} {f g : The A} (h : A → B) → Below f g → Below (map h f) (map h g)
-below_map {f = f} {g = g} h l = record { holds = under_map kind_of P h f g l.holds }
+  pub below_map : {A B : Type 0} {f g : The A} (h : A → B) → Below E f g → Below E (map h f) (map h g)
+  below_map {f = f} {g = g} h l = record { holds = under_map kind_of E h f g l.holds }
 
-pub below_seq : {A B : Type 0} {f f' : The A} {g g' : The B} → Below f f' → Below g g' → Below (seq f g) (seq f' g')
-below_seq {f = f} {f' = f'} {g = g} {g' = g'} l m = record { holds = under_seq kind_of P f f' g g' l.holds m.holds }
+  pub below_seq : {A B : Type 0} {f f' : The A} {g g' : The B} → Below E f f' → Below E g g' → Below E (seq f g) (seq f' g')
+  below_seq {f = f} {f' = f'} {g = g} {g' = g'} l m = record { holds = under_seq kind_of E f f' g g' l.holds m.holds }
 
-pub below_alt : {A : Type 0} {f f' g g' : The A} → Below f f' → Below g g' → Below (alt f g) (alt f' g')
-below_alt {f = f} {f' = f'} {g = g} {g' = g'} l m = record { holds = under_alt kind_of P f f' g g' l.holds m.holds }
+  pub below_alt : {A : Type 0} {f f' g g' : The A} → Below E f f' → Below E g g' → Below E (alt f g) (alt f' g')
+  below_alt {f = f} {f' = f'} {g = g} {g' = g'} l m = record { holds = under_alt kind_of E f f' g g' l.holds m.holds }
 
-pub below_nest : {A : Type 0} {f g : The A} → Below f g → Below (nest f) (nest g)
-below_nest {f = f} {g = g} l = record { holds = under_nest kind_of P f g l.holds }
+  pub below_nest : {A : Type 0} {f g : The A} → Below E f g → Below E (nest f) (nest g)
+  below_nest {f = f} {g = g} l = record { holds = under_nest kind_of E f g l.holds }
 
-pub either : {A : Type 0} {f g h : The A} → Below f h → Below g h → Below (alt f g) h
-either {f = f} {g = g} {h = h} l m = record { holds = under_either kind_of P f g h l.holds m.holds }
+  pub below_counted : {A : Type 0} {f g : The A} → Below E f g → Below E (counted f) (counted g)
+  below_counted {f = f} {g = g} l = record { holds = under_counted kind_of E f g l.holds }
 
-pub at_first : {A : Type 0} {f g : The A} (h : The A) → Below f g → Below f (alt g h)
-at_first {f = f} {g = g} h l = record { holds = under_through kind_of P f g (alt g h) l.holds (under_first kind_of P g h) }
+  -- a first part and what follows it
+  pub go_on_below : {f g : The (Built Expr)} → Below E f g → Below E (going_on f) (going_on g)
+  go_on_below l = below_map (λ p. p.1 p.0) (below_seq (below_counted l) (itself (ref expr_tail)))
 
-pub at_second : {A : Type 0} {f h : The A} (g : The A) → Below f h → Below f (alt g h)
-at_second {f = f} {h = h} g l = record { holds = under_through kind_of P f h (alt g h) l.holds (under_second kind_of P g h) }
+  pub either : {A : Type 0} {f g h : The A} → Below E f h → Below E g h → Below E (alt f g) h
+  either {f = f} {g = g} {h = h} l m = record { holds = under_either kind_of E f g h l.holds m.holds }
+
+  pub at_first : {A : Type 0} {f g : The A} (h : The A) → Below E f g → Below E f (alt g h)
+  at_first {f = f} {g = g} h l = record { holds = under_through kind_of E f g (alt g h) l.holds (under_first kind_of E g h) }
+
+  pub at_second : {A : Type 0} {f h : The A} (g : The A) → Below E f h → Below E f (alt g h)
+  at_second {f = f} {h = h} g l = record { holds = under_through kind_of E f h (alt g h) l.holds (under_second kind_of E g h) }
 
 -- ---- kinds of names
 
@@ -67,7 +75,7 @@ aggregate_by_kind : (kind : Kind) → among (k.Count ∷ k.Sum ∷ k.Avg ∷ k.M
 aggregate_by_kind kind e = e
 
 -- a token of either set
-token_parts : (p q r : Kind → Bool) → ((kind : Kind) → p kind ≡ true → (q kind || r kind) ≡ true) → Below (token p) (alt (token q) (token r))
+token_parts : (p q r : Kind → Bool) → ((kind : Kind) → p kind ≡ true → (q kind || r kind) ≡ true) → Below P (token p) (alt (token q) (token r))
 token_parts p q r m = record { holds = λ room. record { spells = spells room; front = front room } }
   where
     spells : (room : Room) (ts : List Lexeme) (v : Lexeme) → (fl room (token p)).spells ts v → (fl room (alt (token q) (token r))).spells ts v
@@ -83,14 +91,14 @@ after_quoted kind = among (k.Word ∷ k.Key ∷ k.View ∷ k.Index ∷ []) kind 
 abbrev aggregates : Kind → Bool
 aggregates kind = same k.Count kind || among (k.Sum ∷ k.Avg ∷ k.Min ∷ k.Max ∷ []) kind
 
-pub name_parts : Below name (alt (a k.Quoted) (alt called_word (alt (a k.Count) other_aggregate)))
+pub name_parts : Below P name (alt (a k.Quoted) (alt called_word (alt (a k.Count) other_aggregate)))
 name_parts =
     through (token_parts (among name_kinds) (same k.Quoted) after_quoted name_by_kind)
     (below_alt (itself (a k.Quoted))
     (through (token_parts after_quoted (among (k.Word ∷ k.Key ∷ k.View ∷ k.Index ∷ [])) aggregates (λ kind e. e))
     (below_alt (itself called_word) (token_parts aggregates (same k.Count) (among (k.Sum ∷ k.Avg ∷ k.Min ∷ k.Max ∷ [])) (λ kind e. e)))))
 
-pub aggregate_parts : Below aggregate_word (alt (a k.Count) other_aggregate)
+pub aggregate_parts : Below P aggregate_word (alt (a k.Count) other_aggregate)
 aggregate_parts = token_parts (among (k.Count ∷ k.Sum ∷ k.Avg ∷ k.Min ∷ k.Max ∷ [])) (same k.Count) (among (k.Sum ∷ k.Avg ∷ k.Min ∷ k.Max ∷ [])) aggregate_by_kind
 
 -- ---- words
@@ -100,12 +108,12 @@ module _ {D X : Type 0} (dot : The D) (named : Lexeme → D → X) (called : Bui
   abbrev pub with_dot : The Lexeme → The X
   with_dot word = map (λ (p : Lexeme × D). named p.0 p.1) (seq word dot)
 
-  word_named : (word : The Lexeme) (args : The (Lexeme → Built Expr)) → Below (with_dot word) (word_with word args dot named called)
+  word_named : (word : The Lexeme) (args : The (Lexeme → Built Expr)) → Below P (with_dot word) (word_with word args dot named called)
   word_named word args =
       through (to_alike (applied kind_of P (λ d w. named w d) word dot))
       (below_map (λ (p : Lexeme × (Lexeme → X)). p.1 p.0) (below_seq (itself word) (at_first (map (λ f w. called (f w)) args) (itself (map (λ d w. named w d) dot)))))
 
-  pub word_called : (word : The Lexeme) (args : The (Lexeme → Built Expr)) → Below (map (λ (p : Lexeme × (Lexeme → Built Expr)). called (p.1 p.0)) (seq word args)) (word_with word args dot named called)
+  pub word_called : (word : The Lexeme) (args : The (Lexeme → Built Expr)) → Below P (map (λ (p : Lexeme × (Lexeme → Built Expr)). called (p.1 p.0)) (seq word args)) (word_with word args dot named called)
   word_called word args =
       through (to_alike (applied kind_of P (λ f w. called (f w)) word args))
       (below_map (λ (p : Lexeme × (Lexeme → X)). p.1 p.0) (below_seq (itself word) (at_second (map (λ d w. named w d) dot) (itself (map (λ f w. called (f w)) args)))))
@@ -113,13 +121,13 @@ module _ {D X : Type 0} (dot : The D) (named : Lexeme → D → X) (called : Bui
   abbrev all_words : The X
   all_words = words dot named called
 
-  part_named : (f g : The Lexeme) → Below (with_dot (alt f g)) (alt (with_dot f) (with_dot g))
+  part_named : (f g : The Lexeme) → Below P (with_dot (alt f g)) (alt (with_dot f) (with_dot g))
   part_named f g =
       through (below_map (λ (p : Lexeme × D). named p.0 p.1) (of_alike (alt_seq kind_of P f g dot)))
       (of_alike (map_alt kind_of P (λ (p : Lexeme × D). named p.0 p.1) (seq f dot) (seq g dot)))
 
   -- each name
-  pub any_named : Below (with_dot name) all_words
+  pub any_named : Below P (with_dot name) all_words
   any_named =
       through (below_map (λ (p : Lexeme × D). named p.0 p.1) (below_seq name_parts (itself dot)))
       (through (part_named (a k.Quoted) (alt called_word (alt (a k.Count) other_aggregate)))
@@ -132,11 +140,11 @@ module _ {D X : Type 0} (dot : The D) (named : Lexeme → D → X) (called : Bui
   abbrev quoted_part : The X
   quoted_part = with_dot (a k.Quoted)
 
-  pub any_called : Below (map (λ (p : Lexeme × (Lexeme → Built Expr)). called (p.1 p.0)) (seq called_word arguments)) all_words
+  pub any_called : Below P (map (λ (p : Lexeme × (Lexeme → Built Expr)). called (p.1 p.0)) (seq called_word arguments)) all_words
   any_called = at_second quoted_part (at_first _ (word_called called_word arguments))
 
-  pub any_count : Below (map (λ (p : Lexeme × (Lexeme → Built Expr)). called (p.1 p.0)) (seq (a k.Count) count_arguments)) all_words
+  pub any_count : Below P (map (λ (p : Lexeme × (Lexeme → Built Expr)). called (p.1 p.0)) (seq (a k.Count) count_arguments)) all_words
   any_count = at_second quoted_part (at_second _ (at_first _ (word_called (a k.Count) count_arguments)))
 
-  pub any_aggregate : Below (map (λ (p : Lexeme × (Lexeme → Built Expr)). called (p.1 p.0)) (seq other_aggregate (parens one_argument))) all_words
+  pub any_aggregate : Below P (map (λ (p : Lexeme × (Lexeme → Built Expr)). called (p.1 p.0)) (seq other_aggregate (parens one_argument))) all_words
   any_aggregate = at_second quoted_part (at_second _ (at_second _ (word_called other_aggregate (parens one_argument))))

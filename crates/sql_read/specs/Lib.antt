@@ -15,4 +15,5 @@ pub mod QueryTrees
 pub mod QueryGrammar
 pub mod Queries
 pub mod QuerySamples
+pub mod QueryPlan
 pub mod QueryLookahead
