@@ -25,3 +25,8 @@ pub mod QueryKnown
 pub mod NoSubqueries
 pub mod PlanInsides
 pub mod PlanWords
+pub mod PlanParens
+pub mod PlanOfInsides
+pub mod PlanRests
+pub mod PlanItems
+pub mod PlanKnown

@@ -1,5 +1,5 @@
 -- What the plan reads in parentheses may stand there by the grammar.
-use Rattle.std.proofs.Common.{◌≡◌, ℕ, true, List, [], ◌++◌, length, inl, inr, refl, sym, ◌∙◌, ap, subst, Option, Some, None, arith}
+use Rattle.std.proofs.Common.{◌≡◌, ℕ, true, List, [], ◌++◌, length, inl, inr, refl, sym, ◌∙◌, ap, subst, append_assoc, Option, Some, None, arith}
 use Rattle.grammar.specs.Language.{Language, Includes}
 use Rattle.grammar.specs.Form.{Room, star, ref, form_language, language}
 use Rattle.grammar.specs.Productions.{optional}
@@ -36,7 +36,7 @@ own p e = record { there = λ room. opens room p; back = λ room. closes room p 
 
 -- ---- tails
 
-star_empty : {A : Type 0} (room : Room) (most : Option ℕ) (f : The A) (ts : List Lexeme) → (gl room (star most f)).spells ts [] → ts ≡ []
+pub star_empty : {A : Type 0} (room : Room) (most : Option ℕ) (f : The A) (ts : List Lexeme) → (gl room (star most f)).spells ts [] → ts ≡ []
 star_empty None most f ts s = s
 star_empty (Some levels) None f ts s = s
 star_empty (Some levels) (Some most) f ts s = s.0
@@ -101,6 +101,13 @@ pub first_and_tail : (room : Room) (x b : List Lexeme) (w : Built Expr) (f : Lef
 first_and_tail room x b w f s r =
     ((split.expr_split G own).back room).spells (x ++ b) (f (w, length x))
     (inr (((w, length x), f), (x, b, refl, ((closes room unary).spells x w (inr s), refl), r), refl))
+
+-- with the number of tokens that was read of the first part
+pub tailed : (room : Room) (x b : List Lexeme) (w : Built Expr) (n : ℕ) (f : Left → Built Expr) → n ≡ length x → (G room primary).spells x w → (G room expr_tail).spells b f → (G room expr).spells (x ++ b) (f (w, n))
+tailed room x b w n f c s r = subst (λ z. (G room expr).spells (x ++ b) (f (w, z))) (sym c) (first_and_tail room x b w f s r)
+
+pub joined_at : (ts x y a b : List Lexeme) → ts ≡ x ++ y → y ≡ a ++ b → ts ≡ (x ++ a) ++ b
+joined_at ts x y a b e f = e ∙ (ap (λ z. x ++ z) f ∙ sym (append_assoc x a b))
 
 pub first_and_front : (room : Room) (x b : List Lexeme) (w : Built Expr) → (G room primary).spells x w → (G room expr_tail).front b → (G room expr).front (x ++ b)
 first_and_front room x b w s r =

@@ -1,10 +1,8 @@
 -- What the plan reads of a name, and what it reads behind a word, stands so in the grammar.
 use Rattle.std.proofs.Common.{◌≡◌, Bool, true, not, ◌||◌, List, [], ◌∷◌, ◌++◌, inl, inr, refl, sym, ◌∙◌, ap, subst, append_assoc, Option, Some, None}
 use Rattle.std.proofs.lemmas.List.{append-nil}
-use Rattle.grammar.specs.Language.{Includes}
 use Rattle.grammar.specs.Form.{Room, token, seq, alt, map, ref}
-use Rattle.grammar.proofs.Forms.{includes_through}
-use Rattle.grammar.proofs.Sets.{implied, or_left}
+use Rattle.grammar.proofs.Sets.{implied, or_left, or_right}
 use Rattle.grammar.specs.Productions.{then_skip, optional}
 use Rattle.grammar.proofs.Alike as alike
 use Rattle.grammar.proofs.Alike.{Alike}
@@ -15,8 +13,9 @@ use Rattle.sql_read.specs.Kinds.{Kind, kind_of, same, among}
 use Rattle.sql_read.proofs.EveryKind.{every_kind_is_there}
 use Rattle.sql_read.specs.Numbering.{Built, plain}
 use Rattle.sql_read.specs.QueryTrees as t
-use Rattle.sql_read.specs.QueryGrammar.{The, a, name, called_word, in_parentheses, parens, listed, call, name_kinds, rules, reference, primary, agg, expr}
-use Rattle.sql_read.specs.QueryPlan.{column_of, word_with, dot_name, arguments, one_argument, count_arguments}
+use Rattle.sql_read.specs.QueryGrammar.{Production, The, a, name, called_word, in_parentheses, parens, listed, call, name_kinds, rules, reference, primary, agg, expr}
+use Rattle.sql_read.specs.QueryPlan.{plan, column_of, named_first, word_with, dot_name, arguments, one_argument, other_aggregate, count_arguments}
+use Rattle.sql_read.proofs.QueryWords.{Below, of_alike, through, itself, below_map, below_seq, below_alt, either, at_second}
 use Rattle.sql_read.proofs.PlanInsides.{G, gl, closes}
 
 abbrev Same : {A : Type 0} → The A → The A → Type 0
@@ -68,7 +67,7 @@ dotted_front room ts (inr (x, y, w, e, (i, q), inr d)) = inl (inl (inl (inr (w, 
 -- ---- arguments
 
 -- either of two in parentheses
-parens_alt : {A : Type 0} (f g : The A) → Same (parens (alt f g)) (alt (parens f) (parens g))
+pub parens_alt : {A : Type 0} (f g : The A) → Same (parens (alt f g)) (alt (parens f) (parens g))
 parens_alt {A = A} f g =
     alike.chain kind_of G (alike.alike_map kind_of G _ _ (alike.alike_nest kind_of G _ _ (alike.alike_second kind_of G _ _ closed_alt (a k.Open))) second)
     (alike.chain kind_of G (alike.alike_map kind_of G _ _ (alike.alike_nest kind_of G _ _ (alike.seq_alt kind_of G (then_skip f (a k.Close)) (then_skip g (a k.Close)) (a k.Open))) second)
@@ -121,16 +120,16 @@ call_part = alike.applied kind_of G (λ args word. t.call word args) called_word
 
 -- ---- first parts that begin with a name
 
-quoted_name : (kind : Kind) → same k.Quoted kind ≡ true → among name_kinds kind ≡ true
+pub quoted_name : (kind : Kind) → same k.Quoted kind ≡ true → among name_kinds kind ≡ true
 quoted_name kind e = implied (same k.Quoted kind) (among name_kinds kind) (every_kind_is_there (λ x. not (same k.Quoted x) || among name_kinds x) refl kind) e
 
-called_name : (kind : Kind) → among (k.Word ∷ k.Key ∷ k.View ∷ k.Index ∷ []) kind ≡ true → among name_kinds kind ≡ true
+pub called_name : (kind : Kind) → among (k.Word ∷ k.Key ∷ k.View ∷ k.Index ∷ []) kind ≡ true → among name_kinds kind ≡ true
 called_name kind e = implied _ (among name_kinds kind) (every_kind_is_there (λ x. not (among (k.Word ∷ k.Key ∷ k.View ∷ k.Index ∷ []) x) || among name_kinds x) refl kind) e
 
-count_name : (kind : Kind) → same k.Count kind ≡ true → among name_kinds kind ≡ true
+pub count_name : (kind : Kind) → same k.Count kind ≡ true → among name_kinds kind ≡ true
 count_name kind e = implied (same k.Count kind) (among name_kinds kind) (every_kind_is_there (λ x. not (same k.Count x) || among name_kinds x) refl kind) e
 
-other_name : (kind : Kind) → among (k.Sum ∷ k.Avg ∷ k.Min ∷ k.Max ∷ []) kind ≡ true → among name_kinds kind ≡ true
+pub other_name : (kind : Kind) → among (k.Sum ∷ k.Avg ∷ k.Min ∷ k.Max ∷ []) kind ≡ true → among name_kinds kind ≡ true
 other_name kind e = implied _ (among name_kinds kind) (every_kind_is_there (λ x. not (among (k.Sum ∷ k.Avg ∷ k.Min ∷ k.Max ∷ []) x) || among name_kinds x) refl kind) e
 
 column_is : (w : Lexeme) (o : Option Lexeme) → column_of w o ≡ plain (column_or w o)
@@ -149,52 +148,73 @@ module _ (p : Kind → Bool) (in_names : (kind : Kind) → p kind ≡ true → a
   named_token room ts (inl (inr (w, e, q))) = inl (inr (w, e, in_names (kind_of w) q))
   named_token room ts (inr (x, y, w, e, (n, q), d)) = inr (x, y, w, e, (n, in_names (kind_of w) q), d)
 
-  pub dotted_first : (room : Room) → Includes (gl room (rules primary)) (gl room (map (λ u. column_of u.0 u.1) (seq (token p) dot_name)))
-  dotted_first room = record {
-    spells = λ ts v s. dotted_spells room ts v s.0.0 s.0.1 s.1.0 s.1.1 s.1.2 s.1.3 s.1.4 s.2;
-    front = λ ts f. inr (inr (inl ((closes room reference).front ts (dotted_front room ts (named_token room ts f)))));
+  dotted_first : Below G (map (λ u. column_of u.0 u.1) (seq (token p) dot_name)) (rules primary)
+  dotted_first = record {
+    holds = λ room. record {
+      spells = λ ts v s. dotted_spells room ts v s.0.0 s.0.1 s.1.0 s.1.1 s.1.2 s.1.3 s.1.4 s.2;
+      front = λ ts f. inr (inr (inl ((closes room reference).front ts (dotted_front room ts (named_token room ts f)))));
+    };
   }
 
   -- or with arguments
-  pub word_first : (args : The (Lexeme → Built Expr)) (room : Room) → Includes (gl room (rules primary)) (gl room (map applied_to (seq (token p) args)))
-      → Includes (gl room (rules primary)) (gl room (word_with (token p) args dot_name column_of (λ x. x)))
-  word_first args room m = record { spells = spells; front = front }
+  word_first : (args : The (Lexeme → Built Expr)) → Below G (map applied_to (seq (token p) args)) (rules primary) → Below G (word_with (token p) args dot_name column_of (λ x. x)) (rules primary)
+  word_first args m = record { holds = λ room. record { spells = spells room; front = front room } }
     where
-      spells : (ts : List Lexeme) (v : Built Expr) → (gl room (word_with (token p) args dot_name column_of (λ x. x))).spells ts v → (gl room (rules primary)).spells ts v
-      spells ts v (u, (x, y, e, w, inl (o, d, l)), i) = dotted_spells room ts v u.0 o x y e w d (i ∙ ap (λ g. g u.0) l)
-      spells ts v (u, (x, y, e, w, inr (g, r, l)), i) = m.spells ts v ((u.0, g), (x, y, e, w, r), i ∙ ap (λ f. f u.0) l)
+      spells : (room : Room) (ts : List Lexeme) (v : Built Expr) → (gl room (word_with (token p) args dot_name column_of (λ x. x))).spells ts v → (gl room (rules primary)).spells ts v
+      spells room ts v (u, (x, y, e, w, inl (o, d, l)), i) = dotted_spells room ts v u.0 o x y e w d (i ∙ ap (λ g. g u.0) l)
+      spells room ts v (u, (x, y, e, w, inr (g, r, l)), i) = (m.holds room).spells ts v ((u.0, g), (x, y, e, w, r), i ∙ ap (λ f. f u.0) l)
 
-      front : (ts : List Lexeme) → (gl room (word_with (token p) args dot_name column_of (λ x. x))).front ts → (gl room (rules primary)).front ts
-      front ts (inl w) = (dotted_first room).front ts (inl w)
-      front ts (inr (x, y, u, e, w, inl d)) = (dotted_first room).front ts (inr (x, y, u, e, w, d))
-      front ts (inr (x, y, u, e, w, inr r)) = m.front ts (inr (x, y, u, e, w, r))
+      front : (room : Room) (ts : List Lexeme) → (gl room (word_with (token p) args dot_name column_of (λ x. x))).front ts → (gl room (rules primary)).front ts
+      front room ts (inl w) = (dotted_first.holds room).front ts (inl w)
+      front room ts (inr (x, y, u, e, w, inl d)) = (dotted_first.holds room).front ts (inr (x, y, u, e, w, d))
+      front room ts (inr (x, y, u, e, w, inr r)) = (m.holds room).front ts (inr (x, y, u, e, w, r))
 
--- an aggregate as a first part
-agg_first : (room : Room) → Includes (gl room (rules primary)) (gl room (rules agg))
-agg_first room = record {
-  spells = λ ts v s. inr (inr (inr (inl ((closes room agg).spells ts v s))));
-  front = λ ts f. inr (inr (inr (inl ((closes room agg).front ts f))));
-}
-
-count_first : (room : Room) → Includes (gl room (rules primary)) (gl room (map applied_to (seq (a k.Count) count_arguments)))
-count_first room =
-    includes_through _ (gl room (rules agg)) _ (record { spells = spells; front = front }) (agg_first room)
+-- more kinds
+pub token_below : (p q : Kind → Bool) → ((kind : Kind) → p kind ≡ true → q kind ≡ true) → Below G (token p) (token q)
+token_below p q m = record { holds = λ room. record { spells = λ ts v s. (s.0, m (kind_of v) s.1); front = front room } }
   where
-    aggregate_kind : (kind : Kind) → same k.Count kind ≡ true → among (k.Count ∷ k.Sum ∷ k.Avg ∷ k.Min ∷ k.Max ∷ []) kind ≡ true
-    aggregate_kind kind e = or_left _ _ e
+    front : (room : Room) (ts : List Lexeme) → (gl room (token p)).front ts → (gl room (token q)).front ts
+    front room ts (inl e) = inl e
+    front room ts (inr (w, e, s)) = inr (w, e, m (kind_of w) s)
 
-    spells : (ts : List Lexeme) (v : Built Expr) → (gl room (map applied_to (seq (a k.Count) count_arguments))).spells ts v → (gl room (rules agg)).spells ts v
-    spells ts v s = go ((count_parts.there room).spells ts v s)
-      where
-        go : (gl room (alt (map (λ p. t.count_rows p.0) (seq (a k.Count) (parens (a k.Star)))) (map aggregate_of (seq (a k.Count) (parens distinct_argument))))).spells ts v → (gl room (rules agg)).spells ts v
-        go (inl r) = inl r
-        go (inr (u, (x, y, e, (n, q), r), i)) = inr (u, (x, y, e, (n, aggregate_kind (kind_of u.0) q), r), i)
+-- what a name's production is stands for the name
+pub closed : (p : Production) → Below G (rules p) (ref p)
+closed p = record { holds = λ room. closes room p }
 
-    front : (ts : List Lexeme) → (gl room (map applied_to (seq (a k.Count) count_arguments))).front ts → (gl room (rules agg)).front ts
-    front ts s = go ((count_parts.there room).front ts s)
-      where
-        go : (gl room (alt (map (λ p. t.count_rows p.0) (seq (a k.Count) (parens (a k.Star)))) (map aggregate_of (seq (a k.Count) (parens distinct_argument))))).front ts → (gl room (rules agg)).front ts
-        go (inl r) = inl r
-        go (inr (inl (inl e))) = inr (inl (inl e))
-        go (inr (inl (inr (w, e, q)))) = inr (inl (inr (w, e, aggregate_kind (kind_of w) q)))
-        go (inr (inr (x, y, w, e, (n, q), r))) = inr (inr (x, y, w, e, (n, aggregate_kind (kind_of w) q), r))
+-- ---- aggregates and calls as first parts
+
+count_below : Below G (map applied_to (seq (a k.Count) count_arguments)) (rules agg)
+count_below =
+    through (of_alike count_parts)
+    (below_alt (itself (map (λ p. t.count_rows p.0) (seq (a k.Count) (parens (a k.Star)))))
+    (below_map aggregate_of (below_seq (token_below (same k.Count) (among (k.Count ∷ k.Sum ∷ k.Avg ∷ k.Min ∷ k.Max ∷ [])) (λ kind e. or_left _ _ e)) (itself (parens distinct_argument)))))
+
+other_below : Below G (map applied_to (seq other_aggregate (parens one_argument))) (rules agg)
+other_below =
+    through (of_alike (after_word other_aggregate))
+    (at_second (map (λ p. t.count_rows p.0) (seq (a k.Count) (parens (a k.Star))))
+    (below_map aggregate_of (below_seq (token_below (among (k.Sum ∷ k.Avg ∷ k.Min ∷ k.Max ∷ [])) (among (k.Count ∷ k.Sum ∷ k.Avg ∷ k.Min ∷ k.Max ∷ [])) (λ kind e. or_right _ _ e)) (itself (parens distinct_argument)))))
+
+pub agg_planned : Below G (plan agg) (rules agg)
+agg_planned = either count_below other_below
+
+pub reference_planned : Below G (plan reference) (rules reference)
+reference_planned = record { holds = λ room. record { spells = spells room; front = dotted_front room } }
+  where
+    spells : (room : Room) (ts : List Lexeme) (v : Expr) → (gl room (plan reference)).spells ts v → (gl room (rules reference)).spells ts v
+    spells room ts v ((w, None), (x, y, e, n, d), i) = subst ((gl room (rules reference)).spells ts) (sym i) (dotted_reference room ts x y w None e n d)
+    spells room ts v ((w, Some o), (x, y, e, n, d), i) = subst ((gl room (rules reference)).spells ts) (sym i) (dotted_reference room ts x y w (Some o) e n d)
+
+agg_first : Below G (rules agg) (rules primary)
+agg_first = record { holds = λ room. record { spells = λ ts v s. inr (inr (inr (inl ((closes room agg).spells ts v s)))); front = λ ts f. inr (inr (inr (inl ((closes room agg).front ts f)))) } }
+
+call_first : Below G call (rules primary)
+call_first = record { holds = λ room. record { spells = λ ts v s. inr (inr (inr (inr (inl s)))); front = λ ts f. inr (inr (inr (inr (inl f)))) } }
+
+-- what begins with a name
+pub named_first_planned : Below G named_first (rules primary)
+named_first_planned =
+    either (dotted_first (same k.Quoted) quoted_name)
+    (either (word_first (among (k.Word ∷ k.Key ∷ k.View ∷ k.Index ∷ [])) called_name arguments (through (of_alike call_part) call_first))
+    (either (word_first (same k.Count) count_name count_arguments (through count_below agg_first))
+    (word_first (among (k.Sum ∷ k.Avg ∷ k.Min ∷ k.Max ∷ [])) other_name (parens one_argument) (through other_below agg_first))))

@@ -15,12 +15,9 @@ use Rattle.sql_read.specs.QueryGrammar.{The, a, name, called_word, aggregate_wor
 use Rattle.sql_read.specs.QueryPlan.{plan, sort, literal, dot_name, one_argument, other_aggregate, count_arguments, column_of, named_first, enclosed_first}
 use Rattle.sql_read.proofs.QueryInside.{P, fl, opens, closes, deeper_there, deeper_back, deeper_spells, deeper_front, sorted}
 use Rattle.sql_read.proofs.QueryInsides.{insides_included, query_sorted, query_front}
-use Rattle.sql_read.proofs.QueryWords.{Below, of_alike, to_alike, through, itself, below_map, below_seq, below_alt, below_nest, either, at_first, at_second, aggregate_parts, with_dot, any_named, any_called, any_count, any_aggregate}
+use Rattle.sql_read.proofs.QueryWords.{Below, of_alike, to_alike, through, itself, below_map, below_seq, below_alt, parens_below, either, at_first, at_second, aggregate_parts, with_dot, any_named, any_called, any_count, any_aggregate}
 
 -- ---- parentheses
-
-pub parens_below : {A : Type 0} {f g : The A} → Below P f g → Below P (parens f) (parens g)
-parens_below l = below_map (λ p. p.1) (below_nest (below_seq (itself (a k.Open)) (below_map (λ p. p.0) (below_seq l (itself (a k.Close))))))
 
 -- another value for what stands in them
 pub parens_map : {A B : Type 0} (h : A → B) (f : The A) → Below P (map h (parens f)) (parens (map h f))

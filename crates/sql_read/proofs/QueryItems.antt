@@ -20,11 +20,11 @@ use Rattle.sql_read.proofs.QueryWords.{Below, of_alike, through, itself, below_m
 
 -- ---- names that may be followed by a point and a star
 
-abbrev starred_words : The Starred
+abbrev pub starred_words : The Starred
 starred_words = words dot_star_or_name star_or_column (λ x. inr x)
 
 -- what follows a name may follow it there too
-abbrev as_star : Option Lexeme → Option (Lexeme ⊎ Lexeme)
+abbrev pub as_star : Option Lexeme → Option (Lexeme ⊎ Lexeme)
 as_star None = None
 as_star (Some word) = Some (inr word)
 
@@ -39,11 +39,11 @@ dot_front room ts (inl (inl d)) = inl (inl d)
 dot_front room ts (inl (inr (x, y, w, e, d, n))) = inl (inr (x, y, w, e, d, inr n))
 dot_front room ts (inr e) = inr e
 
-same_column : (w : Lexeme) (o : Option Lexeme) → star_or_column w (as_star o) ≡ inr (column_of w o)
+pub same_column : (w : Lexeme) (o : Option Lexeme) → star_or_column w (as_star o) ≡ inr (column_of w o)
 same_column w None = refl
 same_column w (Some n) = refl
 
-abbrev right_of : Built Expr → Starred
+abbrev pub right_of : Built Expr → Starred
 right_of x = inr x
 
 -- a word with a name behind its point, or with arguments
@@ -75,7 +75,7 @@ quoted_starred = record { holds = λ room. record { spells = spells room; front 
     front room ts (inl w) = inl w
     front room ts (inr (x, y, u, e, w, d)) = inr (x, y, u, e, w, dot_front room y d)
 
-abbrev plain_word : The Lexeme → The (Lexeme → Built Expr) → The (Built Expr)
+abbrev pub plain_word : The Lexeme → The (Lexeme → Built Expr) → The (Built Expr)
 plain_word word args = word_with word args dot_name column_of (λ x. x)
 
 pub named_starred : Below P (map right_of named_first) starred_words
@@ -95,7 +95,7 @@ after_star = map (λ nothing qual. t.alias_star_item qual) empty
 abbrev after_left : The (Left → Built Item)
 after_left = map (λ p left. t.value_item (p.0 left) p.1) (seq (ref expr_tail) (optional alias))
 
-abbrev by_name : The (Built Item)
+abbrev pub by_name : The (Built Item)
 by_name = fork (map star_or_left (counted starred_words)) after_star after_left
 
 abbrev others : The (Built Item)
@@ -131,7 +131,7 @@ star_planned = record { holds = λ room. record { spells = spells room; front = 
         dotted ts (inr (x, y, w, e, n, inl d)) = inr (x, y, w, e, n, inl (inl d))
         dotted ts (inr (x, y, w, e, n, inr (x1, y1, c, e1, d, s))) = inr (x, y, w, e, n, inl (inr (x1, y1, c, e1, d, inl s)))
 
-abbrev with_alias : The (Built Expr) → The (Built Item)
+abbrev pub with_alias : The (Built Expr) → The (Built Item)
 with_alias f = map (λ p. t.value_item p.0 p.1) (seq f (optional alias))
 
 -- an expression that begins with a name

@@ -40,8 +40,11 @@ module _ {E : Names} where
   pub below_alt : {A : Type 0} {f f' g g' : The A} → Below E f f' → Below E g g' → Below E (alt f g) (alt f' g')
   below_alt {f = f} {f' = f'} {g = g} {g' = g'} l m = record { holds = under_alt kind_of E f f' g g' l.holds m.holds }
 
-  pub below_nest : {A : Type 0} {f g : The A} → Below E f g → Below E (nest f) (nest g)
+  below_nest : {A : Type 0} {f g : The A} → Below E f g → Below E (nest f) (nest g)
   below_nest {f = f} {g = g} l = record { holds = under_nest kind_of E f g l.holds }
+
+  pub parens_below : {A : Type 0} {f g : The A} → Below E f g → Below E (parens f) (parens g)
+  parens_below l = below_map (λ p. p.1) (below_nest (below_seq (itself (a k.Open)) (below_map (λ p. p.0) (below_seq l (itself (a k.Close))))))
 
   pub below_counted : {A : Type 0} {f g : The A} → Below E f g → Below E (counted f) (counted g)
   below_counted {f = f} {g = g} l = record { holds = under_counted kind_of E f g l.holds }

@@ -1,12 +1,13 @@
 -- The grammar of queries once more, so that one token always tells how to go on: names of the same languages, with other productions.
 use Rattle.std.proofs.Common.{ℕ, [], ◌∷◌, Option, Some, None, ◌⊎◌, inl, inr}
-use Rattle.grammar.specs.Form.{Rules, empty, seq, alt, map, nonempty, counted, fork, ref}
+use Rattle.grammar.specs.Language.{Language}
+use Rattle.grammar.specs.Form.{Room, language, Rules, empty, seq, alt, map, nonempty, counted, fork, ref}
 use Rattle.grammar.specs.Productions.{skip_then, optional}
 use Rattle.sql_model.specs.declared.tree.Expr.{Expr}
 use Rattle.sql_model.specs.declared.tree.Item.{Item}
 use Rattle.sql_lex.specs.Lexemes.{Lexeme}
 use Rattle.sql_read.specs.Kinds as k
-use Rattle.sql_read.specs.Kinds.{Kind}
+use Rattle.sql_read.specs.Kinds.{Kind, kind_of}
 use Rattle.sql_read.specs.Numbering.{Built, plain}
 use Rattle.sql_read.specs.QueryTrees as t
 use Rattle.sql_read.specs.QueryTrees.{Left, Enclosed, Inside}
@@ -168,3 +169,6 @@ plan unary = rules unary
 plan set_tail = rules set_tail
 plan and_tail = rules and_tail
 plan expr_tail = rules expr_tail
+
+abbrev pub of_plan : Room → (p : Production) → Language Lexeme (Read p)
+of_plan room p = language kind_of plan room p

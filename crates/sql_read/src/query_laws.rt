@@ -9,6 +9,7 @@ ghost use Rattle.sql_model.specs.declared.tree.Query.{Query};
 ghost use Rattle.sql_read.specs.Kinds.{kind_of};
 ghost use Rattle.sql_read.specs.Numbering.{Built, Numbers};
 ghost use Rattle.sql_read.specs.Queries.{Begins, IsTooDeep, Spells, of_production, queries, shallow_queries};
+ghost use Rattle.sql_read.specs.QueryPlan.{of_plan};
 ghost use Rattle.sql_read.specs.QueryLookahead.{table};
 ghost use Rattle.sql_read.specs.QueryGrammar.{Production, Read, query, rules};
 
@@ -39,6 +40,12 @@ pub fn one_query()
 /// One token of lookahead tells of each production what the table says.
 pub fn lookahead()
     ensures { (room : Room) (p : Production) → HasLookahead kind_of (of_production room p) (table p) }
+{}
+
+/// The plan spells and begins what the grammar does, each of its names, within the limits and without.
+pub fn same_languages()
+    ensures planned { (room : Room) (p : Production) → Includes (of_plan room p) (of_production room p) }
+    ensures known { (room : Room) (p : Production) → Includes (of_production room p) (of_plan room p) }
 {}
 
 /// A query that is computed from tokens is spelled by them.
