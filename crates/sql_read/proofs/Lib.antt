@@ -30,3 +30,4 @@ pub mod PlanOfInsides
 pub mod PlanRests
 pub mod PlanItems
 pub mod PlanKnown
+pub mod EntryLists

@@ -14,6 +14,7 @@ pub mod Numbering
 pub mod QueryTrees
 pub mod QueryGrammar
 pub mod Queries
+pub mod QueryEntries
 pub mod QuerySamples
 pub mod QueryPlan
 pub mod QueryLookahead

@@ -250,15 +250,19 @@ insides more =
     (alt (map (λ p. inr (inl p)) (seq (in_parentheses (ref query)) more))
     (map (λ p. inr (inr p)) (seq (only not_sub (ref expr)) more)))
 
+-- SELECT [DISTINCT] item {, item} FROM froms [WHERE expr] [GROUP BY ref {, ref}] [HAVING expr]
+abbrev pub block_with : The (Built (List Entry) × List (Built (List Entry))) → The (Built Query)
+block_with froms =
+    map (λ p. t.block_of p.0 p.1.0 p.1.1.0 p.1.1.1.0 p.1.1.1.1.0 p.1.1.1.1.1)
+    (skip_then (a k.Select) (seq (optional (a k.Distinct)) (seq (listed (ref item))
+    (seq (skip_then (a k.From) froms)
+    (seq (optional (skip_then (a k.Where) (ref expr))) (seq group_by (optional (skip_then (a k.Having) (ref expr)))))))))
+
 abbrev pub rules : Rules Lexeme Kind Production Read
 rules query = map (λ p. t.sets p.0 p.1) (seq (ref part) unions)
 rules part = map (λ p. t.sets p.0 p.1) (seq (ref operand) intersects)
 rules operand = alt (ref block) (parens (ref query))
-rules block =
-    map (λ p. t.block_of p.0 p.1.0 p.1.1.0 p.1.1.1.0 p.1.1.1.1.0 p.1.1.1.1.1)
-    (skip_then (a k.Select) (seq (optional (a k.Distinct)) (seq (listed (ref item))
-    (seq (skip_then (a k.From) (listed (ref from)))
-    (seq (optional (skip_then (a k.Where) (ref expr))) (seq group_by (optional (skip_then (a k.Having) (ref expr)))))))))
+rules block = block_with (listed (ref from))
 rules item =
     alt (map t.star_item (a k.Star))
     (alt (map t.alias_star_item (then_skip name (seq (a k.Dot) (a k.Star))))

@@ -9,6 +9,7 @@ ghost use Rattle.sql_model.specs.declared.tree.Query.{Query};
 ghost use Rattle.sql_read.specs.Kinds.{kind_of};
 ghost use Rattle.sql_read.specs.Numbering.{Built, Numbers};
 ghost use Rattle.sql_read.specs.Queries.{Begins, IsTooDeep, Spells, of_production, queries, shallow_queries};
+ghost use Rattle.sql_read.specs.QueryEntries.{IsEntryTooMany, few_queries};
 ghost use Rattle.sql_read.specs.QueryPlan.{of_plan};
 ghost use Rattle.sql_read.specs.QueryLookahead.{table};
 ghost use Rattle.sql_read.specs.QueryGrammar.{Production, Read, query, rules};
@@ -29,6 +30,16 @@ pub fn limits()
 /// The limits are passed at no more than one token of a text.
 pub fn passed_once()
     ensures { (x more y others : List Lexeme) (t u : Lexeme) → IsTooDeep x t → IsTooDeep y u → x ++ t ∷ more ≡ y ++ u ∷ others → (x ≡ y) × (t ≡ u) }
+{}
+
+/// Queries whose blocks have few enough entries are queries, and their fronts are fronts.
+pub fn few_entries()
+    ensures { Includes queries few_queries }
+{}
+
+/// An entry is too many for its block at no more than one token of a text.
+pub fn too_many_once()
+    ensures { (x more y others : List Lexeme) (t u : Lexeme) → IsEntryTooMany x t → IsEntryTooMany y u → x ++ t ∷ more ≡ y ++ u ∷ others → (x ≡ y) × (t ≡ u) }
 {}
 
 /// No list of tokens spells two queries, nor two values of any production.
