@@ -1,6 +1,6 @@
 -- The entries of a block in one list, and item by item.
-use Rattle.std.proofs.Common.{◌≡◌, ℕ, zero, suc, ◌≤◌, false, true, List, [], ◌∷◌, ◌++◌, length, inl, inr, refl, sym, ◌∙◌, ap, subst, append_assoc, Option, Some, None, arith}
-use Rattle.grammar.specs.Language.{Language, Includes, HasFronts}
+use Rattle.std.proofs.Common.{◌≡◌, ℕ, zero, suc, ◌≤◌, List, [], ◌∷◌, ◌++◌, length, inl, inr, refl, sym, ◌∙◌, ap, subst, append_assoc, Option, Some, None, arith}
+use Rattle.grammar.specs.Language.{Includes, HasFronts}
 use Rattle.grammar.specs.Form.{Room, seq, alt, star, map, ref, language}
 use Rattle.grammar.specs.Productions.{skip_then}
 use Rattle.grammar.proofs.Fronts.{one_before, star_from, star_to}

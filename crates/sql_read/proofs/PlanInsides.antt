@@ -1,5 +1,5 @@
 -- What the plan reads in parentheses may stand there by the grammar.
-use Rattle.std.proofs.Common.{◌≡◌, ℕ, true, List, [], ◌++◌, length, inl, inr, refl, sym, ◌∙◌, ap, subst, append_assoc, Option, Some, None, arith}
+use Rattle.std.proofs.Common.{◌≡◌, ℕ, true, List, [], ◌++◌, length, inl, inr, refl, sym, ◌∙◌, ap, subst, append_assoc, Option, Some, None}
 use Rattle.grammar.specs.Language.{Language, Includes}
 use Rattle.grammar.specs.Form.{Room, star, ref, form_language, language}
 use Rattle.grammar.specs.Productions.{optional}
@@ -12,7 +12,7 @@ use Rattle.sql_read.specs.Kinds.{kind_of}
 use Rattle.sql_read.specs.Numbering.{Built}
 use Rattle.sql_read.specs.QueryTrees as t
 use Rattle.sql_read.specs.QueryTrees.{Left, Enclosed, Inside, not_sub}
-use Rattle.sql_read.specs.QueryGrammar.{Production, Read, The, next_intersect, next_union, next_product, next_sum, next_and, next_or, rules, expr, unary, primary, set_tail, expr_tail, rest}
+use Rattle.sql_read.specs.QueryGrammar.{Production, Read, The, next_product, next_sum, next_and, next_or, rules, expr, unary, primary, set_tail, expr_tail, rest}
 use Rattle.sql_read.proofs.QuerySplits.{is_kept}
 use Rattle.sql_read.proofs.QuerySplits as split
 use Rattle.sql_read.proofs.QueryInside.{no_set_words}

@@ -1,5 +1,5 @@
 -- What the plan reads as an item stands so in the grammar.
-use Rattle.std.proofs.Common.{◌≡◌, Bool, true, List, [], ◌∷◌, ◌++◌, length, ◌⊎◌, inl, inr, refl, sym, ◌∙◌, ap, subst, append_assoc, Option, Some, None}
+use Rattle.std.proofs.Common.{◌≡◌, Bool, true, List, [], ◌∷◌, ◌++◌, length, ◌⊎◌, inl, inr, refl, sym, ◌∙◌, ap, subst, Option, Some, None}
 use Rattle.std.proofs.lemmas.List.{append-nil}
 use Rattle.grammar.specs.Form.{Room, token, seq, alt, map, counted, ref}
 use Rattle.grammar.specs.Productions.{then_skip, optional}
@@ -14,7 +14,7 @@ use Rattle.sql_read.specs.QueryTrees as t
 use Rattle.sql_read.specs.QueryTrees.{Left}
 use Rattle.sql_read.specs.QueryGrammar as grammar
 use Rattle.sql_read.specs.QueryGrammar.{The, name, called_word, name_kinds, alias, minus, parens, rules, item, expr, expr_tail, primary, unary}
-use Rattle.sql_read.specs.QueryPlan.{plan, literal, dot_name, dot_star_or_name, arguments, one_argument, other_aggregate, count_arguments, word_with, words, column_of, named_first, enclosed_first, going_on, going_on_by_and, star_or_column, star_or_left, Starred}
+use Rattle.sql_read.specs.QueryPlan.{plan, literal, dot_name, dot_star_or_name, arguments, one_argument, other_aggregate, count_arguments, word_with, column_of, named_first, enclosed_first, going_on, going_on_by_and, star_or_column, star_or_left, Starred}
 use Rattle.sql_read.proofs.QueryWords.{Below, through, itself, below_map, below_seq, below_alt, either, at_first, at_second, with_dot}
 use Rattle.sql_read.proofs.QueryItems.{as_star, same_column, starred_words, right_of, plain_word, by_name, with_alias}
 use Rattle.sql_read.proofs.PlanInsides.{G, gl, closes, tailed, joined_at, first_and_front}

@@ -1,5 +1,5 @@
 -- What the plan reads behind a parenthesis may stand there by the grammar.
-use Rattle.std.proofs.Common.{◌≡◌, ℕ, zero, suc, true, List, [], ◌++◌, length, inl, inr, refl, sym, ◌∙◌, ap, subst, append_assoc, Option, Some, None}
+use Rattle.std.proofs.Common.{◌≡◌, ℕ, zero, suc, true, List, ◌++◌, inl, inr, refl, sym, ◌∙◌, ap, subst, Option, Some, None}
 use Rattle.grammar.specs.Form.{Room, alt, map, ref}
 use Rattle.sql_lex.specs.Lexemes.{Lexeme}
 use Rattle.sql_model.specs.declared.tree.Expr.{Expr}
@@ -11,12 +11,12 @@ use Rattle.sql_read.specs.QueryTrees as t
 use Rattle.sql_read.specs.QueryTrees.{Left, Enclosed, Inside, not_sub}
 use Rattle.sql_read.specs.QueryGrammar as grammar
 use Rattle.sql_read.specs.QueryGrammar.{The, parens, insides, minus, not_neg, exists, rules, query, unary, primary, set_tail, and_tail, expr, expr_tail}
-use Rattle.sql_read.specs.QueryPlan.{column_of, literal, named_first, dot_name, arguments, one_argument, count_arguments, going_on, going_on_by_and, no_parenthesis, after_query, after_expression, plan_of_insides}
+use Rattle.sql_read.specs.QueryPlan.{column_of, literal, named_first, arguments, one_argument, count_arguments, going_on, going_on_by_and, no_parenthesis, after_query, after_expression, plan_of_insides}
 use Rattle.sql_read.proofs.QuerySplits as split
 use Rattle.sql_read.proofs.QueryInside.{sorted}
 use Rattle.sql_read.proofs.QueryWords.{Below, to_alike, through, itself, go_on_below, either, at_first, at_second}
 use Rattle.sql_read.proofs.NoSubqueries.{joined_is}
-use Rattle.sql_read.proofs.PlanInsides.{G, gl, opens, closes, own, tail_keeps, tail_makes, joined_at, tailed, first_and_front}
+use Rattle.sql_read.proofs.PlanInsides.{G, gl, opens, own, tail_keeps, tail_makes, joined_at, tailed, first_and_front}
 use Rattle.sql_read.proofs.PlanWords.{closed, named_first_planned}
 use Rattle.sql_read.proofs.PlanParens.{literal_planned, first_front, subquery_first, sorted_as_query, sorted_as_expr, sorted_front_first}
 

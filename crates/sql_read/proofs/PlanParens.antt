@@ -10,11 +10,11 @@ use Rattle.sql_read.specs.Kinds.{kind_of}
 use Rattle.sql_read.specs.Numbering.{Built}
 use Rattle.sql_read.specs.QueryTrees as t
 use Rattle.sql_read.specs.QueryTrees.{Left, Enclosed, Inside, not_sub}
-use Rattle.sql_read.specs.QueryGrammar.{The, in_parentheses, parens, insides, longer_query, subquery, rules, query, operand, block, unary, primary, set_tail, expr, expr_tail, inner}
-use Rattle.sql_read.specs.QueryPlan.{enclosed_first, going_on, literal, named_first, plan}
+use Rattle.sql_read.specs.QueryGrammar.{The, in_parentheses, parens, insides, longer_query, rules, query, operand, block, unary, primary, set_tail, expr, expr_tail, inner}
+use Rattle.sql_read.specs.QueryPlan.{enclosed_first, literal, plan}
 use Rattle.sql_read.proofs.QuerySplits as split
 use Rattle.sql_read.proofs.QueryInside.{no_operators, sorted, deeper_there, deeper_back, deeper_spells, deeper_front}
-use Rattle.sql_read.proofs.QueryWords.{Below, through, itself, either, at_first, at_second}
+use Rattle.sql_read.proofs.QueryWords.{Below, either}
 use Rattle.sql_read.proofs.PlanInsides.{G, gl, opens, closes, own, no_sets, first_and_tail}
 use Rattle.sql_read.proofs.PlanWords.{parens_map, parens_alt, named_first_planned}
 

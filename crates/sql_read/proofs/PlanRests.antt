@@ -1,5 +1,5 @@
 -- What the plan reads as a test stands so in the grammar.
-use Rattle.std.proofs.Common.{◌≡◌, true, List, [], ◌∷◌, ◌++◌, ◌⊎◌, inl, inr, refl, ◌∙◌, ap, Option, Some, None}
+use Rattle.std.proofs.Common.{◌≡◌, true, List, [], ◌∷◌, inl, inr, refl, ◌∙◌, ap, Option, Some, None}
 use Rattle.grammar.specs.Form.{Room, seq, alt, map, only, ref}
 use Rattle.grammar.specs.Productions.{skip_then, optional}
 use Rattle.grammar.proofs.Alike as alike

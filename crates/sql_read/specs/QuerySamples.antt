@@ -18,6 +18,7 @@ use Rattle.sql_lex.specs.Bytes.{begins_word, is_digit, quote, double_quote}
 use Rattle.sql_lex.specs.Lexemes.{Lexeme}
 use Rattle.sql_read.specs.Kinds.{kind_of}
 use Rattle.sql_read.specs.Numbering.{first_numbers}
+use Rattle.sql_read.specs.QueryEntries.{few_rules}
 use Rattle.sql_read.specs.QueryGrammar.{rules}
 use Rattle.sql_read.specs.QueryGrammar as g
 
@@ -62,6 +63,10 @@ copies text = map (λ read. read.copies) (whole_values (name_parses kind_of rule
 -- how many readings an expression has where so many levels may be opened
 abbrev pub within : ℕ → List ℕ → ℕ
 within levels text = length (whole_values (name_parses kind_of rules 40 (Some levels) g.expr (tokens text)))
+
+-- the queries where a block has at most so many entries besides its first
+abbrev pub with_few : ℕ → List ℕ → List Query
+with_few further text = map (λ read. (read.build first_numbers).0) (whole_values (name_parses kind_of (few_rules further) 40 None g.query (tokens text)))
 
 -- ---- short forms
 
@@ -293,3 +298,25 @@ derived_table = refl
 pub no_name : queries (codes "SELECT * FROM ( SELECT * FROM r )") ≡ []
 unfolding everything
 no_name = refl
+
+-- ---- entries of a block
+
+abbrev three_entries : Query
+three_entries = block false (item.Star 7 ∷ []) (table (codes "r") 14 ∷ table (codes "s") 18 ∷ entry (codes "t") 31 (codes "t") 31 true None ∷ []) None None None
+
+pub three : with_few 2 (codes "SELECT * FROM r , s CROSS JOIN t") ≡ three_entries ∷ []
+unfolding everything
+three = refl
+
+pub third_is_too_many : with_few 1 (codes "SELECT * FROM r , s CROSS JOIN t") ≡ []
+unfolding everything
+third_is_too_many = refl
+
+-- each block has its own
+pub two_in_each_block : with_few 1 (codes "SELECT * FROM r , ( SELECT * FROM r , s ) d") ≡
+    block false (item.Star 7 ∷ [])
+    (table (codes "r") 14
+    ∷ roll-Entry (record { source = source.Query (block false (item.Star 27 ∷ []) (table (codes "r") 34 ∷ table (codes "s") 38 ∷ []) None None None); alias = codes "d"; at = 42; joined = false; on = None })
+    ∷ []) None None None ∷ []
+unfolding everything
+two_in_each_block = refl
