@@ -12,6 +12,7 @@ pub mod Predictions
 pub mod Remaining
 pub mod Longest
 pub mod Outcomes
+pub mod Costs
 pub mod ParsesSound
 pub mod Plans
 pub mod Alike

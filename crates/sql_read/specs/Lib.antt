@@ -15,6 +15,7 @@ pub mod QueryTrees
 pub mod QueryGrammar
 pub mod Queries
 pub mod QueryEntries
+pub mod QueryCopies
 pub mod QuerySamples
 pub mod QueryPlan
 pub mod QueryLookahead

@@ -18,6 +18,8 @@ use Rattle.sql_lex.specs.Bytes.{begins_word, is_digit, quote, double_quote}
 use Rattle.sql_lex.specs.Lexemes.{Lexeme}
 use Rattle.sql_read.specs.Kinds.{kind_of}
 use Rattle.sql_read.specs.Numbering.{first_numbers}
+use Rattle.grammar.specs.Costs.{begun}
+use Rattle.sql_read.specs.QueryCopies.{copy_rules}
 use Rattle.sql_read.specs.QueryEntries.{few_rules}
 use Rattle.sql_read.specs.QueryGrammar.{rules}
 use Rattle.sql_read.specs.QueryGrammar as g
@@ -59,6 +61,10 @@ queries text = map (λ read. (read.build first_numbers).0) (whole_values (name_p
 -- what an expression copies
 abbrev pub copies : List ℕ → List ℕ
 copies text = map (λ read. read.copies) (whole_values (name_parses kind_of rules 40 None g.expr (tokens text)))
+
+-- what a front of an expression has copied
+abbrev pub copied : List ℕ → List ℕ
+copied text = whole_values (name_parses kind_of copy_rules 40 None (begun g.expr) (tokens text))
 
 -- how many readings an expression has where so many levels may be opened
 abbrev pub within : ℕ → List ℕ → ℕ
@@ -320,3 +326,25 @@ pub two_in_each_block : with_few 1 (codes "SELECT * FROM r , ( SELECT * FROM r ,
     ∷ []) None None None ∷ []
 unfolding everything
 two_in_each_block = refl
+
+-- ---- copies up to a token
+
+pub none_yet : copied (codes "a + 1") ≡ 0 ∷ []
+unfolding everything
+none_yet = refl
+
+pub at_between : copied (codes "a + b BETWEEN") ≡ 3 ∷ []
+unfolding everything
+at_between = refl
+
+pub first_member : copied (codes "a IN ( 1") ≡ 0 ∷ []
+unfolding everything
+first_member = refl
+
+pub at_a_comma : copied (codes "a IN ( 1 ,") ≡ 1 ∷ []
+unfolding everything
+at_a_comma = refl
+
+pub third_member : copied (codes "a IN ( 1 , 2 , 3") ≡ 2 ∷ []
+unfolding everything
+third_member = refl
