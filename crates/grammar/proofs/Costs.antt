@@ -169,3 +169,132 @@ module _ {T K N : Type 0} {V : N → Type 0} (kind : T → K) where
         let p = weigh f x (inr c) s in let q = weigh h y k r in
         (p.0 + q.0, (x, y, inr (c, p.0), i, ((inr c, p.0), p.1, refl), ((λ b. (k b.0, b.1 + q.0)), ((k, q.0), q.1, refl), ap (λ z. (z, p.0 + q.0)) j)))
     weigh (ref n) ts v s = (cost n v, (v, a.spelled n ts v s, refl))
+
+    fronts_of : {A : Type 0} (f : Form T K N V A) → HasFronts (of E f)
+    fronts_of f = form_fronts kind E e f None
+
+    -- a front that ends where a part of it is whole
+    pub nothing_more : {A : Type 0} (f : Form T K N V A) (ts x : List T) (v : A) → ts ≡ x ++ [] → (of E f).spells x v → (of E f).front ts
+    nothing_more f ts x v i s = subst (of E f).front (sym (i ∙ append-nil x)) ((fronts_of f).spelled x v s)
+
+    -- the front of a repetition: what is whole, and a front with a token
+    pub record LastBegun {A : Type 0} (f : Form T K N V A) (ts : List T) : Type 0 where
+      pub before : List T
+      pub last : List T
+      pub values : List A
+      pub in_order : ts ≡ before ++ last
+      pub spelled : Concatenates (of E f).spells before values
+      pub begins : (of E f).front last
+      pub some : last ≡ [] → ⊥
+
+    one_before_last : {A : Type 0} (f : Form T K N V A) (ts x y : List T) (v : A) → ts ≡ x ++ y → (of E f).spells x v → LastBegun f y → LastBegun f ts
+    one_before_last f ts x y v i s b = record {
+      before = x ++ b.before;
+      last = b.last;
+      values = v ∷ b.values;
+      in_order = i ∙ (ap (λ z. x ++ z) b.in_order ∙ sym (append_assoc x b.before b.last));
+      spelled = (x, b.before, refl, s, b.spelled);
+      begins = b.begins;
+      some = b.some;
+    }
+
+    last_of : {A : Type 0} (f : Form T K N V A) (ts : List T) (vs : List A) → Concatenates (of E f).spells ts vs → (ts ≡ [] → ⊥) → LastBegun f ts
+    last_of f ts [] s n = absurd (n s)
+    last_of f ts (v ∷ vs) (x, [], i, s, r) n = record {
+      before = [];
+      last = ts;
+      values = [];
+      in_order = refl;
+      spelled = refl;
+      begins = nothing_more f ts x v i s;
+      some = n;
+    }
+    last_of f ts (v ∷ vs) (x, t ∷ y, i, s, r) n = one_before_last f ts x (t ∷ y) v i s (last_of f (t ∷ y) vs r (λ o. cc))
+
+    pub last_begun : {A : Type 0} (f : Form T K N V A) (most : Option ℕ) (ts : List T) → (of E (star most f)).front ts → (ts ≡ [] → ⊥) → LastBegun f ts
+    last_begun f most ts (inl i) n = absurd (n i)
+    last_begun f most ts (inr (x, [], vs, i, s, r)) n = last_of f ts vs (subst (λ z. Concatenates (of E f).spells z vs) (sym (i ∙ append-nil x)) s) n
+    last_begun f most ts (inr (x, t ∷ y, vs, i, s, r)) n = record {
+      before = x;
+      last = t ∷ y;
+      values = vs;
+      in_order = i;
+      spelled = s;
+      begins = r;
+      some = λ o. cc;
+    }
+
+    abbrev HasCost : {A : Type 0} → Form T K N V A → Type 0
+    HasCost f = (ts : List T) → (of E f).front ts → (ts ≡ [] → ⊥) → (c : ℕ) × (of_parts P (begun_of cost f)).spells ts c
+
+    seq_cost : {A B : Type 0} (f : Form T K N V A) (g : Form T K N V B) → HasCost f → HasCost g → HasCost (seq f g)
+    seq_cost f g mf mg ts (inl s) n = let p = mf ts s n in (p.0, inl p.1)
+    seq_cost f g mf mg ts (inr (x, [], v, i, s, r)) n = let p = mf ts (nothing_more f ts x v i s) n in (p.0, inl p.1)
+    seq_cost f g mf mg ts (inr (x, t ∷ y, v, i, s, r)) n =
+        let q = weigh f x v s in let p = mg (t ∷ y) r (λ o. cc) in (q.0 + p.0, inr (((v, q.0), p.0), (x, t ∷ y, i, q.1, p.1), refl))
+
+    alt_cost : {A : Type 0} (f g : Form T K N V A) → HasCost f → HasCost g → HasCost (alt f g)
+    alt_cost f g mf mg ts (inl s) n = let p = mf ts s n in (p.0, inl p.1)
+    alt_cost f g mf mg ts (inr s) n = let p = mg ts s n in (p.0, inr p.1)
+
+    star_cost : {A : Type 0} (most : Option ℕ) (f : Form T K N V A) → HasCost f → HasCost (star most f)
+    star_cost most f m ts s n =
+        let b = last_begun f most ts s n in let p = m b.last b.begins b.some in let w = all_weighed (of E f).spells (of_parts P (weighed cost f)).spells (weigh f) b.before b.values b.spelled in
+        ((all_costs w.each).1 + p.0, ((w.each, p.0), (b.before, b.last, b.in_order, w.spelled, p.1), refl))
+
+    fork_cost : {A B C : Type 0} (f : Form T K N V (A ⊎ B)) (g : Form T K N V (A → C)) (h : Form T K N V (B → C)) → HasCost f → HasCost g → HasCost h → HasCost (fork f g h)
+    fork_cost f g h mf mg mh ts (inl s) n = let p = mf ts s n in (p.0, inl p.1)
+    fork_cost f g h mf mg mh ts (inr (x, [], v, i, s, r)) n = let p = mf ts (nothing_more f ts x v i s) n in (p.0, inl p.1)
+    fork_cost f g h mf mg mh ts (inr (x, t ∷ y, inl c, i, s, r)) n =
+        let q = weigh f x (inl c) s in let p = mg (t ∷ y) r (λ o. cc) in
+        (q.0 + p.0, inr (x, t ∷ y, inl (c, q.0), i, ((inl c, q.0), q.1, refl), ((λ b. b.1 + p.0), (p.0, p.1, refl), refl)))
+    fork_cost f g h mf mg mh ts (inr (x, t ∷ y, inr c, i, s, r)) n =
+        let q = weigh f x (inr c) s in let p = mh (t ∷ y) r (λ o. cc) in
+        (q.0 + p.0, inr (x, t ∷ y, inr (c, q.0), i, ((inr c, q.0), q.1, refl), ((λ b. b.1 + p.0), (p.0, p.1, refl), refl)))
+
+    token_cost : (p : K → Bool) → HasCost (token p)
+    token_cost p ts (inl i) n = absurd (n i)
+    token_cost p ts (inr (t, i, q)) n = (0, (t, (i, q), refl))
+
+    pub begun_cost : {A : Type 0} (f : Form T K N V A) → HasCost f
+    begun_cost empty ts s n = absurd (n s)
+    begun_cost (token p) ts s n = token_cost p ts s n
+    begun_cost (seq f g) ts s n = seq_cost f g (begun_cost f) (begun_cost g) ts s n
+    begun_cost (alt f g) ts s n = alt_cost f g (begun_cost f) (begun_cost g) ts s n
+    begun_cost (star most f) ts s n = star_cost most f (begun_cost f) ts s n
+    begun_cost (nest f) ts s n = begun_cost f ts s n
+    begun_cost (map h f) ts s n = begun_cost f ts s n
+    begun_cost (only q f) ts s n = begun_cost f ts s n
+    begun_cost (nonempty f) ts s n = begun_cost f ts s n
+    begun_cost (counted f) ts s n = begun_cost f ts s n
+    begun_cost (fork f g h) ts s n = fork_cost f g h (begun_cost f) (begun_cost g) (begun_cost h) ts s n
+    begun_cost (ref m) ts s n = a.costs m ts s n
+
+  -- at all heights, with what else holds at each
+  module _ (cost : (n : N) → V n → ℕ) (rules : Rules T K N V) (own : (n : N) → Form T K (Part N) (PartValue V) ℕ) (Also : (Room → (n : N) → Language T (V n)) → Type 0)
+      (at_zero : Also (language_within kind rules zero))
+      (at_next : (h : ℕ) → HaveCosts (language_within kind rules h) (language kind (cost_rules rules own)) → Also (language_within kind rules h) → Also (language_within kind rules (suc h)))
+      (own_cost : (h : ℕ) → HaveCosts (language_within kind rules h) (language kind (cost_rules rules own)) → Also (language_within kind rules h)
+          → (n : N) (ts : List T) → (of (language_within kind rules h) (rules n)).front ts → (ts ≡ [] → ⊥) → (c : ℕ) × (of_parts (language kind (cost_rules rules own)) (own n)).spells ts c) where
+    abbrev All : Room → (n : Part N) → Language T (PartValue V n)
+    All = language kind (cost_rules rules own)
+
+    costs_at : (h : ℕ) → HaveCosts (language_within kind rules h) All × Also (language_within kind rules h)
+    costs_at zero = (record { spelled = λ n ts v s. absurd s; costs = λ n ts s m. absurd (m s) }, at_zero)
+    costs_at (suc h) =
+        let p = costs_at h in
+        (
+          record {
+            spelled = λ n ts v s.
+                (from_rule kind (cost_rules rules own) None (whole n)).spells ts v
+                (whole_again cost (language_within kind rules h) All (fronts_within kind rules h) p.0 (rules n) ts v s);
+            costs = λ n ts s m. let q = own_cost h p.0 p.1 n ts s m in (q.0, (from_rule kind (cost_rules rules own) None (begun n)).spells ts q.0 q.1);
+          },
+          at_next h p.0 p.1,
+        )
+
+    pub have_costs : HaveCosts (language kind rules) All
+    have_costs = record {
+      spelled = λ n ts v s. let p = spelled_at kind rules None n ts v s in (costs_at p.0).0.spelled n ts v p.1;
+      costs = λ n ts s m. let p = front_at kind rules None n ts s in (costs_at p.0).0.costs n ts p.1 m;
+    }

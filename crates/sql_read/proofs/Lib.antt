@@ -31,3 +31,4 @@ pub mod PlanRests
 pub mod PlanItems
 pub mod PlanKnown
 pub mod EntryLists
+pub mod Copies

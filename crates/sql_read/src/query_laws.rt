@@ -9,6 +9,7 @@ ghost use Rattle.sql_model.specs.declared.tree.Query.{Query};
 ghost use Rattle.sql_read.specs.Kinds.{kind_of};
 ghost use Rattle.sql_read.specs.Numbering.{Built, Numbers};
 ghost use Rattle.sql_read.specs.Queries.{Begins, IsTooDeep, Spells, of_production, queries, shallow_queries};
+ghost use Rattle.sql_read.specs.QueryCopies.{CopiesOf};
 ghost use Rattle.sql_read.specs.QueryEntries.{IsEntryTooMany, few_queries};
 ghost use Rattle.sql_read.specs.QueryPlan.{of_plan};
 ghost use Rattle.sql_read.specs.QueryLookahead.{table};
@@ -40,6 +41,12 @@ pub fn few_entries()
 /// An entry is too many for its block at no more than one token of a text.
 pub fn too_many_once()
     ensures { (x more y others : List Lexeme) (t u : Lexeme) → IsEntryTooMany x t → IsEntryTooMany y u → x ++ t ∷ more ≡ y ++ u ∷ others → (x ≡ y) × (t ≡ u) }
+{}
+
+/// What has copied something begins a query, and what begins a query has copied something, or nothing.
+pub fn copies()
+    ensures begins { (ts : List Lexeme) (copies : ℕ) → CopiesOf ts copies → Begins ts }
+    ensures counted { (ts : List Lexeme) → Begins ts → (copies : ℕ) × CopiesOf ts copies }
 {}
 
 /// No list of tokens spells two queries, nor two values of any production.

@@ -1,0 +1,8 @@
+use Rattle.sql_read.proofs.Copies.{begins_of, copies_of}
+use Rattle.sql_read.proofs.query_laws.copies.Goals as goal
+
+pub returns-clause-begins : goal.returns-clause-begins
+returns-clause-begins c = begins_of
+
+pub returns-clause-counted : goal.returns-clause-counted
+returns-clause-counted c = copies_of
