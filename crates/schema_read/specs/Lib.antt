@@ -1,0 +1,7 @@
+pub mod Order
+pub mod Keys
+pub mod Tables
+pub mod Indexes
+pub mod Faults
+pub mod Building
+pub mod Views
