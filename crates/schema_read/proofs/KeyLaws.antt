@@ -7,11 +7,9 @@ use Rattle.std.proofs.lemmas.List.Folds.{list_any-append}
 use Rattle.std.proofs.lemmas.Map.Views.{exact_unsigned_eq}
 use Rattle.sql_model.specs.declared.statement.TableRule.{TableRule}
 use Rattle.sql_model.specs.declared.statement.TableRule.TheVariants as rule
-use Rattle.sql_model.specs.declared.statement.NameAt.{NameAt}
 use Rattle.sql_model.specs.Syntax.{Name}
 use Rattle.schema_read.specs.Keys.{KeyRule, is_part, same_set, has_key, if_new, first_of_each, stands_for, keys_from, primary_of, places_in}
-use Rattle.schema_read.specs.Tables.{own_keys, names_of}
-use Rattle.schema_read.specs.Faults.{own_table}
+use Rattle.schema_read.specs.Tables.{written_keys, table_of}
 use Rattle.schema_read.specs.Building.{with_key, with_rule, keys_after, first_primary, table_with, built_table}
 
 -- ---- sets
@@ -99,16 +97,14 @@ when_old false false f r p h = h
 first_has : (k : List ℕ) (e xs : List (List ℕ)) → (has_key e k || has_key (first_of_each e xs) k) ≡ (has_key e k || has_key xs k)
 first_has k e [] = refl
 first_has k e (x ∷ xs) =
-    by (has_key e x) refl
+    by (has_key e x) (first_of_each (e ++ x ∷ []) xs) refl
     (subst (λ b. (b || has_key (first_of_each (e ++ x ∷ []) xs) k) ≡ (b || has_key xs k)) (list_any-append (same_set k) e (x ∷ [])) (first_has k (e ++ x ∷ []) xs))
   where
-    abbrev others : List (List ℕ)
-    others = first_of_each (e ++ x ∷ []) xs
-    by : (b : Bool) → has_key e x ≡ b
+    by : (b : Bool) (others : List (List ℕ)) → has_key e x ≡ b
         → ((has_key e k || (same_set k x || false)) || has_key others k) ≡ ((has_key e k || (same_set k x || false)) || has_key xs k)
         → (has_key e k || has_key (cond b others (x ∷ others)) k) ≡ (has_key e k || has_key (x ∷ xs) k)
-    by true old h = when_old (has_key e k) (same_set k x) (has_key others k) (has_key xs k) (λ t. among k x e old t) h
-    by false new h = when_new (has_key e k) (same_set k x) (has_key others k) (has_key xs k) h
+    by true others old h = when_old (has_key e k) (same_set k x) (has_key others k) (has_key xs k) (λ t. among k x e old t) h
+    by false others new h = when_new (has_key e k) (same_set k x) (has_key others k) (has_key xs k) h
 
 -- ---- the primary key in place of another
 standing_set : (k : List ℕ) (p : Option (List ℕ)) (x : List ℕ) → same_set k (stands_for p x) ≡ same_set k x
@@ -141,23 +137,22 @@ abbrev sets : List KeyRule → List (List ℕ)
 sets rules = map (λ r. r.columns) rules
 
 keys_after-from : (columns : List Name) (p : Option (List ℕ)) (ks : List (List ℕ)) (rules : List TableRule)
-    → fold (with_rule columns p) (keys_from p ks) rules ≡ keys_from p (ks ++ sets (own_keys columns rules))
+    → fold (with_rule columns p) (keys_from p ks) rules ≡ keys_from p (ks ++ sets (written_keys columns rules))
 keys_after-from columns p ks [] = ap (keys_from p) (sym (append-nil ks))
 keys_after-from columns p ks (rule.Key primary names at ∷ rules) =
     let key = places_in columns names in
     ap (λ keys. fold (with_rule columns p) keys rules) (sym (keys_push p ks key))
-    ∙ keys_after-from columns p (ks ++ key ∷ []) rules ∙ ap (keys_from p) (append_assoc ks (key ∷ []) (sets (own_keys columns rules)))
+    ∙ keys_after-from columns p (ks ++ key ∷ []) rules ∙ ap (keys_from p) (append_assoc ks (key ∷ []) (sets (written_keys columns rules)))
 keys_after-from columns p ks (rule.Foreign names table target ∷ rules) = keys_after-from columns p ks rules
 
-primary_first : (columns : List Name) (rules : List TableRule) → first_primary columns rules ≡ primary_of (own_keys columns rules)
+primary_first : (columns : List Name) (rules : List TableRule) → first_primary columns rules ≡ primary_of (written_keys columns rules)
 primary_first columns [] = refl
 primary_first columns (rule.Key true names at ∷ rules) = refl
 primary_first columns (rule.Key false names at ∷ rules) = primary_first columns rules
 primary_first columns (rule.Foreign names table target ∷ rules) = primary_first columns rules
 
 -- the table that is built is the one that is declared
-pub built_table-is : (number : ℕ) (columns : List NameAt) (rules : List TableRule) → built_table number (names_of columns) rules ≡ own_table number columns rules
+pub built_table-is : (number : ℕ) (columns : List Name) (rules : List TableRule) → built_table number columns rules ≡ table_of number columns (written_keys columns rules)
 built_table-is number columns rules =
-    let names = names_of columns in
-    ap (λ keys. table_with number names (first_primary names rules) keys) (keys_after-from names (first_primary names rules) [] rules)
-    ∙ ap (λ p. table_with number names p (keys_from p (sets (own_keys names rules)))) (primary_first names rules)
+    ap (λ keys. table_with number columns (first_primary columns rules) keys) (keys_after-from columns (first_primary columns rules) [] rules)
+    ∙ ap (λ p. table_with number columns p (keys_from p (sets (written_keys columns rules)))) (primary_first columns rules)

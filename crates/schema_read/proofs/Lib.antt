@@ -1,3 +1,5 @@
+pub mod OrderLaws
 pub mod Narrow
 pub mod IndexLaws
 pub mod KeyLaws
+pub mod Steps

@@ -1,7 +1,6 @@
 -- What is found among narrow relations is narrow.
-use Rattle.std.proofs.Common.{◌≡◌, Bool, true, false, cond, [], ◌∷◌, Option, Some, None, refl, subst}
+use Rattle.std.proofs.Common.{◌≡◌, Bool, true, false, cond, [], ◌∷◌, Option, Some, None, ap, subst, unwrap_or}
 use Rattle.std.specs.Map.{lookup}
-use Rattle.std.proofs.Math.Option.{some-injective}
 use Rattle.sql_model.specs.Syntax.{Name}
 use Rattle.sql_model.specs.Relations.{Relation}
 use Rattle.schema_read.specs.Faults.{Relations}
@@ -12,5 +11,5 @@ narrow_found test [] r found narrow = absurd (cc)
 narrow_found test (x ∷ xs) r found narrow = by (test x.0) found (λ e. narrow_found test xs r e narrow.1)
   where
     by : (b : Bool) → cond b (Some x.1) (lookup test xs) ≡ Some r → (lookup test xs ≡ Some r → IsNarrowRelation r) → IsNarrowRelation r
-    by true e rest = subst IsNarrowRelation (some-injective x.1 r e) narrow.0
+    by true e rest = subst IsNarrowRelation (ap (λ o. unwrap_or o x.1) e) narrow.0
     by false e rest = rest e

@@ -13,7 +13,8 @@ use Rattle.sql_model.specs.declared.schema.Fkey.{Fkey}
 use Rattle.sql_model.specs.declared.schema.Relation.TheVariants as relation
 use Rattle.sql_model.specs.Syntax.{Name}
 use Rattle.sql_model.specs.Columns.{same_name}
-use Rattle.sql_model.specs.Relations.{Relation}
+use Rattle.std.specs.Map.{set_value}
+use Rattle.sql_model.specs.Relations.{Relation, relation_named}
 use Rattle.schema_read.specs.Order.{Fault, or_else}
 use Rattle.schema_read.specs.Keys.{is_named, places_in, place_of_key, has_key, stands_for}
 use Rattle.schema_read.specs.Indexes.{primary_columns, bare_column, index_query}
@@ -107,10 +108,13 @@ abbrev pub with_unique_key : List ℕ → Relation → Relation
 with_unique_key key (relation.Table table) = relation.Table (with_unique table key)
 with_unique_key key (relation.View query at) = relation.View query at
 
+abbrev pub with_named : (Relation → Relation) → Name → Relations → Option Relation → Relations
+with_named change name relations None = relations
+with_named change name relations (Some r) = set_value (same_name name) relations (change r)
+
 -- the relations, with the first of this name changed
 abbrev pub changed : (Relation → Relation) → Name → Relations → Relations
-changed change name [] = []
-changed change name (r ∷ relations) = if same_name name r.0 then (r.0, change r.1) ∷ relations else r ∷ changed change name relations
+changed change name relations = with_named change name relations (relation_named name relations)
 
 abbrev pub with_index_key : Relations → Bool → Name → List ℕ → Relations
 with_index_key relations true on key = changed (with_unique_key key) on relations
@@ -126,7 +130,7 @@ after_table state name rules own = record {
 abbrev pub after_index : State → NameAt → Bool → NameAt → List NameAt → Option Table → State
 after_index state name unique on columns None = state
 after_index state name unique on columns (Some table) = record state {
-  relations = with_index_key state.relations unique on.name (places_in table.columns columns) ++ (name.name, relation.View (index_query on columns table) name.at) ∷ [];
+  relations = with_index_key (state.relations ++ (name.name, relation.View (index_query on columns table) name.at) ∷ []) unique on.name (places_in table.columns columns);
 }
 
 abbrev pub after_statement : State → Statement → State

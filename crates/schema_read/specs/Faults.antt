@@ -14,7 +14,7 @@ use Rattle.sql_model.specs.Relations.{Relation, relation_named}
 use Rattle.schema_read.specs.declared.fault.SchemaCode.TheVariants as code
 use Rattle.schema_read.specs.Order.{Fault, fault_if, first_of, first_along}
 use Rattle.schema_read.specs.Keys.{is_among, is_named, places_in, has_key}
-use Rattle.schema_read.specs.Tables.{names_of, own_keys, table_of}
+use Rattle.schema_read.specs.Tables.{names_of, written_keys, table_of}
 use Rattle.schema_read.specs.Indexes.{primary_columns}
 
 abbrev pub Relations : Type 0
@@ -84,7 +84,7 @@ rules_fault relations name own rules = first_along (λ earlier r. rule_fault rel
 
 -- a table with its own keys, as a reference to itself sees it
 abbrev pub own_table : ℕ → List NameAt → List TableRule → Table
-own_table number columns rules = table_of number (names_of columns) (own_keys (names_of columns) rules)
+own_table number columns rules = table_of number (names_of columns) (written_keys (names_of columns) rules)
 
 -- ---- statements
 abbrev pub on_table_fault : NameAt → List NameAt → Option Table → Option Fault

@@ -5,3 +5,4 @@ pub mod Indexes
 pub mod Faults
 pub mod Building
 pub mod Views
+mod Samples

@@ -32,8 +32,8 @@ key_rule columns (rule.Key primary names at) = Some (record { is_primary = prima
 key_rule columns (rule.Foreign names table target) = None
 
 -- the keys that a table writes itself
-abbrev pub own_keys : List Name → List TableRule → List KeyRule
-own_keys columns rules = filter_map (key_rule columns) rules
+abbrev pub written_keys : List Name → List TableRule → List KeyRule
+written_keys columns rules = filter_map (key_rule columns) rules
 
 -- the key that a unique index on the table of this name declares
 abbrev pub unique_on : Name → List Name → Statement → Option KeyRule
@@ -52,7 +52,7 @@ table_of number columns rules = record { number = number; columns = columns; key
 -- the table that a statement declares, after these tables, with the unique indexes on it among all statements
 abbrev pub declared_table : List Statement → List Statement → Statement → Option Table
 declared_table all before (statement.Table name columns rules) =
-    Some (table_of (count_by is_table before) (names_of columns) (own_keys (names_of columns) rules ++ unique_indexes name.name (names_of columns) all))
+    Some (table_of (count_by is_table before) (names_of columns) (written_keys (names_of columns) rules ++ unique_indexes name.name (names_of columns) all))
 declared_table all before (statement.View name query) = None
 declared_table all before (statement.Index name unique table columns) = None
 

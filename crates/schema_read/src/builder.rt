@@ -8,8 +8,8 @@ use crate::fault::{SchemaCode, SchemaFault};
 use crate::foreign::foreign_key;
 use crate::indexes::index_query;
 use crate::keys::{is_primary_rule, own_table};
-use crate::names::{check_all_differ, check_columns, names_of, places_in};
-use crate::relations::{add_unique_key, check_new, declare, table_named};
+use crate::names::{check_all_differ, check_columns, places_in};
+use crate::relations::{add_index_key, check_new, declare, table_named};
 use indexmap::IndexMap;
 use plain_data::List;
 use sql_model::{Fkey, Name, NameAt, Query, Relation, Statement, Table, TableRule};
@@ -106,8 +106,7 @@ impl Builder {
     {
         check_new(&self.relations, name)?;
         check_all_differ(columns.as_slice())?;
-        let names = names_of(alloc, columns.as_slice())?;
-        let table = own_table(alloc, self.tables, names, rules.as_slice())?;
+        let table = own_table(alloc, self.tables, columns.as_slice(), rules.as_slice())?;
         add_rules(
             alloc,
             &self.relations,
@@ -135,7 +134,8 @@ impl Builder {
             query: query.copy(alloc)?,
             at: name.at,
         };
-        declare(alloc, &mut self.relations, &name.name, view)
+        declare(alloc, &mut self.relations, &name.name, view)?;
+        Ok(())
     }
 
     fn add_index(
@@ -160,10 +160,9 @@ impl Builder {
             at: name.at,
         };
         let key = places_in(alloc, table.columns.as_slice(), columns.as_slice())?;
-        if unique {
-            add_unique_key(&mut self.relations, &on.name, key)?;
-        }
-        declare(alloc, &mut self.relations, &name.name, view)
+        declare(alloc, &mut self.relations, &name.name, view)?;
+        add_index_key(&mut self.relations, unique, &on.name, key)?;
+        Ok(())
     }
 
     /// Adds what a statement declares.

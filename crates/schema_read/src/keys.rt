@@ -3,12 +3,12 @@ ghost use Rattle.std.specs.Prelude.{◌≡◌, ◌≤◌, ◌+◌, ◌<◌, ◌^
 ghost use Rattle.std.specs.Option.{option_copied};
 ghost use Rattle.schema_read.specs.Keys.{is_part, same_set, has_key, place_of_key, stands_for};
 ghost use Rattle.schema_read.specs.Indexes.{primary_columns};
-ghost use Rattle.schema_read.specs.Faults.{is_primary_rule};
+ghost use Rattle.schema_read.specs.Faults.{is_primary_rule, own_table};
 ghost use Rattle.schema_read.specs.Building.{with_unique, with_key, with_rule, keys_after, first_primary, built_table};
 
-use crate::names::places_in;
+use crate::names::{names_of, places_in};
 use plain_data::List;
-use sql_model::{Name, Table, TableRule};
+use sql_model::{Name, NameAt, Table, TableRule};
 use std::alloc::{AllocError, Global};
 
 pub(crate) fn is_primary_rule(rule: &TableRule) -> bool
@@ -183,8 +183,7 @@ fn primary_place(keys: &[List<u32>], primary: &Option<List<u32>>) -> Option<u32>
     }
 }
 
-/// A table with the keys that its own rules declare.
-pub(crate) fn own_table(
+fn table_with_keys(
     alloc: Global,
     number: u32,
     columns: List<Name>,
@@ -192,7 +191,7 @@ pub(crate) fn own_table(
 ) -> Result<Table, AllocError>
     requires narrow { length columns ≤ 32 }
     requires few { length rules.now < 2 ^ 31 }
-    ensures built { IfOk result (λ table. table ≡ built_table number columns rules.now) }
+    ensures { IfOk result (λ table. table ≡ built_table number columns rules.now) }
 {
     let primary = first_primary(alloc, columns.as_slice(), rules)?;
     let keys = own_keys(alloc, columns.as_slice(), &primary, rules)?;
@@ -203,4 +202,20 @@ pub(crate) fn own_table(
         keys,
         primary: place,
     })
+}
+
+/// A table with the keys that its own rules declare, faulty ones too.
+pub(crate) fn own_table(
+    alloc: Global,
+    number: u32,
+    columns: &[NameAt],
+    rules: &[TableRule],
+) -> Result<Table, AllocError>
+    requires narrow { length columns.now ≤ 32 }
+    requires few { length rules.now < 2 ^ 31 }
+    ensures { IfOk result (λ table. table ≡ own_table number columns.now rules.now) }
+{
+    let names = names_of(alloc, columns)?;
+    let table = table_with_keys(alloc, number, names, rules)?;
+    Ok(table)
 }

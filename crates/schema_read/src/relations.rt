@@ -3,7 +3,7 @@ ghost use Rattle.std.specs.Prelude.{◌≡◌, ◌≤◌, ◌+◌, [], ◌∷◌
 ghost use Rattle.std.specs.Option.{option_copied};
 ghost use Rattle.sql_model.specs.Relations.{relation_named};
 ghost use Rattle.schema_read.specs.Faults.{new_name_fault, table_in};
-ghost use Rattle.schema_read.specs.Building.{IsNarrow, AreNarrow, changed, with_unique_key};
+ghost use Rattle.schema_read.specs.Building.{IsNarrow, AreNarrow, changed, with_unique_key, with_index_key};
 ghost use Rattle.schema_read.specs.Views.{Passes};
 
 use crate::fault::{SchemaCode, SchemaFault};
@@ -48,12 +48,22 @@ pub(crate) fn declare(
     relations: &mut IndexMap<Name, Relation>,
     name: &Name,
     relation: Relation,
-) -> Result<(), SchemaFault>
+) -> Result<(), AllocError>
     requires { relation_named name.now relations.old.entries ≡ None }
     ensures { OnOk result (relations.new.entries ≡ relations.old.entries ++ (name.now, relation) ∷ []) }
 {
     relations.insert(name.copy(alloc)?, relation)?;
     Ok(())
+}
+
+/// Adds the key of a unique index to a base table.
+fn add_to_table(relation: &mut Relation, key: List<u32>) -> Result<(), AllocError>
+    ensures { OnOk result (relation.new ≡ with_unique_key key relation.old) }
+{
+    match relation {
+        Relation::Table { table } => add_unique(table, key),
+        Relation::View { .. } => Ok(()),
+    }
 }
 
 /// Adds the key of a unique index to the base table of this name.
@@ -65,7 +75,23 @@ pub(crate) fn add_unique_key(
     ensures { OnOk result (relations.new.entries ≡ changed (with_unique_key key) name.now relations.old.entries) }
 {
     match relations.get_mut(name) {
-        Some(Relation::Table { table }) => add_unique(table, key),
-        _ => Ok(()),
+        Some(relation) => add_to_table(relation, key),
+        None => Ok(()),
+    }
+}
+
+/// Adds the key of an index, if it is unique, to the base table of this name.
+pub(crate) fn add_index_key(
+    relations: &mut IndexMap<Name, Relation>,
+    unique: bool,
+    name: &Name,
+    key: List<u32>,
+) -> Result<(), AllocError>
+    ensures { OnOk result (relations.new.entries ≡ with_index_key relations.old.entries unique name.now key) }
+{
+    if unique {
+        add_unique_key(relations, name, key)
+    } else {
+        Ok(())
     }
 }
