@@ -55,7 +55,7 @@ narrow_after_index state name unique on columns (Some table) narrow =
 
 pub narrow_after : (state : State) (s : Statement) → IsSmall s → AreNarrow state.relations → AreNarrow (after_statement state s).relations
 narrow_after state (statement.Table name columns rules) small narrow = 
-    narrow_push state.relations (name.name, relation.Table (own_table state.tables columns rules)) narrow (rw (length-map (λ n. n.name) columns) small.0)
+    narrow_push state.relations (name.name, relation.Table (own_table state.tables columns rules)) narrow (rw (length-map columns) small.0)
 narrow_after state (statement.View name query) small narrow = narrow_push state.relations (name.name, relation.View query name.at) narrow tt
 narrow_after state (statement.Index name unique on columns) small narrow = narrow_after_index state name unique on columns (table_in state.relations on.name) narrow
 
