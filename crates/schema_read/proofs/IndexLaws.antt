@@ -1,6 +1,5 @@
 -- The columns of a key that are not shown yet, added one by one.
-use Rattle.std.proofs.Common.{◌≡◌, ℕ, Bool, true, false, not, cond, List, [], ◌∷◌, ◌++◌, map, filter, slice_get, Option, Some, None, refl, sym, ap, ◌∙◌, append_assoc, if◌then◌else◌}
-use Rattle.std.specs.List.{filter_map}
+use Rattle.std.proofs.Common.{◌≡◌, ℕ, Bool, true, false, List, [], ◌∷◌, ◌++◌, map, slice_get, Option, Some, None, refl, sym, ◌∙◌, append_assoc}
 use Rattle.std.proofs.lemmas.List.{append-nil}
 use Rattle.sql_model.specs.declared.tree.Item.{Item}
 use Rattle.sql_model.specs.declared.statement.NameAt.{NameAt}
@@ -8,7 +7,7 @@ use Rattle.sql_model.specs.declared.schema.Table.{Table}
 use Rattle.sql_model.specs.Syntax.{Name}
 use Rattle.schema_read.specs.Keys.{is_named}
 use Rattle.schema_read.specs.Indexes.{bare_column, column_item, added_columns}
-use Rattle.schema_read.specs.Building.{items_with_name, items_with_key}
+use Rattle.schema_read.specs.Building.{items_with_key}
 
 module _ (shown : List NameAt) (at : ℕ) (table : Table) where
   abbrev Added : List Item → List ℕ → Type 0

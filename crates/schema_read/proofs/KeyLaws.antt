@@ -1,7 +1,6 @@
 -- Keys as sets, and the keys of rules that are added one by one.
-use Rattle.std.proofs.Common.{◌≡◌, ℕ, nat_eq, Bool, true, false, cond, ◌&&◌, ◌||◌, List, [], ◌∷◌, ◌++◌, map, Option, Some, None, refl, sym, ap, subst, ◌∙◌, append_assoc, true≢false, fold, if◌then◌else◌}
-use Rattle.std.specs.List.{list_any, list_all, filter_map}
-use Rattle.std.specs.Option.{option_map}
+use Rattle.std.proofs.Common.{◌≡◌, ℕ, nat_eq, Bool, true, false, cond, ◌&&◌, ◌||◌, List, [], ◌∷◌, ◌++◌, map, Option, Some, None, refl, sym, ap, subst, ◌∙◌, append_assoc, true≢false, fold}
+use Rattle.std.specs.List.{list_any}
 use Rattle.std.proofs.lemmas.List.{append-nil, map-append}
 use Rattle.std.proofs.lemmas.List.Folds.{list_any-append}
 use Rattle.std.proofs.lemmas.Map.Views.{exact_unsigned_eq}
@@ -10,7 +9,7 @@ use Rattle.sql_model.specs.declared.statement.TableRule.TheVariants as rule
 use Rattle.sql_model.specs.Syntax.{Name}
 use Rattle.schema_read.specs.Keys.{KeyRule, is_part, same_set, has_key, if_new, first_of_each, stands_for, keys_from, primary_of, places_in}
 use Rattle.schema_read.specs.Tables.{written_keys, table_of}
-use Rattle.schema_read.specs.Building.{with_key, with_rule, keys_after, first_primary, table_with, built_table}
+use Rattle.schema_read.specs.Building.{with_key, with_rule, first_primary, table_with, built_table}
 
 -- ---- sets
 abbrev is_in : ℕ → List ℕ → Bool

@@ -3,3 +3,4 @@ pub mod Narrow
 pub mod IndexLaws
 pub mod KeyLaws
 pub mod Steps
+pub mod ReadLaws

@@ -1,5 +1,5 @@
 -- What is found among narrow relations is narrow.
-use Rattle.std.proofs.Common.{◌≡◌, Bool, true, false, cond, [], ◌∷◌, Option, Some, None, ap, subst, unwrap_or}
+use Rattle.std.proofs.Common.{◌≡◌, Bool, true, false, cond, [], ◌∷◌, Some, ap, subst, unwrap_or}
 use Rattle.std.specs.Map.{lookup}
 use Rattle.sql_model.specs.Syntax.{Name}
 use Rattle.sql_model.specs.Relations.{Relation}

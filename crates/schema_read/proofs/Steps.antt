@@ -1,6 +1,6 @@
 -- What a statement that is not refused leaves: narrow tables, and at most one more.
 use Rattle.std.proofs.Common.{◌≡◌, ℕ, ◌+◌, ◌≤◌, Bool, true, false, cond, [], ◌∷◌, ◌++◌, List, Option, Some, None, refl, sym, subst, ap, ◌∙◌, arith, suc, ◌<◌, length, get_or, drop, drop-cons, add-one}
-use Rattle.std.specs.Map.{lookup, set_value}
+use Rattle.std.specs.Map.{set_value}
 use Rattle.std.proofs.lemmas.List.{length-map}
 use Rattle.sql_model.specs.declared.schema.Relation.TheVariants as relation
 use Rattle.sql_model.specs.declared.schema.Table.{Table}
@@ -15,7 +15,7 @@ use Rattle.schema_read.specs.Indexes.{index_query}
 use Rattle.schema_read.specs.Faults.{Relations, table_in, own_table}
 use Rattle.data_model.specs.Lists.{Each}
 use Rattle.schema_read.specs.Order.{Fault, or_else}
-use Rattle.schema_read.specs.Building.{State, state_fault, fault_from, built_from, IsSmall, IsNarrow, IsNarrowRelation, AreNarrow, with_unique, with_unique_key, with_named, with_index_key, after_index, after_statement}
+use Rattle.schema_read.specs.Building.{State, state_fault, fault_from, built_from, IsSmall, IsNarrow, IsNarrowRelation, AreNarrow, with_unique_key, with_named, with_index_key, after_index, after_statement}
 use Rattle.schema_read.proofs.Narrow.{narrow_found}
 
 narrow_push : (relations : Relations) (r : Name × Relation) → AreNarrow relations → IsNarrowRelation r.1 → AreNarrow (relations ++ r ∷ [])
@@ -54,7 +54,7 @@ narrow_after_index state name unique on columns (Some table) narrow =
     narrow_index (state.relations ++ (name.name, view) ∷ []) unique on.name (places_in table.columns columns) (narrow_push state.relations (name.name, view) narrow tt)
 
 pub narrow_after : (state : State) (s : Statement) → IsSmall s → AreNarrow state.relations → AreNarrow (after_statement state s).relations
-narrow_after state (statement.Table name columns rules) small narrow = 
+narrow_after state (statement.Table name columns rules) small narrow =
     narrow_push state.relations (name.name, relation.Table (own_table state.tables columns rules)) narrow (rw (length-map columns) small.0)
 narrow_after state (statement.View name query) small narrow = narrow_push state.relations (name.name, relation.View query name.at) narrow tt
 narrow_after state (statement.Index name unique on columns) small narrow = narrow_after_index state name unique on columns (table_in state.relations on.name) narrow

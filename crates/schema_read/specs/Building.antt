@@ -1,7 +1,6 @@
--- How a statement adds to what those before it have built; cited by private contracts alone.
-use Rattle.std.specs.Prelude.{ℕ, ◌+◌, ◌≤◌, ◌<◌, ◌^◌, Bool, true, false, not, ◌&&◌, is_none, if◌then◌else◌, List, [], ◌∷◌, ◌++◌, length, fold, find, slice_get, Option, Some, None, option_and_then, unwrap_or}
-use Rattle.std.specs.List.{list_any, filter_map}
-use Rattle.std.specs.Option.{option_map, option_map_or}
+-- How a statement adds to what those before it have built.
+use Rattle.std.specs.Prelude.{ℕ, ◌+◌, ◌≤◌, ◌<◌, ◌^◌, Bool, true, false, not, if◌then◌else◌, List, [], ◌∷◌, ◌++◌, length, fold, find, slice_get, Option, Some, None, option_and_then, unwrap_or}
+use Rattle.std.specs.Option.{option_map}
 use Rattle.sql_model.specs.declared.statement.NameAt.{NameAt}
 use Rattle.sql_model.specs.declared.statement.TableRule.{TableRule}
 use Rattle.sql_model.specs.declared.statement.TableRule.TheVariants as rule
@@ -148,6 +147,9 @@ fault_from state (s ∷ statements) = or_else (state_fault state s) (fault_from 
 
 abbrev pub built_from : State → List Statement → State
 built_from state statements = fold after_statement state statements
+
+abbrev pub schema_fault : List Statement → Option Fault
+schema_fault statements = fault_from no_statements statements
 
 -- what a builder can number
 abbrev pub IsSmall : Statement → Type 0

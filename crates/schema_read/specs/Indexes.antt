@@ -1,5 +1,5 @@
 -- The view of an index: a plain block that shows the indexed columns and then those of the primary key that are not shown yet.
-use Rattle.std.specs.Prelude.{ℕ, false, not, List, [], ◌∷◌, ◌++◌, map, filter, slice_get, Option, Some, None, option_and_then, unwrap_or}
+use Rattle.std.specs.Prelude.{ℕ, false, not, List, [], ◌∷◌, ◌++◌, map, filter, slice_get, Option, None, option_and_then, unwrap_or}
 use Rattle.std.specs.List.{filter_map}
 use Rattle.sql_model.specs.declared.tree.Item.{Item}
 use Rattle.sql_model.specs.declared.tree.Item.TheVariants as item

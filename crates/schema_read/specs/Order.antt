@@ -1,6 +1,8 @@
 -- Faults in an order, and members of a list seen with those before them.
-use Rattle.std.specs.Prelude.{ℕ, Bool, true, false, List, [], ◌∷◌, ◌++◌, Option, Some, None}
+use Rattle.std.specs.Prelude.{ℕ, ◌≡◌, Bool, true, false, List, [], ◌∷◌, ◌++◌, Option, Some, None}
 use Rattle.schema_read.specs.declared.fault.SchemaCode.{SchemaCode}
+use Rattle.schema_read.specs.declared.fault.SchemaFault.{SchemaFault}
+use Rattle.schema_read.specs.declared.fault.SchemaFault.TheVariants as refusal
 
 pub record Fault : Type 0 where
   pub code : SchemaCode
@@ -25,7 +27,7 @@ abbrev pub first_along : {X : Type 0} → (List X → X → Option Fault) → Li
 first_along fault earlier [] = None
 first_along fault earlier (x ∷ xs) = or_else (fault earlier x) (first_along fault (earlier ++ x ∷ []) xs)
 
--- what the members give, each seen with those before it
-abbrev pub map_along : {X Y : Type 0} → (List X → X → Y) → List X → List X → List Y
-map_along f earlier [] = []
-map_along f earlier (x ∷ xs) = f earlier x ∷ map_along f (earlier ++ x ∷ []) xs
+-- A refusal is this fault; want of memory may come at any time.
+abbrev pub Refuses : SchemaFault → Option Fault → Type 0
+Refuses (refusal.Refused code at) found = found ≡ Some (record { code = code; at = at })
+Refuses refusal.NoMemory found = Unit {0}

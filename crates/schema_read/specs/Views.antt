@@ -1,18 +1,12 @@
 -- What private contracts see of the answers of the builder.
-use Rattle.std.specs.Prelude.{ℕ, ◌≡◌, List, Option, Some, None, Result, Ok, Err}
+use Rattle.std.specs.Prelude.{◌≡◌, List, Option, None, Result, Ok, Err}
 use Rattle.schema_read.specs.declared.fault.SchemaFault.{SchemaFault}
-use Rattle.schema_read.specs.declared.fault.SchemaFault.TheVariants as fault
 use Rattle.schema_read.specs.declared.builder.Builder.{Builder}
 use Rattle.sql_model.specs.declared.schema.Schema.{Schema}
 use Rattle.sql_model.specs.declared.schema.Fkey.{Fkey}
-use Rattle.schema_read.specs.Order.{Fault}
+use Rattle.schema_read.specs.Order.{Fault, Refuses}
 use Rattle.schema_read.specs.Faults.{Relations}
 use Rattle.schema_read.specs.Building.{State}
-
--- A refusal is this fault; want of memory may come at any time.
-abbrev pub Refuses : SchemaFault → Option Fault → Type 0
-Refuses (fault.Refused code at) found = found ≡ Some (record { code = code; at = at })
-Refuses fault.NoMemory found = Unit {0}
 
 -- What a function returned, seen by view, where there is no such fault.
 abbrev pub Gives : {X Y : Type 0} → (X → Y) → Result X SchemaFault → Option Fault → Y → Type 0

@@ -44,8 +44,7 @@ fn place_of_key(keys: &[List<u32>], key: &[u32]) -> Option<usize>
 pub(crate) fn has_key(keys: &[List<u32>], columns: &[u32]) -> bool
     ensures { result ≡ has_key keys.now columns.now }
 {
-    keys.iter()
-        .any(|key| is_same_set(columns, key.as_slice()))
+    keys.iter().any(|key| is_same_set(columns, key.as_slice()))
 }
 
 /// The columns of the primary key, in its order.
@@ -80,10 +79,7 @@ fn standing_for(
     match primary {
         Some(primary) => {
             if is_same_set(primary.as_slice(), key.as_slice()) {
-                Ok(List::from_vec(Vec::from_slice(
-                    alloc,
-                    primary.as_slice(),
-                )?))
+                Ok(List::from_vec(Vec::from_slice(alloc, primary.as_slice())?))
             } else {
                 Ok(key)
             }

@@ -6,6 +6,7 @@ mod fault;
 mod foreign;
 mod indexes;
 mod keys;
+pub mod laws;
 mod names;
 mod read;
 mod relations;

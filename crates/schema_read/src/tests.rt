@@ -75,10 +75,15 @@ fn a_reference_without_a_list_wants_a_primary_key(rt: HostRuntime) -> Result<(),
     statements.push(table(alloc, "r", "a", List::new(alloc))?)?;
     let rules = one(alloc, foreign(alloc, "b", "r", None, 56)?)?;
     statements.push(table(alloc, "s", "b", rules)?)?;
-    assert!(rt; matches!(
-        read_schema(alloc, &statements),
-        Err(SchemaFault::Refused { code: SchemaCode::NoSuchKey, at: 56 })
-    ));
+    assert!(rt;
+        matches!(
+            read_schema(alloc, &statements),
+            Err(SchemaFault::Refused {
+                code: SchemaCode::NoSuchKey,
+                at: 56
+            })
+        )
+    );
     Ok(())
 }
 

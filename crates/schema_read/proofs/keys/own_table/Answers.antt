@@ -1,5 +1,4 @@
-use Rattle.std.proofs.Common.{◌≤◌, ◌∙◌, ap, length}
-use Rattle.std.proofs.lemmas.List.{length-map}
+use Rattle.std.proofs.Common.{◌∙◌, ap}
 use Rattle.schema_read.specs.Tables.{table_of, written_keys}
 use Rattle.schema_read.proofs.KeyLaws.{built_table-is}
 use Rattle.schema_read.proofs.keys.own_table.Goals as goal

@@ -1,6 +1,6 @@
-use Rattle.std.proofs.Common.{refl, sym, subst, ◌∙◌}
+use Rattle.std.proofs.Common.{refl, sym, subst}
 use Rattle.std.proofs.lemmas.Result.{err_from_is_err_and}
-use Rattle.schema_read.specs.Views.{Refuses}
+use Rattle.schema_read.specs.Order.{Refuses}
 use Rattle.schema_read.proofs.OrderLaws.{or_else-none}
 use Rattle.schema_read.proofs.builder.Builder.add_table.Goals as goal
 

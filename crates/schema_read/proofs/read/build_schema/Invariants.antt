@@ -2,7 +2,7 @@ use Rattle.std.proofs.Common.{◌≡◌, ◌≤◌, drop}
 use Rattle.data_model.specs.Lists.{Each}
 use Rattle.schema_read.specs.Building.{IsSmall, AreNarrow, no_statements, fault_from, built_from}
 use Rattle.schema_read.specs.Views.{seen}
-use Rattle.schema_read.proofs.read.read_schema.Given as goal
+use Rattle.schema_read.proofs.read.build_schema.Given as goal
 
 abbrev pub invariant-loop-statement : goal.invariant-loop-statement
 invariant-loop-statement l = record {
