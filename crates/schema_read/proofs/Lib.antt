@@ -4,3 +4,4 @@ pub mod IndexLaws
 pub mod KeyLaws
 pub mod Steps
 pub mod ReadLaws
+pub mod TableNumbers

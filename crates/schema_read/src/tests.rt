@@ -1,6 +1,6 @@
 use crate::{SchemaCode, SchemaFault, read_schema};
 use plain_data::List;
-use sql_model::{Name, NameAt, Relation, Statement, TableRule};
+use sql_model::{Expr, Item, Name, NameAt, Query, Relation, Statement, TableRule};
 use std::alloc::{AllocError, Global};
 use std::test::Fail;
 
@@ -108,5 +108,51 @@ fn a_primary_key_takes_the_number_of_an_older_key(rt: HostRuntime) -> Result<(),
     };
     assert_eq!(rt; fkey.cols.as_slice(), [0, 1].as_slice());
     assert_eq!(rt; fkey.key.as_slice(), [0, 1].as_slice());
+    Ok(())
+}
+
+/// The name and the place of a bare column.
+fn column_of(item: &Item) -> Option<(&[u8], u32)> {
+    match item {
+        Item::Value {
+            expr: Expr::Col {
+                qual: None,
+                name,
+                at,
+                ..
+            },
+            name: None,
+        } => Some((name.as_bytes(), *at)),
+        _ => None,
+    }
+}
+
+/// `CREATE TABLE r (a INT, b INT, c INT, PRIMARY KEY (c, a));CREATE INDEX i ON r (b, a);`
+#[test]
+fn an_index_shows_its_columns_and_then_the_primary_key(rt: HostRuntime) -> Result<(), Fail> {
+    let alloc = rt.alloc();
+    let rules = one(alloc, key(alloc, true, "ca", 40)?)?;
+    let mut statements = List::new(alloc);
+    statements.push(table(alloc, "r", "abc", rules)?)?;
+    statements.push(Statement::Index {
+        name: name_at(alloc, "i", 71)?,
+        unique: false,
+        table: name_at(alloc, "r", 76)?,
+        columns: names_at(alloc, "ba", 79)?,
+    })?;
+    let schema = read_schema(alloc, &statements)?;
+    let Some((_, Relation::View { query, at })) = schema.relations.get_index(1) else {
+        return Err(Fail::new("no index"));
+    };
+    assert_eq!(rt; *at, 71);
+    let Query::Block { block } = query else {
+        return Err(Fail::new("no block"));
+    };
+    let [first, second, third] = block.get().items.as_slice() else {
+        return Err(Fail::new("not three columns"));
+    };
+    assert_eq!(rt; column_of(first), Some((b"b".as_slice(), 79)));
+    assert_eq!(rt; column_of(second), Some((b"a".as_slice(), 80)));
+    assert_eq!(rt; column_of(third), Some((b"c".as_slice(), 76)));
     Ok(())
 }
