@@ -1,5 +1,6 @@
 -- Keys as sets, and the keys of rules that are added one by one.
-use Rattle.std.proofs.Common.{◌≡◌, ℕ, nat_eq, Bool, true, false, cond, ◌&&◌, ◌||◌, List, [], ◌∷◌, ◌++◌, map, Option, Some, None, refl, sym, ap, subst, ◌∙◌, append_assoc, true≢false, fold}
+use Rattle.std.proofs.lemmas.Bool.Decides.{nat_tests}
+use Rattle.std.proofs.Common.{◌≡◌, arith, ℕ, nat_eq, Bool, true, false, cond, ◌&&◌, ◌||◌, List, [], ◌∷◌, ◌++◌, map, Option, Some, None, refl, sym, ap, subst, ◌∙◌, append_assoc, true≢false, fold}
 use Rattle.std.specs.List.{list_any}
 use Rattle.std.proofs.lemmas.List.{append-nil, map-append}
 use Rattle.std.proofs.lemmas.List.Folds.{list_any-append}
@@ -53,6 +54,25 @@ set_trans xs ys zs e f =
     let q = and_parts (is_part ys zs) (is_part zs ys) f in
     both (is_part xs zs) (is_part zs xs) (part_part xs ys zs p.0 q.0) (part_part zs ys xs q.1 p.1)
 
+part_self : (xs ys : List ℕ) → ((x : ℕ) → is_in x xs ≡ true → is_in x ys ≡ true) → is_part xs ys ≡ true
+part_self [] ys within = refl
+part_self (x ∷ xs) ys within =
+    both (is_in x ys) (is_part xs ys) (within x (first_in (nat_eq x x) (is_in x xs) (exact_refl x)))
+    (part_self xs ys (λ z m. within z (later_in (nat_eq x z) (is_in z xs) m)))
+  where
+    first_in : (a b : Bool) → a ≡ true → (a || b) ≡ true
+    first_in a b e = rw e refl
+
+    later_in : (a b : Bool) → b ≡ true → (a || b) ≡ true
+    later_in true b e = refl
+    later_in false b e = e
+
+    exact_refl : (n : ℕ) → nat_eq n n ≡ true
+    exact_refl n = grind (arith, nat_tests)
+
+pub set_self : (xs : List ℕ) → same_set xs xs ≡ true
+set_self xs = let whole = part_self xs xs (λ x m. m) in both (is_part xs xs) (is_part xs xs) whole whole
+
 set_congr : (k xs ys : List ℕ) → same_set xs ys ≡ true → same_set k xs ≡ same_set k ys
 set_congr k xs ys e =
     iff (same_set k xs) (same_set k ys) (λ p. set_trans k xs ys p e) (λ p. set_trans k ys xs p (set_sym xs ys e))
@@ -71,7 +91,7 @@ first_push e (x ∷ ks) k =
     ap (if_new e x) (first_push (e ++ x ∷ []) ks k ∙ ap (λ es. first_of_each (e ++ x ∷ []) ks ++ if_new es k []) (append_assoc e (x ∷ []) ks))
     ∙ if_new-append e x (first_of_each (e ++ x ∷ []) ks) (if_new (e ++ x ∷ ks) k [])
 
-among : (k x : List ℕ) (e : List (List ℕ)) → has_key e x ≡ true → same_set k x ≡ true → has_key e k ≡ true
+pub among : (k x : List ℕ) (e : List (List ℕ)) → has_key e x ≡ true → same_set k x ≡ true → has_key e k ≡ true
 among k x [] h t = h
 among k x (y ∷ e) h t = by (same_set x y) refl h (λ rest. among k x e rest t)
   where
@@ -118,7 +138,7 @@ standing_has : (k : List ℕ) (p : Option (List ℕ)) (xs : List (List ℕ)) →
 standing_has k p [] = refl
 standing_has k p (x ∷ xs) = rw (standing_set k p x, standing_has k p xs) refl
 
-kept_has : (k : List ℕ) (p : Option (List ℕ)) (ks : List (List ℕ)) → has_key (keys_from p ks) k ≡ has_key ks k
+pub kept_has : (k : List ℕ) (p : Option (List ℕ)) (ks : List (List ℕ)) → has_key (keys_from p ks) k ≡ has_key ks k
 kept_has k p ks = standing_has k p (first_of_each [] ks) ∙ first_has k [] ks
 
 -- a further key
@@ -132,7 +152,7 @@ keys_push p ks k =
     by false = refl
 
 -- ---- the rules of a table
-abbrev sets : List KeyRule → List (List ℕ)
+abbrev pub sets : List KeyRule → List (List ℕ)
 sets rules = map (λ r. r.columns) rules
 
 keys_after-from : (columns : List Name) (p : Option (List ℕ)) (ks : List (List ℕ)) (rules : List TableRule)

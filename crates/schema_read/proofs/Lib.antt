@@ -2,6 +2,8 @@ pub mod OrderLaws
 pub mod Narrow
 pub mod IndexLaws
 pub mod KeyLaws
+pub mod UniqueKeys
+pub mod Links
 pub mod Steps
 pub mod ReadLaws
 pub mod TableNumbers

@@ -15,7 +15,8 @@ use Rattle.schema_read.specs.Indexes.{index_query}
 use Rattle.schema_read.specs.Faults.{Relations, table_in, own_table}
 use Rattle.data_model.specs.Lists.{Each}
 use Rattle.schema_read.specs.Order.{Fault, or_else}
-use Rattle.schema_read.specs.Building.{State, state_fault, fault_from, built_from, IsSmall, IsNarrow, IsNarrowRelation, AreNarrow, with_unique_key, with_named, with_index_key, after_index, after_statement}
+use Rattle.schema_read.specs.Declarations.{IsSmall}
+use Rattle.schema_read.specs.Building.{State, state_fault, fault_from, built_from, IsNarrow, IsNarrowRelation, AreNarrow, with_unique_key, with_named, with_index_key, after_index, after_statement}
 use Rattle.schema_read.proofs.Narrow.{narrow_found}
 
 narrow_push : (relations : Relations) (r : Name × Relation) → AreNarrow relations → IsNarrowRelation r.1 → AreNarrow (relations ++ r ∷ [])

@@ -18,7 +18,9 @@ use Rattle.schema_read.specs.Keys.{has_key, places_in}
 use Rattle.schema_read.specs.Indexes.{index_query}
 use Rattle.schema_read.specs.Faults.{Relations, table_in, own_table}
 use Rattle.schema_read.specs.Building.{State, no_statements, with_unique_key, with_named, with_index_key, after_index, after_statement, built_from}
-use Rattle.schema_read.specs.Builds.{Builds, built}
+use Rattle.schema_read.specs.Builds.{Builds}
+use Rattle.schema_read.specs.Declarations.{count_tables}
+use Rattle.schema_read.proofs.Links.{built_linked}
 
 abbrev number_of : Relation → List ℕ
 number_of (relation.Table table) = table.number ∷ []
@@ -90,6 +92,8 @@ built-in_order state [] ordered = ordered
 built-in_order state (s ∷ statements) ordered = built-in_order (after_statement state s) statements (after-in_order state s ordered)
 
 pub numbered : (statements : List Statement) (schema : Schema) → Builds statements schema
-    → map (λ table. table.number) (base_tables schema) ≡ list_below (built statements).tables (λ k. k)
+    → map (λ table. table.number) (base_tables schema) ≡ list_below (count_tables statements) (λ k. k)
 numbered statements schema builds =
-    numbers-are schema.relations.entries ∙ ap numbers builds.relations ∙ built-in_order no_statements statements refl
+    let linked = built_linked statements builds.faultless in
+    numbers-are schema.relations.entries ∙ ap numbers (builds.relations ∙ sym linked.relations) ∙ built-in_order no_statements statements refl
+    ∙ ap (λ n. list_below n (λ k. k)) linked.tables

@@ -1,4 +1,5 @@
--- How a statement adds to what those before it have built.
+-- How the builder adds a statement to what those before it have built. Only contracts of private functions cite this form; it builds what
+-- Declarations says.
 use Rattle.std.specs.Prelude.{ℕ, ◌+◌, ◌≤◌, ◌<◌, ◌^◌, Bool, true, false, not, if◌then◌else◌, List, [], ◌∷◌, ◌++◌, length, fold, find, slice_get, Option, Some, None, option_and_then, unwrap_or}
 use Rattle.std.specs.Option.{option_map}
 use Rattle.sql_model.specs.declared.statement.NameAt.{NameAt}
@@ -17,6 +18,7 @@ use Rattle.sql_model.specs.Relations.{Relation, relation_named}
 use Rattle.schema_read.specs.Order.{Fault, or_else}
 use Rattle.schema_read.specs.Keys.{is_named, places_in, place_of_key, has_key, stands_for}
 use Rattle.schema_read.specs.Indexes.{primary_columns, bare_column, index_query}
+use Rattle.schema_read.specs.ForeignKeys.{foreign_key}
 use Rattle.schema_read.specs.Faults.{Relations, table_in, referenced, is_primary_rule, own_table, statement_fault}
 
 -- ---- keys
@@ -47,19 +49,6 @@ abbrev pub built_table : ℕ → List Name → List TableRule → Table
 built_table number columns rules = table_with number columns (first_primary columns rules) (keys_after columns (first_primary columns rules) rules)
 
 -- ---- foreign keys
--- the referenced columns, or the primary key where none are written
-abbrev pub referenced_key : Table → Option (List NameAt) → List ℕ
-referenced_key table None = unwrap_or (primary_columns table) []
-referenced_key table (Some names) = places_in table.columns names
-
-abbrev pub reference : Table → List NameAt → Option (List NameAt) → Table → Fkey
-reference own columns target table =
-    record { from = own.number; cols = places_in own.columns columns; to = table.number; key = referenced_key table target }
-
-abbrev pub foreign_key : Relations → Name → Table → TableRule → Option Fkey
-foreign_key relations name own (rule.Key primary columns at) = None
-foreign_key relations name own (rule.Foreign columns to target) = option_map (reference own columns target) (referenced relations name own to.name)
-
 abbrev pub with_fkey : List Fkey → Option Fkey → List Fkey
 with_fkey fkeys None = fkeys
 with_fkey fkeys (Some fkey) = fkeys ++ fkey ∷ []
@@ -147,12 +136,3 @@ fault_from state (s ∷ statements) = or_else (state_fault state s) (fault_from 
 
 abbrev pub built_from : State → List Statement → State
 built_from state statements = fold after_statement state statements
-
-abbrev pub schema_fault : List Statement → Option Fault
-schema_fault statements = fault_from no_statements statements
-
--- what a builder can number
-abbrev pub IsSmall : Statement → Type 0
-IsSmall (statement.Table name columns rules) = (length columns ≤ 32) × (length rules < 2 ^ 31)
-IsSmall (statement.View name query) = Unit {0}
-IsSmall (statement.Index name unique on columns) = Unit {0}

@@ -3,7 +3,9 @@ pub mod Keys
 pub mod Tables
 pub mod Indexes
 pub mod Faults
-pub mod Building
+pub mod ForeignKeys
+pub mod Declarations
 pub mod Builds
+pub mod Building
 pub mod Views
 mod Samples

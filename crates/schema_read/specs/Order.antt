@@ -27,6 +27,11 @@ abbrev pub first_along : {X : Type 0} → (List X → X → Option Fault) → Li
 first_along fault earlier [] = None
 first_along fault earlier (x ∷ xs) = or_else (fault earlier x) (first_along fault (earlier ++ x ∷ []) xs)
 
+-- what the members give, each seen with those before it
+abbrev pub map_along : {X Y : Type 0} → (List X → X → Y) → List X → List X → List Y
+map_along give earlier [] = []
+map_along give earlier (x ∷ xs) = give earlier x ∷ map_along give (earlier ++ x ∷ []) xs
+
 -- A refusal is this fault; want of memory may come at any time.
 abbrev pub Refuses : SchemaFault → Option Fault → Type 0
 Refuses (refusal.Refused code at) found = found ≡ Some (record { code = code; at = at })

@@ -6,13 +6,12 @@ use Rattle.sql_model.specs.declared.statement.TableRule.TheVariants as rule
 use Rattle.sql_model.specs.declared.statement.Statement.{Statement}
 use Rattle.sql_model.specs.declared.statement.Statement.TheVariants as statement
 use Rattle.sql_model.specs.declared.schema.Table.{Table}
-use Rattle.sql_model.specs.declared.schema.Fkey.{Fkey}
 use Rattle.sql_model.specs.Syntax.{Name}
 use Rattle.schema_read.specs.declared.fault.SchemaCode.{SchemaCode}
 use Rattle.schema_read.specs.declared.fault.SchemaCode.TheVariants as code
 use Rattle.schema_read.specs.Order.{Fault}
-use Rattle.schema_read.specs.Faults.{table_in}
-use Rattle.schema_read.specs.Building.{no_statements, fault_from, built_from}
+use Rattle.schema_read.specs.Declarations.{table_named, fkeys_of}
+use Rattle.schema_read.specs.Builds.{schema_fault}
 
 abbrev at_ : Name → ℕ → NameAt
 at_ name at = record { name = name; at = at }
@@ -57,79 +56,73 @@ table_s rules = statement.Table (at_ s 8) (a ∷ b ∷ []) rules
 abbrev index_on : Bool → Name → List NameAt → Statement
 index_on is_unique name columns = statement.Index (at_ s 8) is_unique (at_ name 9) columns
 
-abbrev fault_of : List Statement → Option Fault
-fault_of statements = fault_from no_statements statements
-
 abbrev refused : SchemaCode → ℕ → Option Fault
 refused c at = Some (record { code = c; at = at })
 
 abbrev keys_of_r : List Statement → Option (List (List ℕ))
-keys_of_r statements = keys (table_in (built_from no_statements statements).relations r)
+keys_of_r statements = keys (table_named statements r)
   where
     keys : Option Table → Option (List (List ℕ))
     keys None = None
     keys (Some table) = Some table.keys
 
-abbrev fkeys_of : List Statement → List Fkey
-fkeys_of statements = (built_from no_statements statements).fkeys
-
 -- ---- one fault each
-a_name_twice : fault_of (table_r [] ∷ table_r [] ∷ []) ≡ refused code.TableTwice 7
+a_name_twice : schema_fault (table_r [] ∷ table_r [] ∷ []) ≡ refused code.TableTwice 7
 a_name_twice = refl
 
-an_index_named_as_a_table : fault_of (table_s [] ∷ index_on false s (a ∷ []) ∷ []) ≡ refused code.TableTwice 8
+an_index_named_as_a_table : schema_fault (table_s [] ∷ index_on false s (a ∷ []) ∷ []) ≡ refused code.TableTwice 8
 an_index_named_as_a_table = refl
 
-a_column_twice : fault_of (statement.Table (at_ r 7) (a ∷ at_ (codes "a") 5 ∷ []) [] ∷ []) ≡ refused code.ColumnTwice 5
+a_column_twice : schema_fault (statement.Table (at_ r 7) (a ∷ at_ (codes "a") 5 ∷ []) [] ∷ []) ≡ refused code.ColumnTwice 5
 a_column_twice = refl
 
-a_column_twice_in_a_key : fault_of (table_r (unique (a ∷ at_ (codes "a") 5 ∷ []) ∷ []) ∷ []) ≡ refused code.ColumnTwice 5
+a_column_twice_in_a_key : schema_fault (table_r (unique (a ∷ at_ (codes "a") 5 ∷ []) ∷ []) ∷ []) ≡ refused code.ColumnTwice 5
 a_column_twice_in_a_key = refl
 
-no_such_table : fault_of (table_s (to_r (a ∷ []) None ∷ []) ∷ []) ≡ refused code.UnknownTable 9
+no_such_table : schema_fault (table_s (to_r (a ∷ []) None ∷ []) ∷ []) ≡ refused code.UnknownTable 9
 no_such_table = refl
 
 -- a later table is not seen
-not_yet_declared : fault_of (table_s (to_r (a ∷ []) None ∷ []) ∷ table_r [] ∷ []) ≡ refused code.UnknownTable 9
+not_yet_declared : schema_fault (table_s (to_r (a ∷ []) None ∷ []) ∷ table_r [] ∷ []) ≡ refused code.UnknownTable 9
 not_yet_declared = refl
 
-an_index_on_no_table : fault_of (index_on false r (a ∷ []) ∷ []) ≡ refused code.UnknownTable 9
+an_index_on_no_table : schema_fault (index_on false r (a ∷ []) ∷ []) ≡ refused code.UnknownTable 9
 an_index_on_no_table = refl
 
-no_such_column : fault_of (table_r (unique (z ∷ []) ∷ []) ∷ []) ≡ refused code.UnknownColumn 3
+no_such_column : schema_fault (table_r (unique (z ∷ []) ∷ []) ∷ []) ≡ refused code.UnknownColumn 3
 no_such_column = refl
 
-no_such_key : fault_of (table_r (unique (a ∷ []) ∷ []) ∷ table_s (to_r (a ∷ []) (Some (b ∷ [])) ∷ []) ∷ []) ≡ refused code.NoSuchKey 9
+no_such_key : schema_fault (table_r (unique (a ∷ []) ∷ []) ∷ table_s (to_r (a ∷ []) (Some (b ∷ [])) ∷ []) ∷ []) ≡ refused code.NoSuchKey 9
 no_such_key = refl
 
-no_primary_key : fault_of (table_r (unique (a ∷ []) ∷ []) ∷ table_s (to_r (a ∷ []) None ∷ []) ∷ []) ≡ refused code.NoSuchKey 9
+no_primary_key : schema_fault (table_r (unique (a ∷ []) ∷ []) ∷ table_s (to_r (a ∷ []) None ∷ []) ∷ []) ≡ refused code.NoSuchKey 9
 no_primary_key = refl
 
-counts_differ : fault_of (table_r (unique (a ∷ []) ∷ []) ∷ table_s (to_r (a ∷ b ∷ []) (Some (a ∷ [])) ∷ []) ∷ []) ≡ refused code.CountDiffers 9
+counts_differ : schema_fault (table_r (unique (a ∷ []) ∷ []) ∷ table_s (to_r (a ∷ b ∷ []) (Some (a ∷ [])) ∷ []) ∷ []) ≡ refused code.CountDiffers 9
 counts_differ = refl
 
-a_second_primary_key : fault_of (table_r (primary (a ∷ []) 5 ∷ primary (b ∷ []) 6 ∷ []) ∷ []) ≡ refused code.PrimaryTwice 6
+a_second_primary_key : schema_fault (table_r (primary (a ∷ []) 5 ∷ primary (b ∷ []) 6 ∷ []) ∷ []) ≡ refused code.PrimaryTwice 6
 a_second_primary_key = refl
 
 -- ---- the first of two
-columns_before_a_second_primary_key : fault_of (table_r (primary (a ∷ []) 5 ∷ primary (z ∷ []) 6 ∷ []) ∷ []) ≡ refused code.UnknownColumn 3
+columns_before_a_second_primary_key : schema_fault (table_r (primary (a ∷ []) 5 ∷ primary (z ∷ []) 6 ∷ []) ∷ []) ≡ refused code.UnknownColumn 3
 columns_before_a_second_primary_key = refl
 
-the_table_before_the_referenced_columns : fault_of (table_s (to_r (a ∷ []) (Some (z ∷ [])) ∷ []) ∷ []) ≡ refused code.UnknownTable 9
+the_table_before_the_referenced_columns : schema_fault (table_s (to_r (a ∷ []) (Some (z ∷ [])) ∷ []) ∷ []) ≡ refused code.UnknownTable 9
 the_table_before_the_referenced_columns = refl
 
-counts_before_the_key : fault_of (table_r [] ∷ table_s (to_r (a ∷ b ∷ []) (Some (a ∷ [])) ∷ []) ∷ []) ≡ refused code.CountDiffers 9
+counts_before_the_key : schema_fault (table_r [] ∷ table_s (to_r (a ∷ b ∷ []) (Some (a ∷ [])) ∷ []) ∷ []) ≡ refused code.CountDiffers 9
 counts_before_the_key = refl
 
 -- ---- references of a table to itself see its later rules, faulty ones too
-itself_with_a_list : fault_of (table_r (to_r (a ∷ []) (Some (b ∷ [])) ∷ unique (b ∷ []) ∷ []) ∷ []) ≡ None
+itself_with_a_list : schema_fault (table_r (to_r (a ∷ []) (Some (b ∷ [])) ∷ unique (b ∷ []) ∷ []) ∷ []) ≡ None
 itself_with_a_list = refl
 
 itself_without_a_list : fkeys_of (table_r (to_r (a ∷ b ∷ []) None ∷ primary (b ∷ a ∷ []) 5 ∷ []) ∷ [])
     ≡ record { from = 0; cols = 0 ∷ 1 ∷ []; to = 0; key = 1 ∷ 0 ∷ [] } ∷ []
 itself_without_a_list = refl
 
-a_faulty_primary_key : fault_of (table_r (to_r (a ∷ []) None ∷ primary (a ∷ z ∷ []) 5 ∷ []) ∷ []) ≡ refused code.CountDiffers 9
+a_faulty_primary_key : schema_fault (table_r (to_r (a ∷ []) None ∷ primary (a ∷ z ∷ []) 5 ∷ []) ∷ []) ≡ refused code.CountDiffers 9
 a_faulty_primary_key = refl
 
 -- ---- keys
@@ -148,5 +141,5 @@ a_primary_key_for_an_older_key : keys_of_r (table_r (unique (b ∷ a ∷ []) ∷
 a_primary_key_for_an_older_key = refl
 
 -- a unique index is a key for later statements
-a_key_of_an_index : fault_of (table_r [] ∷ index_on true r (b ∷ []) ∷ statement.Table (at_ (codes "t") 8) (a ∷ []) (to_r (a ∷ []) (Some (b ∷ [])) ∷ []) ∷ []) ≡ None
+a_key_of_an_index : schema_fault (table_r [] ∷ index_on true r (b ∷ []) ∷ statement.Table (at_ (codes "t") 8) (a ∷ []) (to_r (a ∷ []) (Some (b ∷ [])) ∷ []) ∷ []) ≡ None
 a_key_of_an_index = refl

@@ -77,7 +77,8 @@ fn add_rules(
 
 impl Builder {
     ghost use Rattle.sql_model.specs.declared.statement.Statement.TheVariants.{Table as ATable, View as AView, Index as AnIndex};
-    ghost use Rattle.schema_read.specs.Building.{AreNarrow, IsSmall, no_statements, state_fault, after_statement};
+    ghost use Rattle.schema_read.specs.Declarations.{IsSmall};
+    ghost use Rattle.schema_read.specs.Building.{AreNarrow, no_statements, state_fault, after_statement};
     ghost use Rattle.schema_read.specs.Views.{Gives, seen};
 
     pub(crate) fn new(alloc: Global) -> Builder

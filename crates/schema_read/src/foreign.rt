@@ -2,7 +2,8 @@
 ghost use Rattle.std.specs.Prelude.{◌≡◌, ◌≤◌, length, IfSome, Some, None};
 ghost use Rattle.std.specs.Option.{option_copied};
 ghost use Rattle.schema_read.specs.Faults.{referenced, key_fault, reference_fault, rule_fault};
-ghost use Rattle.schema_read.specs.Building.{IsNarrow, AreNarrow, referenced_key, foreign_key};
+ghost use Rattle.schema_read.specs.ForeignKeys.{referenced_key, foreign_key};
+ghost use Rattle.schema_read.specs.Building.{IsNarrow, AreNarrow};
 ghost use Rattle.schema_read.specs.Views.{Gives};
 
 use crate::fault::{SchemaCode, SchemaFault};

@@ -1,8 +1,9 @@
 //! Statements to a schema.
 ghost use Rattle.std.specs.Prelude.{◌≤◌, length, IfOk, IfErr};
 ghost use Rattle.data_model.specs.Lists.{Each};
-ghost use Rattle.schema_read.specs.Building.{IsSmall, no_statements, fault_from, built_from, schema_fault};
-ghost use Rattle.schema_read.specs.Builds.{Builds};
+ghost use Rattle.schema_read.specs.Declarations.{IsSmall};
+ghost use Rattle.schema_read.specs.Builds.{Builds, schema_fault};
+ghost use Rattle.schema_read.specs.Building.{no_statements, fault_from, built_from};
 ghost use Rattle.schema_read.specs.Order.{Refuses};
 ghost use Rattle.schema_read.specs.Views.{Gives, seen_schema, shown};
 

@@ -1,6 +1,7 @@
 use Rattle.std.proofs.Common.{◌≡◌, ◌≤◌, drop}
 use Rattle.data_model.specs.Lists.{Each}
-use Rattle.schema_read.specs.Building.{IsSmall, AreNarrow, no_statements, fault_from, built_from}
+use Rattle.schema_read.specs.Declarations.{IsSmall}
+use Rattle.schema_read.specs.Building.{AreNarrow, no_statements, fault_from, built_from}
 use Rattle.schema_read.specs.Views.{seen}
 use Rattle.schema_read.proofs.read.build_schema.Given as goal
 
