@@ -7,3 +7,5 @@ pub mod Links
 pub mod Steps
 pub mod ReadLaws
 pub mod TableNumbers
+pub mod ColumnsFit
+pub mod FkeysFit

@@ -222,7 +222,7 @@ module _ (name on : NameAt) (columns : List NameAt) where
           ∙ ap (λ rs. (declared_name x, declared_relation (all ++ index ∷ []) e x) ∷ rs) (rest h)
 
 -- ---- look-ups where more follows
-lookup_first : {X : Type 0} (test : Name → Bool) (es others : List (Name × X)) (x : X) → lookup test es ≡ Some x → lookup test (es ++ others) ≡ Some x
+pub lookup_first : {X : Type 0} (test : Name → Bool) (es others : List (Name × X)) (x : X) → lookup test es ≡ Some x → lookup test (es ++ others) ≡ Some x
 lookup_first test [] others x h = absurd (none-some x h)
 lookup_first test (y ∷ es) others x h = by (test y.0) h (λ rest. lookup_first test es others x rest)
   where
@@ -241,7 +241,7 @@ set_first test (y ∷ es) others x new h = by (test y.0) h (λ rest. set_first t
     by false e rest = ap (λ rs. y ∷ rs) (rest e)
 
 -- ---- foreign keys
-rules-fkeys : (relations : Relations) (name : Name) (own : Table) (fkeys : List Fkey) (rules : List TableRule)
+pub rules-fkeys : (relations : Relations) (name : Name) (own : Table) (fkeys : List Fkey) (rules : List TableRule)
     → after_rules relations name own fkeys rules ≡ fkeys ++ foreign_keys relations name own rules
 rules-fkeys relations name own fkeys [] = sym (append-nil fkeys)
 rules-fkeys relations name own fkeys (r ∷ rules) = by (foreign_key relations name own r) refl (λ others. rules-fkeys relations name own others rules)
@@ -337,7 +337,7 @@ view_step earlier name query state linked new =
 table-is : (name : Name) (statements : List Statement) → table_in (relations_of statements) name ≡ table_named statements name
 table-is name statements = named-table statements (same_name name) [] statements
 
-named_relation : (relations : Relations) (name : Name) (table : Table) → table_in relations name ≡ Some table → relation_named name relations ≡ Some (relation.Table table)
+pub named_relation : (relations : Relations) (name : Name) (table : Table) → table_in relations name ≡ Some table → relation_named name relations ≡ Some (relation.Table table)
 named_relation relations name table h = by (relation_named name relations) h
   where
     by : (o : Option Relation) → option_and_then base_table o ≡ Some table → o ≡ Some (relation.Table table)

@@ -6,6 +6,7 @@ pub mod Faults
 pub mod ForeignKeys
 pub mod Declarations
 pub mod Builds
+pub mod Fits
 pub mod Building
 pub mod Views
 mod Samples
