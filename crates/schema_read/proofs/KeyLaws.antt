@@ -13,24 +13,24 @@ use Rattle.schema_read.specs.Tables.{written_keys, table_of}
 use Rattle.schema_read.specs.Building.{with_key, with_rule, first_primary, table_with, built_table}
 
 -- ---- sets
-abbrev is_in : ℕ → List ℕ → Bool
+abbrev pub is_in : ℕ → List ℕ → Bool
 is_in x ys = list_any (λ y. nat_eq y x) ys
 
-and_parts : (a b : Bool) → (a && b) ≡ true → (a ≡ true) × (b ≡ true)
+pub and_parts : (a b : Bool) → (a && b) ≡ true → (a ≡ true) × (b ≡ true)
 and_parts true true e = (refl, refl)
 and_parts true false e = (refl, e)
 and_parts false b e = absurd (true≢false (sym e))
 
-both : (a b : Bool) → a ≡ true → b ≡ true → (a && b) ≡ true
+pub both : (a b : Bool) → a ≡ true → b ≡ true → (a && b) ≡ true
 both a b p q = rw (p, q) refl
 
-iff : (a b : Bool) → (a ≡ true → b ≡ true) → (b ≡ true → a ≡ true) → a ≡ b
+pub iff : (a b : Bool) → (a ≡ true → b ≡ true) → (b ≡ true → a ≡ true) → a ≡ b
 iff true b f g = sym (f refl)
 iff false true f g = g refl
 iff false false f g = refl
 
 -- what is in a part is in the whole
-in_whole : (x : ℕ) (xs ys : List ℕ) → is_part xs ys ≡ true → is_in x xs ≡ true → is_in x ys ≡ true
+pub in_whole : (x : ℕ) (xs ys : List ℕ) → is_part xs ys ≡ true → is_in x xs ≡ true → is_in x ys ≡ true
 in_whole x [] ys part member = absurd (true≢false (sym member))
 in_whole x (z ∷ xs) ys part member =
     by (nat_eq z x) refl member (λ rest. in_whole x xs ys (and_parts (is_in z ys) (is_part xs ys) part).1 rest)
@@ -54,7 +54,7 @@ set_trans xs ys zs e f =
     let q = and_parts (is_part ys zs) (is_part zs ys) f in
     both (is_part xs zs) (is_part zs xs) (part_part xs ys zs p.0 q.0) (part_part zs ys xs q.1 p.1)
 
-part_self : (xs ys : List ℕ) → ((x : ℕ) → is_in x xs ≡ true → is_in x ys ≡ true) → is_part xs ys ≡ true
+pub part_self : (xs ys : List ℕ) → ((x : ℕ) → is_in x xs ≡ true → is_in x ys ≡ true) → is_part xs ys ≡ true
 part_self [] ys within = refl
 part_self (x ∷ xs) ys within =
     both (is_in x ys) (is_part xs ys) (within x (first_in (nat_eq x x) (is_in x xs) (exact_refl x)))

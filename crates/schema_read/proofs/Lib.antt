@@ -3,6 +3,8 @@ pub mod Narrow
 pub mod IndexLaws
 pub mod KeyLaws
 pub mod UniqueKeys
+pub mod SetLaws
+pub mod Places
 pub mod Links
 pub mod Steps
 pub mod ReadLaws

@@ -8,5 +8,6 @@ pub mod Declarations
 pub mod Builds
 pub mod Fits
 pub mod Building
+pub mod Sets
 pub mod Views
 mod Samples

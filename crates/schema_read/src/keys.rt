@@ -1,12 +1,16 @@
 //! Keys as sets of columns.
-ghost use Rattle.std.specs.Prelude.{◌≡◌, ◌≤◌, ◌+◌, ◌<◌, ◌^◌, OnOk, IfOk, length, find, option_and_then};
+ghost use Rattle.std.specs.Prelude.{◌≡◌, ◌≤◌, ◌+◌, ◌<◌, ◌^◌, OnOk, IfOk, length, map, find, option_and_then};
+ghost use Rattle.data_model.specs.Lists.{Each};
 ghost use Rattle.std.specs.Option.{option_copied};
 ghost use Rattle.schema_read.specs.Keys.{is_part, same_set, has_key, place_of_key, stands_for};
 ghost use Rattle.schema_read.specs.Indexes.{primary_columns};
 ghost use Rattle.schema_read.specs.Faults.{is_primary_rule, own_table};
 ghost use Rattle.schema_read.specs.Building.{with_unique, with_key, with_rule, keys_after, first_primary, built_table};
+ghost use Rattle.schema_read.specs.Sets.{column_set};
 
 use crate::names::{names_of, places_in};
+use crate::sets::column_set;
+use indexmap::IndexSet;
 use plain_data::List;
 use sql_model::{Name, NameAt, Table, TableRule};
 use std::alloc::{AllocError, Global};
@@ -88,20 +92,24 @@ fn standing_for(
     }
 }
 
-/// Adds a key unless it stands there as a set.
+/// Adds a key unless it stands there as a set. `sets` has the set of each key.
 fn add_key(
     alloc: Global,
     keys: &mut List<List<u32>>,
+    sets: &mut IndexSet<u64>,
     primary: &Option<List<u32>>,
     key: List<u32>,
 ) -> Result<(), AllocError>
+    requires columns { Each (λ column. column < 64) key }
+    requires sets { sets.old.keys ≡ map column_set keys.old }
     ensures added { OnOk result (keys.new ≡ with_key primary.now keys.old key) }
     ensures longer { OnOk result (length keys.new ≤ length keys.old + 1) }
+    ensures sets { OnOk result (sets.new.keys ≡ map column_set keys.new) }
 {
-    if has_key(keys.as_slice(), key.as_slice()) {
-        return Ok(());
+    if sets.insert(column_set(key.as_slice()))? {
+        keys.push(standing_for(alloc, primary, key)?)?;
     }
-    keys.push(standing_for(alloc, primary, key)?)
+    Ok(())
 }
 
 /// Adds the key of a rule, if it is one.
@@ -110,16 +118,19 @@ fn add_rule_key(
     columns: &[Name],
     primary: &Option<List<u32>>,
     keys: &mut List<List<u32>>,
+    sets: &mut IndexSet<u64>,
     rule: &TableRule,
 ) -> Result<(), AllocError>
-    requires { length columns.now < 2 ^ 32 }
+    requires narrow { length columns.now ≤ 32 }
+    requires sets { sets.old.keys ≡ map column_set keys.old }
     ensures added { OnOk result (keys.new ≡ with_rule columns.now primary.now keys.old rule.now) }
     ensures longer { OnOk result (length keys.new ≤ length keys.old + 1) }
+    ensures sets { OnOk result (sets.new.keys ≡ map column_set keys.new) }
 {
     match rule {
         TableRule::Key { columns: names, .. } => {
             let key = places_in(alloc, columns, names.as_slice())?;
-            add_key(alloc, keys, primary, key)
+            add_key(alloc, keys, sets, primary, key)
         }
         TableRule::Foreign { .. } => Ok(()),
     }
@@ -132,13 +143,14 @@ fn own_keys(
     primary: &Option<List<u32>>,
     rules: &[TableRule],
 ) -> Result<List<List<u32>>, AllocError>
-    requires { length columns.now < 2 ^ 32 }
+    requires { length columns.now ≤ 32 }
     ensures keys { IfOk result (λ keys. keys ≡ keys_after columns.now primary.now rules.now) }
     ensures few { IfOk result (λ keys. length keys ≤ length rules.now) }
 {
     let mut keys = List::new(alloc);
+    let mut sets = IndexSet::new(alloc);
     for rule in rules {
-        add_rule_key(alloc, columns, primary, &mut keys, rule)?;
+        add_rule_key(alloc, columns, primary, &mut keys, &mut sets, rule)?;
     }
     Ok(keys)
 }

@@ -10,6 +10,7 @@ pub mod laws;
 mod names;
 mod read;
 mod relations;
+mod sets;
 #[cfg(test)]
 mod tests;
 
