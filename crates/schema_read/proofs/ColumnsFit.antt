@@ -1,5 +1,5 @@
 -- The columns of keys that pass the checks are columns of their table.
-use Rattle.std.proofs.Common.{◌≡◌, ℕ, zero, suc, ◌<◌, Bool, true, false, cond, ◌&&◌, ◌||◌, List, [], ◌∷◌, ◌++◌, map, length, slice_get, Option, Some, None, refl, sym, ap, subst, ◌∙◌, unwrap_or}
+use Rattle.std.proofs.Common.{◌≡◌, ℕ, zero, suc, ◌<◌, Bool, true, false, cond, ◌||◌, List, [], ◌∷◌, ◌++◌, map, length, slice_get, Option, Some, None, refl, sym, ap, subst, unwrap_or}
 use Rattle.std.specs.Prelude.{find, not}
 use Rattle.std.specs.List.{list_any}
 use Rattle.std.specs.Option.{option_map}
@@ -13,8 +13,8 @@ use Rattle.sql_model.specs.Columns.{same_name}
 use Rattle.sql_model.specs.Syntax.{Name}
 use Rattle.schema_read.specs.declared.fault.SchemaCode.TheVariants as code
 use Rattle.schema_read.specs.Faults.{Relations, repeated_fault, column_fault, columns_fault, is_primary_rule, rule_fault, rules_fault}
-use Rattle.schema_read.specs.Keys.{KeyRule, is_among, place_in, places_in, has_key, if_new, first_of_each, stands_for, same_set, keys_of, primary_of}
-use Rattle.schema_read.specs.Order.{Fault, fault_if, or_else, first_along}
+use Rattle.schema_read.specs.Keys.{KeyRule, is_among, place_in, places_in, has_key, first_of_each, stands_for, same_set, keys_of, primary_of}
+use Rattle.schema_read.specs.Order.{fault_if, or_else, first_along}
 use Rattle.schema_read.specs.Tables.{written_keys}
 use Rattle.schema_read.proofs.KeyLaws.{sets, set_self}
 use Rattle.schema_read.proofs.Links.{both_pass, no_fault}

@@ -1,6 +1,6 @@
 -- The keys and foreign keys of a schema that is built fit its tables.
-use Rattle.std.proofs.Common.{◌≡◌, ℕ, ◌+◌, ◌<◌, ◌⊎◌, inl, inr, nat_eq, Bool, true, false, cond, ◌||◌, List, [], ◌∷◌, ◌++◌, length, slice_get, Option, Some, None, option_and_then, refl, sym, ap, subst, ◌∙◌, unwrap_or, arith, length-append}
-use Rattle.std.specs.Prelude.{not, IfSome, position}
+use Rattle.std.proofs.Common.{◌≡◌, ℕ, ◌<◌, inl, inr, nat_eq, Bool, true, false, cond, ◌||◌, List, [], ◌∷◌, ◌++◌, length, slice_get, Option, Some, None, option_and_then, refl, sym, ap, subst, ◌∙◌, unwrap_or, arith, length-append}
+use Rattle.std.specs.Prelude.{not, IfSome}
 use Rattle.std.specs.Option.{option_map}
 use Rattle.std.specs.List.{cons_option, list_any, filter_map}
 use Rattle.std.specs.Map.{lookup, set_value}
@@ -27,11 +27,11 @@ use Rattle.sql_model.specs.Syntax.{Name, Query}
 use Rattle.schema_read.specs.Building.{State, no_statements, with_unique, with_unique_key, with_named, with_index_key, after_rules, after_table, after_index, after_statement, state_fault, fault_from, built_from}
 use Rattle.schema_read.specs.Builds.{Builds}
 use Rattle.schema_read.specs.Faults.{Relations, table_in, referenced, columns_fault, count_fault, primary_fault, key_fault, reference_fault, is_primary_rule, rule_fault, rules_fault, own_table, new_name_fault, repetition_fault, on_table_fault}
-use Rattle.schema_read.specs.Fits.{AreColumns, KeysFit, PrimaryFits, HasTable, FkeyFits}
+use Rattle.schema_read.specs.Fits.{AreColumns, KeysFit, PrimaryFits, FkeyFits}
 use Rattle.schema_read.specs.ForeignKeys.{referenced_key, reference, foreign_key, foreign_keys}
 use Rattle.schema_read.specs.Indexes.{index_query, primary_columns}
 use Rattle.schema_read.specs.Keys.{KeyRule, same_set, has_key, place_in, places_in, place_of_key, keys_of, primary_of}
-use Rattle.schema_read.specs.Order.{Fault, fault_if, or_else, first_along}
+use Rattle.schema_read.specs.Order.{fault_if, or_else, first_along}
 use Rattle.schema_read.specs.Tables.{names_of, written_keys}
 use Rattle.schema_read.proofs.ColumnsFit.{places_within, written_within, each_key, at_place}
 use Rattle.schema_read.proofs.Links.{both_pass, no_fault, lookup_first, named_relation, rules-fkeys, faults-are, built_linked}

@@ -1,7 +1,7 @@
 -- The builder, statement by statement, builds what the statements declare.
-use Rattle.std.proofs.Common.{◌≡◌, ℕ, ◌+◌, Bool, true, false, cond, ◌||◌, ◌&&◌, List, [], ◌∷◌, ◌++◌, length, Option, Some, None, option_and_then, unwrap_or, refl, sym, ap, subst, ◌∙◌, append_assoc, true≢false, arith, fold, length-append}
+use Rattle.std.proofs.Common.{◌≡◌, ℕ, ◌+◌, Bool, true, false, cond, ◌||◌, ◌&&◌, List, [], ◌∷◌, ◌++◌, length, Option, Some, None, option_and_then, unwrap_or, refl, sym, ap, subst, ◌∙◌, append_assoc, true≢false, arith, length-append}
 use Rattle.std.specs.Prelude.{is_some, filter}
-use Rattle.std.specs.List.{cons_option, list_any, filter_map, flat_map}
+use Rattle.std.specs.List.{cons_option, list_any, flat_map}
 use Rattle.std.specs.Map.{lookup, set_value}
 use Rattle.std.specs.Cmp.Lexicographic.{same_text}
 use Rattle.std.proofs.lemmas.List.{append-nil}
@@ -20,14 +20,14 @@ use Rattle.sql_model.specs.Columns.{same_name}
 use Rattle.sql_model.specs.Meets.{base_table}
 use Rattle.sql_model.specs.Relations.{Relation, relation_named}
 use Rattle.sql_model.specs.Syntax.{Name, Query}
-use Rattle.schema_read.specs.Building.{State, no_statements, with_fkey, after_rule, after_rules, with_unique, with_unique_key, with_named, with_index_key, after_table, after_index, after_statement, state_fault, fault_from, built_from}
+use Rattle.schema_read.specs.Building.{State, no_statements, after_rules, with_unique, with_unique_key, with_named, with_index_key, after_table, after_index, after_statement, state_fault, fault_from, built_from}
 use Rattle.schema_read.specs.Builds.{fault_after, schema_fault}
 use Rattle.schema_read.specs.Declarations.{declared_name, is_table, count_tables, index_key, index_keys, whole_table, declared_table, table_entry, table_named, no_table, declared_relation, relation_entry, relations_of, declared_fkeys, fkeys_of}
-use Rattle.schema_read.specs.Faults.{Relations, table_in, own_table, new_name_fault, repetition_fault, rules_fault, on_table_fault, statement_fault}
+use Rattle.schema_read.specs.Faults.{Relations, table_in, own_table, new_name_fault, on_table_fault, statement_fault}
 use Rattle.schema_read.specs.ForeignKeys.{foreign_key, foreign_keys}
 use Rattle.schema_read.specs.Indexes.{index_query}
 use Rattle.schema_read.specs.Keys.{KeyRule, places_in}
-use Rattle.schema_read.specs.Order.{Fault, fault_if, or_else, first_of, first_along, map_along}
+use Rattle.schema_read.specs.Order.{Fault, fault_if, or_else, first_along, map_along}
 use Rattle.schema_read.specs.Tables.{names_of, written_keys, table_of}
 use Rattle.schema_read.specs.declared.fault.SchemaCode.{SchemaCode}
 use Rattle.schema_read.proofs.UniqueKeys.{unique_rule, unique_added}

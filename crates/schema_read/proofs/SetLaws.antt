@@ -1,21 +1,19 @@
 -- Two lists of columns have one number where they are the same set.
 use Prim.Native.Nat.{max}
-use Rattle.std.proofs.Common.{◌≡◌, ◌≢◌, ℕ, ◌^◌, nat_eq, Bool, true, false, cond, ◌&&◌, ◌||◌, List, [], ◌∷◌, ◌++◌, map, fold, Option, Some, None, refl, sym, ap, subst, ◌∙◌, true≢false, arith}
+use Rattle.std.proofs.Common.{◌≡◌, ◌≢◌, ℕ, ◌^◌, nat_eq, Bool, true, false, cond, ◌||◌, List, [], ◌∷◌, ◌++◌, map, fold, Option, Some, None, refl, sym, ap, subst, ◌∙◌, true≢false, arith}
 use Rattle.std.specs.Prelude.{not}
 use Rattle.std.specs.Int.{bit_at}
-use Rattle.std.specs.Int.Bits.{bit_or}
 use Rattle.std.specs.List.{list_any}
 use Rattle.std.proofs.lemmas.Bool.Decides.{nat_tests}
-use Rattle.std.proofs.lemmas.List.{append-nil, map-append}
+use Rattle.std.proofs.lemmas.List.{map-append}
 use Rattle.std.proofs.lemmas.Map.Views.{exact_unsigned_eq}
 use Rattle.std.proofs.lemmas.Nat.Bits.{bit_at_or, bit_at-zero, bit_at-pow_same, bit_at-pow_other, same_from_bits}
 use Rattle.indexmap.specs.IndexSet.{insert_key}
-use Rattle.data_model.specs.Lists.{Each}
 use Rattle.data_model.specs.Numbers.{one_if}
 use Rattle.schema_read.specs.Building.{with_key}
 use Rattle.schema_read.specs.Keys.{is_part, same_set, has_key, stands_for}
 use Rattle.schema_read.specs.Sets.{with_column, column_set}
-use Rattle.schema_read.proofs.KeyLaws.{is_in, and_parts, both, iff, in_whole, part_self, set_sym}
+use Rattle.schema_read.proofs.KeyLaws.{is_in, and_parts, both, iff, in_whole, part_self}
 
 exact : (n : ℕ) → nat_eq n n ≡ true
 exact n = grind (arith, nat_tests)

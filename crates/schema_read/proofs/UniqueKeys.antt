@@ -1,7 +1,7 @@
 -- The key of a unique index, added to a table.
-use Rattle.std.proofs.Common.{◌≡◌, ℕ, ◌<◌, ◌+◌, Bool, true, false, cond, ◌&&◌, ◌||◌, List, [], ◌∷◌, ◌++◌, map, length, Option, Some, None, option_and_then, refl, sym, ap, subst, unwrap_or, ◌∙◌, true≢false, ltb, suc, arith}
+use Rattle.std.proofs.Common.{◌≡◌, ℕ, ◌<◌, ◌+◌, Bool, true, false, cond, ◌||◌, List, [], ◌∷◌, ◌++◌, length, Option, Some, None, option_and_then, refl, sym, ap, subst, unwrap_or, ◌∙◌, true≢false, suc, arith}
 use Rattle.std.specs.Prelude.{nat_lt, not, find, position}
-use Rattle.std.specs.List.{list_any, position_or_len, prefix_len}
+use Rattle.std.specs.List.{list_any, position_or_len}
 use Rattle.std.specs.Option.{option_map}
 use Rattle.std.proofs.lemmas.Bool.Decides.{nat_tests}
 use Rattle.std.proofs.lemmas.Option.{none-some}
@@ -9,7 +9,7 @@ use Rattle.std.proofs.lemmas.List.{map-append}
 use Rattle.std.proofs.lemmas.List.Folds.{list_any-append}
 use Rattle.sql_model.specs.declared.schema.Table.{Table}
 use Rattle.sql_model.specs.Syntax.{Name}
-use Rattle.schema_read.specs.Keys.{KeyRule, same_set, has_key, stands_for, keys_from, keys_of, primary_of, place_of_key, primary_place}
+use Rattle.schema_read.specs.Keys.{KeyRule, same_set, has_key, stands_for, keys_from, keys_of, primary_of, place_of_key}
 use Rattle.schema_read.specs.Tables.{table_of}
 use Rattle.schema_read.specs.Building.{with_key, with_unique}
 use Rattle.schema_read.proofs.KeyLaws.{set_sym, set_self, among, kept_has, keys_push, sets}

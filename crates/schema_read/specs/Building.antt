@@ -1,7 +1,6 @@
 -- How the builder adds a statement to what those before it have built. Only contracts of private functions cite this form; it builds what
 -- Declarations says.
-use Rattle.std.specs.Prelude.{ℕ, ◌+◌, ◌≤◌, ◌<◌, ◌^◌, Bool, true, false, not, if◌then◌else◌, List, [], ◌∷◌, ◌++◌, length, fold, find, slice_get, Option, Some, None, option_and_then, unwrap_or}
-use Rattle.std.specs.Option.{option_map}
+use Rattle.std.specs.Prelude.{ℕ, ◌+◌, ◌≤◌, Bool, true, false, not, if◌then◌else◌, List, [], ◌∷◌, ◌++◌, length, fold, find, slice_get, Option, Some, None, option_and_then}
 use Rattle.sql_model.specs.declared.statement.NameAt.{NameAt}
 use Rattle.sql_model.specs.declared.statement.TableRule.{TableRule}
 use Rattle.sql_model.specs.declared.statement.TableRule.TheVariants as rule
@@ -17,9 +16,9 @@ use Rattle.std.specs.Map.{set_value}
 use Rattle.sql_model.specs.Relations.{Relation, relation_named}
 use Rattle.schema_read.specs.Order.{Fault, or_else}
 use Rattle.schema_read.specs.Keys.{is_named, places_in, place_of_key, has_key, stands_for}
-use Rattle.schema_read.specs.Indexes.{primary_columns, bare_column, index_query}
+use Rattle.schema_read.specs.Indexes.{bare_column, index_query}
 use Rattle.schema_read.specs.ForeignKeys.{foreign_key}
-use Rattle.schema_read.specs.Faults.{Relations, table_in, referenced, is_primary_rule, own_table, statement_fault}
+use Rattle.schema_read.specs.Faults.{Relations, table_in, is_primary_rule, own_table, statement_fault}
 
 -- ---- keys
 abbrev pub with_key : Option (List ℕ) → List (List ℕ) → List ℕ → List (List ℕ)
