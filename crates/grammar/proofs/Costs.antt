@@ -275,15 +275,14 @@ module _ {T K N : Type 0} {V : N → Type 0} (kind : T → K) where
       (at_zero : Also (language_within kind rules zero))
       (at_next : (h : ℕ) → HaveCosts (language_within kind rules h) (language kind (cost_rules rules own)) → Also (language_within kind rules h) → Also (language_within kind rules (suc h)))
       (own_cost : (h : ℕ) → HaveCosts (language_within kind rules h) (language kind (cost_rules rules own)) → Also (language_within kind rules h)
-          → (n : N) (ts : List T) → (of (language_within kind rules h) (rules n)).front ts → (ts ≡ [] → ⊥) → (c : ℕ) × (of_parts (language kind (cost_rules rules own)) (own n)).spells ts c) where
+      → (n : N) (ts : List T) → (of (language_within kind rules h) (rules n)).front ts → (ts ≡ [] → ⊥) → (c : ℕ) × (of_parts (language kind (cost_rules rules own)) (own n)).spells ts c) where
     abbrev All : Room → (n : Part N) → Language T (PartValue V n)
     All = language kind (cost_rules rules own)
 
     costs_at : (h : ℕ) → HaveCosts (language_within kind rules h) All × Also (language_within kind rules h)
     costs_at zero = (record { spelled = λ n ts v s. absurd s; costs = λ n ts s m. absurd (m s) }, at_zero)
     costs_at (suc h) =
-        let p = costs_at h in
-        (
+        let p = costs_at h in (
           record {
             spelled = λ n ts v s.
                 (from_rule kind (cost_rules rules own) None (whole n)).spells ts v

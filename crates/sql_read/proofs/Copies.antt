@@ -188,8 +188,7 @@ module _ (E : Names) (e : (room : Room) (p : Production) → HasFronts (E room p
     where
       go : costs.LastBegun kind_of copies_in E C e a next_comma (u ∷ y) → Costs members_begun ts
       go b =
-          let p = comma_cost b.last b.begins b.some in
-          (
+          let p = comma_cost b.last b.begins b.some in (
             (λ left. (v.copies + behind_commas b.values left) + p.0 left),
             inr (
               ((v, b.values), p.0),
@@ -214,8 +213,7 @@ module _ (E : Names) (e : (room : Room) (p : Production) → HasFronts (E room p
   list_cost ts (inr (x, y, w, i, o, inr (x1, y1, d, j, s, inr (x2, [], f, q, b, r)))) n =
       before_cost ts (inr (x, y, w, i, o, inr (x1, y1, d, j, s, inr (f, q ∙ (append-nil x2 ∙ b.0), b.1)))) n
   list_cost ts (inr (x, y, w, i, o, inr (x1, y1, d, j, s, inr (x2, u ∷ y2, f, q, b, r)))) n =
-      let p = list_inside (u ∷ y2) r (λ z. cc) in
-      (
+      let p = list_inside (u ∷ y2) r (λ z. cc) in (
         p.0,
         inr (
           ((w, (d, f)), p.0),

@@ -109,9 +109,14 @@ module _ (room : Room) where
 
   one_spells : (most : ℕ) (ts x y : List Lexeme) (n : Further) (w : List Further) → ts ≡ x ++ y → (gl room next_entry).spells x n → (gl room (after_entry most)).spells y (parted w) → (gl room (after_entry (suc most))).spells ts (parted (n ∷ w))
   one_spells most ts x y n w e (inl (l, s, j)) (a, b, e2, js, cs) =
-      subst (λ z. (gl room (after_entry (suc most))).spells ts (parted (z ∷ w))) (sym j)
-      ([], ts, refl, star_none G room None joins, subst (λ z. (gl room (star (Some (suc most)) next_item)).spells z (t.entries l (parted w).0 ∷ (parted w).1)) (sym (joined_at ts x y a b e e2))
-      (cons_spells next_item room (Some most) (x ++ a) b (t.entries l (parted w).0) (parted w).1 (next_spells x a l (parted w).0 s js) cs))
+      subst (λ z. (gl room (after_entry (suc most))).spells ts (parted (z ∷ w))) (sym j) (
+        [],
+        ts,
+        refl,
+        star_none G room None joins,
+        subst (λ z. (gl room (star (Some (suc most)) next_item)).spells z (t.entries l (parted w).0 ∷ (parted w).1)) (sym (joined_at ts x y a b e e2))
+            (cons_spells next_item room (Some most) (x ++ a) b (t.entries l (parted w).0) (parted w).1 (next_spells x a l (parted w).0 s js) cs),
+      )
   one_spells most ts x y n w e (inr (jn, s, j)) (a, b, e2, js, cs) =
       subst (λ z. (gl room (after_entry (suc most))).spells ts (parted (z ∷ w))) (sym j)
       (x ++ a, b, joined_at ts x y a b e e2, cons_spells joins room None x a jn (parted w).0 s js, (wider next_item room most (suc most) (omega arith)).spells b (parted w).1 cs)
@@ -141,8 +146,15 @@ module _ (room : Room) where
   one_more_front : (most : ℕ) (ts x y : List Lexeme) (n : Further) → ts ≡ x ++ y → (gl room next_entry).spells x n → (gl room (after_entry (suc most))).front y → (gl room (after_entry (suc (suc most)))).front ts
   one_more_front most ts x y n e (inl (l, s, j)) (inl r) = item_begun (suc most) ts (subst (gl room next_item).front (sym e) (next_front x y l s r))
   one_more_front most ts x y n e (inl (l, s, j)) (inr (a, b, js, e2, r, cs)) =
-      inr ([], ts, [], refl, star_none G room None joins, subst (gl room (star (Some (suc (suc most))) next_item)).front (sym (joined_at ts x y a b e e2))
-      (cons_front next_item room (Some (suc most)) (x ++ a) b (t.entries l js) (next_spells x a l js s r) cs))
+      inr (
+        [],
+        ts,
+        [],
+        refl,
+        star_none G room None joins,
+        subst (gl room (star (Some (suc (suc most))) next_item)).front (sym (joined_at ts x y a b e e2))
+            (cons_front next_item room (Some (suc most)) (x ++ a) b (t.entries l js) (next_spells x a l js s r) cs),
+      )
   one_more_front most ts x y n e (inr (jn, s, j)) (inl r) = inl (subst (gl room (star None joins)).front (sym e) (star_front joins room x y jn s r))
   one_more_front most ts x y n e (inr (jn, s, j)) (inr (a, b, js, e2, r, cs)) =
       inr (x ++ a, b, jn ∷ js, joined_at ts x y a b e e2, cons_spells joins room None x a jn js s r, (wider next_item room (suc most) (suc (suc most)) (omega arith)).front b cs)

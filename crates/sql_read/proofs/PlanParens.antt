@@ -207,8 +207,7 @@ sorted_as_expr room ts left s = go s
     found : (o : Lexeme) (x : Built Expr) (m : ℕ) → (gl room (in_parentheses plain_expr)).spells ts (o, x) → m ≡ length ts → left ≡ (x, m)
         → (G room primary).spells ts left.0 × ((left.1 ≡ length ts) × (not_sub left.0 ≡ true))
     found o x m r c e =
-        let i : left.0 ≡ x = ap (λ z. z.0) e in
-        (
+        let i : left.0 ≡ x = ap (λ z. z.0) e in (
           (closes room primary).spells ts left.0 (inr (inr (inr (inr (inr (inl ((o, x), r, i))))))),
           (ap (λ z. z.1) e ∙ c, subst (λ z. not_sub z ≡ true) (sym i) (expr_passes room ts (o, x) r)),
         )

@@ -1,5 +1,5 @@
 -- Queries as texts of tokens with one blank between them, and the trees that they spell, computed.
-use Rattle.std.specs.Prelude.{ℕ, ◌≡◌, ◌+◌, ◌==◌, Bool, if◌then◌else◌, List, [], ◌∷◌, ◌++◌, map, codes, length, true, false, refl, Option, Some, None}
+use Rattle.std.specs.Prelude.{ℕ, ◌≡◌, ◌+◌, ◌==◌, Bool, if◌then◌else◌, List, [], ◌∷◌, ◌++◌, map, codes, length, replicate, true, false, refl, Option, Some, None}
 use Rattle.grammar.specs.Parses.{name_parses, whole_values}
 use Rattle.sql_model.specs.declared.tree.Query.{Query}
 use Rattle.sql_model.specs.declared.tree.Expr.{Expr}
@@ -348,3 +348,27 @@ at_a_comma = refl
 pub third_member : copied (codes "a IN ( 1 , 2 , 3") ≡ 2 ∷ []
 unfolding everything
 third_member = refl
+
+-- ---- neighbours that are not spelled
+
+abbrev pub readings : List (List ℕ) → List ℕ
+readings [] = []
+readings (text ∷ texts) = length (expressions text) ∷ readings texts
+
+pub not_expressions : readings (
+    codes "( ( SELECT * FROM r )" ∷ codes "( SELECT * FROM r ) UNION SELECT * FROM s" ∷ codes "a IN ( )" ∷ codes "a IN SELECT * FROM r"
+    ∷ codes "a BETWEEN b" ∷ codes "a NOT = b" ∷ codes "a > b > c" ∷ codes "a LIKE" ∷ codes "count ( )" ∷ codes "max ( * )" ∷ codes "f ( DISTINCT a )"
+    ∷ codes "f ( a , )" ∷ codes "EXISTS ( a )" ∷ codes "a . b . c" ∷ codes "a OR" ∷ codes "NOT" ∷ []) ≡ replicate 16 0
+unfolding everything
+not_expressions = refl
+
+abbrev pub query_readings : List (List ℕ) → List ℕ
+query_readings [] = []
+query_readings (text ∷ texts) = length (queries text) ∷ query_readings texts
+
+pub not_queries : query_readings (
+    codes "SELECT FROM r" ∷ codes "SELECT a" ∷ codes "SELECT a FROM r WHERE" ∷ codes "SELECT a FROM r JOIN s" ∷ codes "SELECT a FROM r CROSS JOIN s ON a = b"
+    ∷ codes "SELECT a FROM r GROUP a" ∷ codes "SELECT a FROM r HAVING a = b WHERE a = b" ∷ codes "SELECT a FROM r UNION ALL ALL SELECT a FROM r"
+    ∷ codes "SELECT a FROM r EXCEPT ALL SELECT a FROM r" ∷ codes "SELECT a FROM r INTERSECT" ∷ codes "SELECT a AS FROM r" ∷ []) ≡ replicate 11 0
+unfolding everything
+not_queries = refl

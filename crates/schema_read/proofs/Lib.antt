@@ -1,0 +1,13 @@
+pub mod OrderLaws
+pub mod Narrow
+pub mod IndexLaws
+pub mod KeyLaws
+pub mod UniqueKeys
+pub mod SetLaws
+pub mod Places
+pub mod Links
+pub mod Steps
+pub mod ReadLaws
+pub mod TableNumbers
+pub mod ColumnsFit
+pub mod FkeysFit

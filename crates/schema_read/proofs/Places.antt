@@ -1,0 +1,29 @@
+-- Places among few columns.
+use Rattle.std.proofs.Common.{◌≡◌, ℕ, ◌<◌, ◌≤◌, Bool, true, false, cond, List, [], ◌∷◌, length, Some, None, refl, arith, unwrap_or}
+use Rattle.std.specs.Prelude.{nat_lt}
+use Rattle.std.specs.List.{position_or_len}
+use Rattle.std.proofs.lemmas.Bool.Decides.{nat_tests}
+use Rattle.data_model.specs.Lists.{Each}
+use Rattle.sql_model.specs.declared.statement.NameAt.{NameAt}
+use Rattle.sql_model.specs.Columns.{same_name}
+use Rattle.sql_model.specs.Syntax.{Name}
+use Rattle.schema_read.specs.Keys.{place_in, places_in}
+
+place_low : (columns : List Name) (name : Name) → place_in columns name ≤ length columns
+place_low columns name = by (nat_lt found (length columns)) refl
+  where
+    found : ℕ
+    found = position_or_len (λ other. same_name other name) columns
+
+    below : nat_lt found (length columns) ≡ true → found < length columns
+    below e = grind (arith, nat_tests)
+
+    by : (b : Bool) → nat_lt found (length columns) ≡ b → unwrap_or (cond b (Some found) None) (length columns) ≤ length columns
+    by true e = let lt : found < length columns = below e in omega arith
+    by false e = omega arith
+
+pub places_low : (columns : List Name) (names : List NameAt) → length columns ≤ 32 → Each (λ place. place < 64) (places_in columns names)
+places_low columns [] narrow = tt
+places_low columns (n ∷ names) narrow =
+    let low : place_in columns n.name ≤ length columns = place_low columns n.name in
+    (omega (arith, low, narrow), places_low columns names narrow)

@@ -1,0 +1,95 @@
+-- What a statement that is not refused leaves: narrow tables, and at most one more.
+use Rattle.std.proofs.Common.{◌≡◌, ℕ, ◌+◌, ◌≤◌, Bool, true, false, cond, [], ◌∷◌, ◌++◌, List, Option, Some, None, refl, sym, subst, ap, ◌∙◌, arith, suc, ◌<◌, length, get_or, drop, drop-cons, add-one}
+use Rattle.std.specs.Map.{set_value}
+use Rattle.std.proofs.lemmas.List.{length-map}
+use Rattle.sql_model.specs.declared.schema.Relation.TheVariants as relation
+use Rattle.sql_model.specs.declared.schema.Table.{Table}
+use Rattle.sql_model.specs.declared.statement.Statement.{Statement}
+use Rattle.sql_model.specs.declared.statement.Statement.TheVariants as statement
+use Rattle.sql_model.specs.declared.statement.NameAt.{NameAt}
+use Rattle.sql_model.specs.Syntax.{Name}
+use Rattle.sql_model.specs.Columns.{same_name}
+use Rattle.sql_model.specs.Relations.{Relation, relation_named}
+use Rattle.schema_read.specs.Keys.{has_key, places_in}
+use Rattle.schema_read.specs.Indexes.{index_query}
+use Rattle.schema_read.specs.Faults.{Relations, table_in, own_table}
+use Rattle.data_model.specs.Lists.{Each}
+use Rattle.schema_read.specs.Order.{Fault, or_else}
+use Rattle.schema_read.specs.Declarations.{IsSmall}
+use Rattle.schema_read.specs.Building.{State, state_fault, fault_from, built_from, IsNarrow, IsNarrowRelation, AreNarrow, with_unique_key, with_named, with_index_key, after_index, after_statement}
+use Rattle.schema_read.proofs.Narrow.{narrow_found}
+
+narrow_push : (relations : Relations) (r : Name × Relation) → AreNarrow relations → IsNarrowRelation r.1 → AreNarrow (relations ++ r ∷ [])
+narrow_push [] r narrow last = (last, tt)
+narrow_push (x ∷ relations) r narrow last = (narrow.0, narrow_push relations r narrow.1 last)
+
+narrow_unique : (key : List ℕ) (r : Relation) → IsNarrowRelation r → IsNarrowRelation (with_unique_key key r)
+narrow_unique key (relation.View query at) narrow = narrow
+narrow_unique key (relation.Table table) narrow = by (has_key table.keys key)
+  where
+    by : (b : Bool) → IsNarrow (cond b table (record table { keys = table.keys ++ key ∷ [] }))
+    by true = narrow
+    by false = narrow
+
+narrow_set : (test : Name → Bool) (relations : Relations) (r : Relation) → AreNarrow relations → IsNarrowRelation r → AreNarrow (set_value test relations r)
+narrow_set test [] r narrow new = tt
+narrow_set test (x ∷ relations) r narrow new = by (test x.0) (narrow_set test relations r narrow.1 new)
+  where
+    by : (b : Bool) → AreNarrow (set_value test relations r) → AreNarrow (cond b ((x.0, r) ∷ relations) (x ∷ set_value test relations r))
+    by true rest = (new, narrow.1)
+    by false rest = (narrow.0, rest)
+
+narrow_index : (relations : Relations) (unique : Bool) (on : Name) (key : List ℕ) → AreNarrow relations → AreNarrow (with_index_key relations unique on key)
+narrow_index relations false on key narrow = narrow
+narrow_index relations true on key narrow = by (relation_named on relations) refl
+  where
+    by : (o : Option Relation) → relation_named on relations ≡ o → AreNarrow (with_named (with_unique_key key) on relations o)
+    by None e = narrow
+    by (Some r) e = narrow_set (same_name on) relations (with_unique_key key r) narrow (narrow_unique key r (narrow_found (same_name on) relations r e narrow))
+
+narrow_after_index : (state : State) (name : NameAt) (unique : Bool) (on : NameAt) (columns : List NameAt) (table : Option Table)
+    → AreNarrow state.relations → AreNarrow (after_index state name unique on columns table).relations
+narrow_after_index state name unique on columns None narrow = narrow
+narrow_after_index state name unique on columns (Some table) narrow =
+    let view : Relation = relation.View (index_query on columns table) name.at in
+    narrow_index (state.relations ++ (name.name, view) ∷ []) unique on.name (places_in table.columns columns) (narrow_push state.relations (name.name, view) narrow tt)
+
+pub narrow_after : (state : State) (s : Statement) → IsSmall s → AreNarrow state.relations → AreNarrow (after_statement state s).relations
+narrow_after state (statement.Table name columns rules) small narrow =
+    narrow_push state.relations (name.name, relation.Table (own_table state.tables columns rules)) narrow (rw (length-map columns) small.0)
+narrow_after state (statement.View name query) small narrow = narrow_push state.relations (name.name, relation.View query name.at) narrow tt
+narrow_after state (statement.Index name unique on columns) small narrow = narrow_after_index state name unique on columns (table_in state.relations on.name) narrow
+
+tables_after_index : (state : State) (name : NameAt) (unique : Bool) (on : NameAt) (columns : List NameAt) (table : Option Table)
+    → (after_index state name unique on columns table).tables ≡ state.tables
+tables_after_index state name unique on columns None = refl
+tables_after_index state name unique on columns (Some table) = refl
+
+pub tables_after : (state : State) (s : Statement) → (after_statement state s).tables ≤ state.tables + 1
+tables_after state (statement.Table name columns rules) = omega arith
+tables_after state (statement.View name query) = omega arith
+tables_after state (statement.Index name unique on columns) =
+    let same : (after_index state name unique on columns (table_in state.relations on.name)).tables ≡ state.tables = tables_after_index state name unique on columns (table_in state.relations on.name) in
+    omega (arith, same)
+
+-- ---- a list from an index on
+pub split_at : {X : Type 0} (xs : List X) (i : ℕ) (x : X) → i < length xs → x ≡ get_or xs i x → drop i xs ≡ x ∷ drop (i + 1) xs
+split_at xs i x lt is = rw add-one (drop-cons xs i x lt ∙ ap (λ y. y ∷ drop (suc i) xs) (sym is))
+
+module _ (state new : State) (s : Statement) (xs rest : List Statement) (split : xs ≡ s ∷ rest) (after : new ≡ after_statement state s) where
+  pub fault_step : (found : Option Fault) → state_fault state s ≡ None → fault_from state xs ≡ found → fault_from new rest ≡ found
+  fault_step found none h =
+      ap (λ st. fault_from st rest) after
+      ∙ sym (ap (λ o. or_else o (fault_from (after_statement state s) rest)) none) ∙ ap (fault_from state) (sym split) ∙ h
+
+  pub built_step : (last : State) → built_from state xs ≡ last → built_from new rest ≡ last
+  built_step last h = ap (λ st. built_from st rest) after ∙ ap (built_from state) (sym split) ∙ h
+
+  pub small_step : Each IsSmall xs → IsSmall s × Each IsSmall rest
+  small_step small = subst (Each IsSmall) split small
+
+  pub narrow_step : IsSmall s → AreNarrow state.relations → AreNarrow new.relations
+  narrow_step small narrow = subst (λ st. AreNarrow st.relations) (sym after) (narrow_after state s small narrow)
+
+  pub tables_step : new.tables ≤ state.tables + 1
+  tables_step = subst (λ st. st.tables ≤ state.tables + 1) (sym after) (tables_after state s)

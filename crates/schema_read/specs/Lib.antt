@@ -1,0 +1,13 @@
+pub mod Order
+pub mod Keys
+pub mod Tables
+pub mod Indexes
+pub mod Faults
+pub mod ForeignKeys
+pub mod Declarations
+pub mod Builds
+pub mod Fits
+pub mod Building
+pub mod Sets
+pub mod Views
+mod Samples

@@ -1,0 +1,139 @@
+//! Foreign keys.
+ghost use Rattle.std.specs.Prelude.{◌≡◌, ◌≤◌, length, IfSome, Some, None};
+ghost use Rattle.std.specs.Option.{option_copied};
+ghost use Rattle.schema_read.specs.Faults.{referenced, key_fault, reference_fault, rule_fault};
+ghost use Rattle.schema_read.specs.ForeignKeys.{referenced_key, foreign_key};
+ghost use Rattle.schema_read.specs.Building.{IsNarrow, AreNarrow};
+ghost use Rattle.schema_read.specs.Views.{Gives};
+
+use crate::fault::{SchemaCode, SchemaFault};
+use crate::keys::{has_key, primary_key};
+use crate::names::{check_columns, is_called, places_in};
+use crate::relations::table_named;
+use indexmap::IndexMap;
+use plain_data::List;
+use sql_model::{Fkey, Name, NameAt, Relation, Table, TableRule};
+use std::alloc::Global;
+
+/// The referenced columns as they are written.
+fn written_key(
+    alloc: Global,
+    table: &Table,
+    names: &[NameAt],
+    count: usize,
+    at: u32,
+) -> Result<List<u32>, SchemaFault>
+    requires { IsNarrow table.now }
+    ensures { Gives (λ key. key) result (key_fault count at table.now (Some names.now)) (referenced_key table.now (Some names.now)) }
+{
+    check_columns(table.columns.as_slice(), names)?;
+    if names.len() != count {
+        return Err(SchemaCode::CountDiffers.at(at));
+    }
+    let key = places_in(alloc, table.columns.as_slice(), names)?;
+    if !has_key(table.keys.as_slice(), key.as_slice()) {
+        return Err(SchemaCode::NoSuchKey.at(at));
+    }
+    Ok(key)
+}
+
+/// The primary key, where no referenced columns are written.
+fn primary_key_of(
+    alloc: Global,
+    table: &Table,
+    count: usize,
+    at: u32,
+) -> Result<List<u32>, SchemaFault>
+    ensures { Gives (λ key. key) result (key_fault count at table.now None) (referenced_key table.now None) }
+{
+    let Some(key) = primary_key(table) else {
+        return Err(SchemaCode::NoSuchKey.at(at));
+    };
+    if key.len() != count {
+        return Err(SchemaCode::CountDiffers.at(at));
+    }
+    Ok(List::from_vec(Vec::from_slice(alloc, key)?))
+}
+
+fn referenced_key(
+    alloc: Global,
+    table: &Table,
+    target: &Option<List<NameAt>>,
+    count: usize,
+    at: u32,
+) -> Result<List<u32>, SchemaFault>
+    requires { IsNarrow table.now }
+    ensures { Gives (λ key. key) result (key_fault count at table.now target.now) (referenced_key table.now target.now) }
+{
+    match target {
+        Some(names) => written_key(alloc, table, names.as_slice(), count, at),
+        None => primary_key_of(alloc, table, count, at),
+    }
+}
+
+/// The table that a foreign key of `own`, the table of this name, references.
+fn referenced<'a>(
+    relations: &'a IndexMap<Name, Relation>,
+    name: &Name,
+    own: &'a Table,
+    to: &Name,
+) -> Option<&'a Table>
+    requires relations_narrow { AreNarrow relations.now.entries }
+    requires own_narrow { IsNarrow own.now }
+    ensures value { option_copied result ≡ referenced relations.now.entries name.now own.now to.now }
+    ensures narrow { IfSome result (λ table. IsNarrow table.now) }
+{
+    if is_called(to, name) {
+        Some(own)
+    } else {
+        table_named(relations, to)
+    }
+}
+
+/// The foreign key that a rule of `own`, the table of this name, declares, if it is one. `has_primary` tells whether an earlier
+/// rule is a primary key.
+pub(crate) fn foreign_key(
+    alloc: Global,
+    relations: &IndexMap<Name, Relation>,
+    name: &Name,
+    own: &Table,
+    has_primary: bool,
+    rule: &TableRule,
+) -> Result<Option<Fkey>, SchemaFault>
+    requires relations_narrow { AreNarrow relations.now.entries }
+    requires own_narrow { IsNarrow own.now }
+    ensures { Gives (λ fkey. fkey) result (rule_fault relations.now.entries name.now own.now has_primary rule.now)
+        (foreign_key relations.now.entries name.now own.now rule.now) }
+{
+    match rule {
+        TableRule::Key {
+            primary,
+            columns,
+            at,
+        } => {
+            check_columns(own.columns.as_slice(), columns.as_slice())?;
+            if *primary && has_primary {
+                return Err(SchemaCode::PrimaryTwice.at(*at));
+            }
+            Ok(None)
+        }
+        TableRule::Foreign {
+            columns,
+            table: to,
+            target,
+        } => {
+            check_columns(own.columns.as_slice(), columns.as_slice())?;
+            let Some(table) = referenced(relations, name, own, &to.name) else {
+                return Err(SchemaCode::UnknownTable.at(to.at));
+            };
+            let key = referenced_key(alloc, table, target, columns.len(), to.at)?;
+            let cols = places_in(alloc, own.columns.as_slice(), columns.as_slice())?;
+            Ok(Some(Fkey {
+                from: own.number,
+                cols,
+                to: table.number,
+                key,
+            }))
+        }
+    }
+}

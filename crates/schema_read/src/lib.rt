@@ -1,0 +1,18 @@
+//! Builds the schema that the statements of a case declare.
+#![tactic(auto)]
+
+mod builder;
+mod fault;
+mod foreign;
+mod indexes;
+mod keys;
+pub mod laws;
+mod names;
+mod read;
+mod relations;
+mod sets;
+#[cfg(test)]
+mod tests;
+
+pub use fault::{SchemaCode, SchemaFault};
+pub use read::read_schema;
