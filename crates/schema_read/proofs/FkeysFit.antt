@@ -34,6 +34,7 @@ use Rattle.schema_read.specs.Keys.{KeyRule, same_set, has_key, place_in, places_
 use Rattle.schema_read.specs.Order.{fault_if, or_else, first_along}
 use Rattle.schema_read.specs.Tables.{names_of, written_keys}
 use Rattle.schema_read.proofs.ColumnsFit.{places_within, written_within, each_key, at_place}
+use Rattle.schema_read.proofs.Narrow.{each_push}
 use Rattle.schema_read.proofs.Links.{both_pass, no_fault, lookup_first, named_relation, rules-fkeys, faults-are, built_linked}
 
 abbrev tables_of : Relations → List Table
@@ -43,10 +44,6 @@ abbrev Fit : Table → Type 0
 Fit table = KeysFit table × PrimaryFits table
 
 -- ---- members
-each_push : {X : Type 0} (P : X → Type 0) (xs : List X) (x : X) → Each P xs → P x → Each P (xs ++ x ∷ [])
-each_push P [] x each last = (last, tt)
-each_push P (y ∷ xs) x each last = (each.0, each_push P xs x each.1 last)
-
 each_append : {X : Type 0} (P : X → Type 0) (xs ys : List X) → Each P xs → Each P ys → Each P (xs ++ ys)
 each_append P [] ys each others = others
 each_append P (x ∷ xs) ys each others = (each.0, each_append P xs ys each.1 others)

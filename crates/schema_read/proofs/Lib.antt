@@ -4,6 +4,7 @@ pub mod IndexLaws
 pub mod KeyLaws
 pub mod UniqueKeys
 pub mod SetLaws
+pub mod KnownLaws
 pub mod Places
 pub mod Links
 pub mod Steps

@@ -17,19 +17,29 @@ use Rattle.data_model.specs.Lists.{Each}
 use Rattle.schema_read.specs.Order.{Fault, or_else}
 use Rattle.schema_read.specs.Declarations.{IsSmall}
 use Rattle.schema_read.specs.Building.{State, state_fault, fault_from, built_from, IsNarrow, IsNarrowRelation, AreNarrow, with_unique_key, with_named, with_index_key, after_index, after_statement}
-use Rattle.schema_read.proofs.Narrow.{narrow_found}
+use Rattle.sql_model.specs.declared.statement.TableRule.{TableRule}
+use Rattle.sql_model.specs.declared.statement.TableRule.TheVariants as rule
+use Rattle.schema_read.specs.Tables.{names_of, written_keys}
+use Rattle.schema_read.proofs.ColumnsFit.{each_key}
+use Rattle.schema_read.proofs.KeyLaws.{sets}
+use Rattle.schema_read.proofs.Links.{named_relation}
+use Rattle.schema_read.proofs.Places.{places_low}
+use Rattle.schema_read.proofs.Narrow.{narrow_found, each_push}
 
 narrow_push : (relations : Relations) (r : Name × Relation) → AreNarrow relations → IsNarrowRelation r.1 → AreNarrow (relations ++ r ∷ [])
 narrow_push [] r narrow last = (last, tt)
 narrow_push (x ∷ relations) r narrow last = (narrow.0, narrow_push relations r narrow.1 last)
 
-narrow_unique : (key : List ℕ) (r : Relation) → IsNarrowRelation r → IsNarrowRelation (with_unique_key key r)
-narrow_unique key (relation.View query at) narrow = narrow
-narrow_unique key (relation.Table table) narrow = by (has_key table.keys key)
+abbrev AreLow : List ℕ → Type 0
+AreLow columns = Each (λ column. column < 64) columns
+
+narrow_unique : (key : List ℕ) (r : Relation) → AreLow key → IsNarrowRelation r → IsNarrowRelation (with_unique_key key r)
+narrow_unique key (relation.View query at) low narrow = narrow
+narrow_unique key (relation.Table table) low narrow = by (has_key table.keys key)
   where
     by : (b : Bool) → IsNarrow (cond b table (record table { keys = table.keys ++ key ∷ [] }))
     by true = narrow
-    by false = narrow
+    by false = (narrow.0, each_push AreLow table.keys key narrow.1 low)
 
 narrow_set : (test : Name → Bool) (relations : Relations) (r : Relation) → AreNarrow relations → IsNarrowRelation r → AreNarrow (set_value test relations r)
 narrow_set test [] r narrow new = tt
@@ -39,26 +49,39 @@ narrow_set test (x ∷ relations) r narrow new = by (test x.0) (narrow_set test 
     by true rest = (new, narrow.1)
     by false rest = (narrow.0, rest)
 
-narrow_index : (relations : Relations) (unique : Bool) (on : Name) (key : List ℕ) → AreNarrow relations → AreNarrow (with_index_key relations unique on key)
-narrow_index relations false on key narrow = narrow
-narrow_index relations true on key narrow = by (relation_named on relations) refl
+narrow_index : (relations : Relations) (unique : Bool) (on : Name) (key : List ℕ) → AreLow key → AreNarrow relations → AreNarrow (with_index_key relations unique on key)
+narrow_index relations false on key low narrow = narrow
+narrow_index relations true on key low narrow = by (relation_named on relations) refl
   where
     by : (o : Option Relation) → relation_named on relations ≡ o → AreNarrow (with_named (with_unique_key key) on relations o)
     by None e = narrow
-    by (Some r) e = narrow_set (same_name on) relations (with_unique_key key r) narrow (narrow_unique key r (narrow_found (same_name on) relations r e narrow))
+    by (Some r) e = narrow_set (same_name on) relations (with_unique_key key r) narrow (narrow_unique key r low (narrow_found (same_name on) relations r e narrow))
 
 narrow_after_index : (state : State) (name : NameAt) (unique : Bool) (on : NameAt) (columns : List NameAt) (table : Option Table)
-    → AreNarrow state.relations → AreNarrow (after_index state name unique on columns table).relations
-narrow_after_index state name unique on columns None narrow = narrow
-narrow_after_index state name unique on columns (Some table) narrow =
+    → table_in state.relations on.name ≡ table → AreNarrow state.relations → AreNarrow (after_index state name unique on columns table).relations
+narrow_after_index state name unique on columns None found narrow = narrow
+narrow_after_index state name unique on columns (Some table) found narrow =
+    let named = named_relation state.relations on.name table found in
+    let low = places_low table.columns columns (narrow_found (same_name on.name) state.relations (relation.Table table) named narrow).0 in
     let view : Relation = relation.View (index_query on columns table) name.at in
-    narrow_index (state.relations ++ (name.name, view) ∷ []) unique on.name (places_in table.columns columns) (narrow_push state.relations (name.name, view) narrow tt)
+    narrow_index (state.relations ++ (name.name, view) ∷ []) unique on.name (places_in table.columns columns) low (narrow_push state.relations (name.name, view) narrow tt)
+
+-- ---- a table of its own rules
+written_low : (columns : List Name) (rules : List TableRule) → length columns ≤ 32 → Each AreLow (sets (written_keys columns rules))
+written_low columns [] few = tt
+written_low columns (rule.Key primary names at ∷ rules) few = (places_low columns names few, written_low columns rules few)
+written_low columns (rule.Foreign names to target ∷ rules) few = written_low columns rules few
+
+pub own_narrow : (number : ℕ) (columns : List NameAt) (rules : List TableRule) → length columns ≤ 32 → IsNarrow (own_table number columns rules)
+own_narrow number columns rules few =
+    let narrow : length (names_of columns) ≤ 32 = rw (length-map columns) few in
+    (narrow, each_key AreLow (written_keys (names_of columns) rules) (written_low (names_of columns) rules narrow))
 
 pub narrow_after : (state : State) (s : Statement) → IsSmall s → AreNarrow state.relations → AreNarrow (after_statement state s).relations
 narrow_after state (statement.Table name columns rules) small narrow =
-    narrow_push state.relations (name.name, relation.Table (own_table state.tables columns rules)) narrow (rw (length-map columns) small.0)
+    narrow_push state.relations (name.name, relation.Table (own_table state.tables columns rules)) narrow (own_narrow state.tables columns rules small.0)
 narrow_after state (statement.View name query) small narrow = narrow_push state.relations (name.name, relation.View query name.at) narrow tt
-narrow_after state (statement.Index name unique on columns) small narrow = narrow_after_index state name unique on columns (table_in state.relations on.name) narrow
+narrow_after state (statement.Index name unique on columns) small narrow = narrow_after_index state name unique on columns (table_in state.relations on.name) refl narrow
 
 tables_after_index : (state : State) (name : NameAt) (unique : Bool) (on : NameAt) (columns : List NameAt) (table : Option Table)
     → (after_index state name unique on columns table).tables ≡ state.tables

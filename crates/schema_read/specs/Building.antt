@@ -1,6 +1,7 @@
 -- How the builder adds a statement to what those before it have built. Only contracts of private functions cite this form; it builds what
 -- Declarations says.
-use Rattle.std.specs.Prelude.{ℕ, ◌+◌, ◌≤◌, Bool, true, false, not, if◌then◌else◌, List, [], ◌∷◌, ◌++◌, length, fold, find, slice_get, Option, Some, None, option_and_then}
+use Rattle.std.specs.Prelude.{ℕ, ◌+◌, ◌≤◌, ◌<◌, Bool, true, false, not, if◌then◌else◌, List, [], ◌∷◌, ◌++◌, length, fold, find, slice_get, Option, Some, None, option_and_then}
+use Rattle.data_model.specs.Lists.{Each}
 use Rattle.sql_model.specs.declared.statement.NameAt.{NameAt}
 use Rattle.sql_model.specs.declared.statement.TableRule.{TableRule}
 use Rattle.sql_model.specs.declared.statement.TableRule.TheVariants as rule
@@ -54,7 +55,7 @@ with_fkey fkeys (Some fkey) = fkeys ++ fkey ∷ []
 
 -- ---- widths, which fit their numbers
 abbrev pub IsNarrow : Table → Type 0
-IsNarrow table = length table.columns ≤ 32
+IsNarrow table = (length table.columns ≤ 32) × Each (Each (λ column. column < 64)) table.keys
 
 abbrev pub IsNarrowRelation : Relation → Type 0
 IsNarrowRelation (relation.Table table) = IsNarrow table

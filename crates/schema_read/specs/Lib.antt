@@ -9,5 +9,6 @@ pub mod Builds
 pub mod Fits
 pub mod Building
 pub mod Sets
+pub mod Known
 pub mod Views
 mod Samples

@@ -2,6 +2,7 @@
 ghost use Rattle.std.specs.Prelude.{◌≡◌, ◌≤◌, ◌<◌, ◌^◌, ◌+◌, length, OnOk, IfOk};
 ghost use Rattle.schema_read.specs.Faults.{rule_fault, rules_fault};
 ghost use Rattle.schema_read.specs.Building.{IsNarrow, AreNarrow, with_fkey, after_rule, after_rules};
+ghost use Rattle.schema_read.specs.Known.{AreKnown};
 ghost use Rattle.schema_read.specs.Views.{Gives};
 
 use crate::fault::{SchemaCode, SchemaFault};
@@ -10,6 +11,7 @@ use crate::indexes::index_query;
 use crate::keys::{is_primary_rule, own_table};
 use crate::names::{check_all_differ, check_columns, places_in};
 use crate::relations::{add_index_key, check_new, declare, table_named};
+use crate::sets::KeySets;
 use indexmap::IndexMap;
 use plain_data::List;
 use sql_model::{Fkey, Name, NameAt, Query, Relation, Statement, Table, TableRule};
@@ -36,6 +38,7 @@ fn push_some(fkeys: &mut List<Fkey>, fkey: Option<Fkey>) -> Result<(), AllocErro
 /// Adds the foreign key of a rule of `own`, the table of this name, if it is one.
 fn add_rule(
     alloc: Global,
+    known: &mut IndexMap<Name, KeySets>,
     relations: &IndexMap<Name, Relation>,
     name: &Name,
     own: &Table,
@@ -45,10 +48,12 @@ fn add_rule(
 ) -> Result<(), SchemaFault>
     requires relations_narrow { AreNarrow relations.now.entries }
     requires own_narrow { IsNarrow own.now }
-    ensures { Gives (λ _. fkeys.new) result (rule_fault relations.now.entries name.now own.now has_primary rule.now)
+    requires known { AreKnown relations.now.entries name.now own.now known.old.entries }
+    ensures fkeys { Gives (λ _. fkeys.new) result (rule_fault relations.now.entries name.now own.now has_primary rule.now)
         (after_rule relations.now.entries name.now own.now fkeys.old rule.now) }
+    ensures known { OnOk result (AreKnown relations.now.entries name.now own.now known.new.entries) }
 {
-    let fkey = foreign_key(alloc, relations, name, own, has_primary, rule)?;
+    let fkey = foreign_key(alloc, known, relations, name, own, has_primary, rule)?;
     push_some(fkeys, fkey)?;
     Ok(())
 }
@@ -68,8 +73,18 @@ fn add_rules(
         (after_rules relations.now.entries name.now own.now fkeys.old rules.now) }
 {
     let mut has_primary = false;
+    let mut known = IndexMap::new(alloc);
     for rule in rules {
-        add_rule(alloc, relations, name, own, has_primary, rule, fkeys)?;
+        add_rule(
+            alloc,
+            &mut known,
+            relations,
+            name,
+            own,
+            has_primary,
+            rule,
+            fkeys,
+        )?;
         has_primary = has_primary || is_primary_rule(rule);
     }
     Ok(())

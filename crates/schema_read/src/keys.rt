@@ -5,7 +5,7 @@ ghost use Rattle.std.specs.Option.{option_copied};
 ghost use Rattle.schema_read.specs.Keys.{is_part, same_set, has_key, place_of_key, stands_for};
 ghost use Rattle.schema_read.specs.Indexes.{primary_columns};
 ghost use Rattle.schema_read.specs.Faults.{is_primary_rule, own_table};
-ghost use Rattle.schema_read.specs.Building.{with_unique, with_key, with_rule, keys_after, first_primary, built_table};
+ghost use Rattle.schema_read.specs.Building.{IsNarrow, with_unique, with_key, with_rule, keys_after, first_primary, built_table};
 ghost use Rattle.schema_read.specs.Sets.{column_set};
 
 use crate::names::{names_of, places_in};
@@ -45,7 +45,7 @@ fn place_of_key(keys: &[List<u32>], key: &[u32]) -> Option<usize>
 }
 
 /// Whether these columns are a key as a set.
-pub(crate) fn has_key(keys: &[List<u32>], columns: &[u32]) -> bool
+fn has_key(keys: &[List<u32>], columns: &[u32]) -> bool
     ensures { result ≡ has_key keys.now columns.now }
 {
     keys.iter().any(|key| is_same_set(columns, key.as_slice()))
@@ -221,7 +221,8 @@ pub(crate) fn own_table(
 ) -> Result<Table, AllocError>
     requires narrow { length columns.now ≤ 32 }
     requires few { length rules.now < 2 ^ 31 }
-    ensures { IfOk result (λ table. table ≡ own_table number columns.now rules.now) }
+    ensures table { IfOk result (λ table. table ≡ own_table number columns.now rules.now) }
+    ensures narrow { IfOk result (λ table. IsNarrow table) }
 {
     let names = names_of(alloc, columns)?;
     let table = table_with_keys(alloc, number, names, rules)?;
