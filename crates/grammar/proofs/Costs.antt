@@ -1,11 +1,11 @@
 -- What has a cost is a front, and each front with a token has one.
-use Rattle.std.proofs.Common.{◌≡◌, ℕ, zero, suc, ◌+◌, Bool, true, false, List, [], ◌∷◌, ◌++◌, ◌⊎◌, inl, inr, refl, sym, ◌∙◌, ap, subst, append_assoc, None, Option}
+use Rattle.std.proofs.Common.{◌≡◌, ℕ, zero, suc, ◌+◌, Bool, List, [], ◌∷◌, ◌++◌, ◌⊎◌, inl, inr, refl, sym, ◌∙◌, ap, subst, append_assoc, None, Option}
 use Rattle.std.proofs.lemmas.List.{append-nil}
 use Rattle.grammar.specs.Language.{Language, HasFronts, Concatenates}
 use Rattle.grammar.specs.Form.{Form, Rules, Room, empty, token, seq, alt, star, nest, map, only, nonempty, counted, fork, ref, form_language, language, language_within}
 use Rattle.grammar.specs.Costs.{Part, PartValue, whole, begun, wholly, weighed, begun_of, all_costs, side, cost_rules}
 use Rattle.grammar.proofs.Forms.{form_fronts, concatenates_more}
-use Rattle.grammar.proofs.Heights.{name_fronts, fronts_within, from_rule, in_name, spelled_at, front_at}
+use Rattle.grammar.proofs.Heights.{fronts_within, from_rule, spelled_at, front_at}
 
 module _ {T K N : Type 0} {V : N → Type 0} (kind : T → K) where
   abbrev pub of : {A : Type 0} → (Room → (n : N) → Language T (V n)) → Form T K N V A → Language T A
@@ -138,18 +138,18 @@ module _ {T K N : Type 0} {V : N → Type 0} (kind : T → K) where
     whole_again (ref n) ts v s = a.spelled n ts v s
 
     -- the values of a list, each with a cost
-    record Weighed {A : Type 0} (S : List T → A × ℕ → Type 0) (ts : List T) (vs : List A) : Type 0 where
-      each : List (A × ℕ)
-      spelled : Concatenates S ts each
-      same_values : vs ≡ (all_costs each).0
+    pub record Weighed {A : Type 0} (S : List T → A × ℕ → Type 0) (ts : List T) (vs : List A) : Type 0 where
+      pub each : List (A × ℕ)
+      pub spelled : Concatenates S ts each
+      pub same_values : vs ≡ (all_costs each).0
 
-    all_weighed : {A : Type 0} (R : List T → A → Type 0) (S : List T → A × ℕ → Type 0) → ((ts : List T) (v : A) → R ts v → (c : ℕ) × S ts (v, c)) → (ts : List T) (vs : List A) → Concatenates R ts vs → Weighed S ts vs
+    abbrev pub all_weighed : {A : Type 0} (R : List T → A → Type 0) (S : List T → A × ℕ → Type 0) → ((ts : List T) (v : A) → R ts v → (c : ℕ) × S ts (v, c)) → (ts : List T) (vs : List A) → Concatenates R ts vs → Weighed S ts vs
     all_weighed R S m ts [] i = record { each = []; spelled = i; same_values = refl }
     all_weighed R S m ts (v ∷ vs) (x, y, i, s, r) =
         let p = m x v s in let q = all_weighed R S m y vs r in
         record { each = (v, p.0) ∷ q.each; spelled = (x, y, i, p.1, q.spelled); same_values = ap (λ z. v ∷ z) q.same_values }
 
-    pub weigh : {A : Type 0} (f : Form T K N V A) (ts : List T) (v : A) → (of E f).spells ts v → (c : ℕ) × (of_parts P (weighed cost f)).spells ts (v, c)
+    abbrev pub weigh : {A : Type 0} (f : Form T K N V A) (ts : List T) (v : A) → (of E f).spells ts v → (c : ℕ) × (of_parts P (weighed cost f)).spells ts (v, c)
     weigh empty ts v s = (0, (v, s, refl))
     weigh (token p) ts v s = (0, (v, s, refl))
     weigh (seq f g) ts v (x, y, i, s, r) = let p = weigh f x v.0 s in let q = weigh g y v.1 r in (p.0 + q.0, (((v.0, p.0), (v.1, q.0)), (x, y, i, p.1, q.1), refl))
@@ -279,7 +279,7 @@ module _ {T K N : Type 0} {V : N → Type 0} (kind : T → K) where
     abbrev All : Room → (n : Part N) → Language T (PartValue V n)
     All = language kind (cost_rules rules own)
 
-    costs_at : (h : ℕ) → HaveCosts (language_within kind rules h) All × Also (language_within kind rules h)
+    pub costs_at : (h : ℕ) → HaveCosts (language_within kind rules h) All × Also (language_within kind rules h)
     costs_at zero = (record { spelled = λ n ts v s. absurd s; costs = λ n ts s m. absurd (m s) }, at_zero)
     costs_at (suc h) =
         let p = costs_at h in (

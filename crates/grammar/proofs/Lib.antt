@@ -13,6 +13,9 @@ pub mod Remaining
 pub mod Longest
 pub mod Outcomes
 pub mod Costs
+pub mod CostEnds
+pub mod Prices
+pub mod Short
 pub mod ParsesSound
 pub mod Plans
 pub mod Alike

@@ -1,7 +1,7 @@
 -- What a text has cost up to a token. The productions once more over twice the names: each name whole, with its value, and each name begun,
 -- with what the tokens so far have cost. The cost of a name that is whole goes by its value; tokens cost nothing by themselves. A front with
 -- no token is left out, so that the place of the last token decides how a front is read. All this is with no limits.
-use Rattle.std.specs.Prelude.{ℕ, ◌+◌, Bool, false, List, [], ◌∷◌, ◌⊎◌}
+use Rattle.std.specs.Prelude.{ℕ, ◌+◌, false, List, [], ◌∷◌, ◌⊎◌}
 use Rattle.std.proofs.Common.{inl, inr}
 use Rattle.grammar.specs.Form.{Form, Rules, empty, token, seq, alt, star, nest, map, only, nonempty, counted, fork, ref}
 
@@ -77,3 +77,7 @@ begun_of cost (ref n) = ref (begun n)
 abbrev pub cost_rules : {T K N : Type 0} {V : N → Type 0} → Rules T K N V → ((n : N) → Form T K (Part N) (PartValue V) ℕ) → Rules T K (Part N) (PartValue V)
 cost_rules rules own (whole n) = wholly (rules n)
 cost_rules rules own (begun n) = own n
+
+-- where nothing costs anything: a begun name spells its fronts with a token. It is a help for samples: what is computed of it is a front.
+abbrev pub front_rules : {T K N : Type 0} {V : N → Type 0} → Rules T K N V → Rules T K (Part N) (PartValue V)
+front_rules rules = cost_rules rules (λ n. begun_of (λ m v. 0) (rules n))

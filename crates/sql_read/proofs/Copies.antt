@@ -1,10 +1,10 @@
 -- What has copied so much is a front of a query, and each front has copied so much.
-use Rattle.std.proofs.Common.{◌≡◌, ℕ, zero, suc, ◌+◌, List, [], ◌∷◌, ◌++◌, inl, inr, refl, sym, ◌∙◌, ap, subst, append_assoc, Option, Some, None}
+use Rattle.std.proofs.Common.{◌≡◌, ℕ, ◌+◌, List, [], ◌∷◌, ◌++◌, inl, inr, refl, sym, ◌∙◌, ap, subst, append_assoc, Option, Some, None}
 use Rattle.std.proofs.lemmas.List.{append-nil}
 use Rattle.grammar.specs.Language.{Language, HasFronts}
-use Rattle.grammar.specs.Form.{Room, seq, alt, star, only, ref, form_language, language, language_within}
-use Rattle.grammar.specs.Productions.{skip_then, then_skip, optional}
-use Rattle.grammar.specs.Costs.{Part, PartValue, whole, begun, wholly, begun_of}
+use Rattle.grammar.specs.Form.{Room, seq, alt, only, ref, form_language, language, language_within}
+use Rattle.grammar.specs.Productions.{skip_then, optional}
+use Rattle.grammar.specs.Costs.{Part, PartValue, wholly, begun_of}
 use Rattle.grammar.proofs.Costs as costs
 use Rattle.grammar.proofs.Costs.{AreFronts, HaveCosts}
 use Rattle.grammar.proofs.Heights.{from_rule, fronts_within, name_fronts}
@@ -18,30 +18,30 @@ use Rattle.sql_read.specs.QueryTrees.{Left, weight}
 use Rattle.sql_read.specs.QueryGrammar as grammar
 use Rattle.sql_read.specs.QueryGrammar.{Production, Read, The, listed, next_comma, comparison, in_query, in_list, between, like, exists, rules, query, part, operand, block, item, from, entry, reference, expr, conj, neg, test, rest, value, term, unary, primary, agg, set_tail, and_tail, expr_tail, inner, in_inner}
 use Rattle.sql_read.specs.Queries.{Begins}
-use Rattle.sql_read.specs.QueryCopies.{CopiesOf, Counting, copies_in, copy_rules, own, test_begun, rest_begun, between_begun, list_begun, members_begun, list_closed, comma_begun, before_between, before_list, behind_commas}
+use Rattle.sql_read.specs.QueryCopies.{CopiesOf, Counting, copies_in, copy_rules, own, test_begun, rest_begun, between_begun, list_begun, members_begun, list_closed, comma_begun, before_list, behind_commas}
 
-abbrev Names : Type 1
+abbrev pub Names : Type 1
 Names = Room → (p : Production) → Language Lexeme (Read p)
 
 abbrev Parts : Type 1
 Parts = Room → (p : Part Production) → Language Lexeme (PartValue Read p)
 
-abbrev in_names : {A : Type 0} → Names → The A → Language Lexeme A
+abbrev pub in_names : {A : Type 0} → Names → The A → Language Lexeme A
 in_names E f = form_language kind_of E None f
 
-abbrev in_parts : {A : Type 0} → Parts → Counting A → Language Lexeme A
+abbrev pub in_parts : {A : Type 0} → Parts → Counting A → Language Lexeme A
 in_parts P f = form_language kind_of P None f
 
-abbrev G : Names
+abbrev pub G : Names
 G = language kind_of rules
 
-abbrev C : Parts
+abbrev pub C : Parts
 C = language kind_of copy_rules
 
-abbrev bounds : The (Built Expr × Built Expr)
+abbrev pub bounds : The (Built Expr × Built Expr)
 bounds = seq (ref value) (skip_then (grammar.a k.And) (ref value))
 
-abbrev members : The (Built Expr × List (Built Expr))
+abbrev pub members : The (Built Expr × List (Built Expr))
 members = only t.is_no_query (listed (ref expr))
 
 -- ---- what has copied is a front
@@ -121,17 +121,17 @@ module _ (P : Parts) (a : AreFronts kind_of G P) where
   own_front expr ts c s = front (rules expr) ts c s
   own_front conj ts c s = front (rules conj) ts c s
   own_front neg ts c s = front (rules neg) ts c s
-  own_front rest ts c s = front (rules rest) ts c s
+  own_front rest ts c s = front (rules rest) ts s.0 s.1
   own_front value ts c s = front (rules value) ts c s
   own_front term ts c s = front (rules term) ts c s
   own_front unary ts c s = front (rules unary) ts c s
   own_front primary ts c s = front (rules primary) ts c s
   own_front agg ts c s = front (rules agg) ts c s
-  own_front set_tail ts c s = front (rules set_tail) ts c s
-  own_front and_tail ts c s = front (rules and_tail) ts c s
-  own_front expr_tail ts c s = front (rules expr_tail) ts c s
-  own_front inner ts c s = front (rules inner) ts c s
-  own_front in_inner ts c s = front (rules in_inner) ts c s
+  own_front set_tail ts c s = front (rules set_tail) ts s.0 s.1
+  own_front and_tail ts c s = front (rules and_tail) ts s.0 s.1
+  own_front expr_tail ts c s = front (rules expr_tail) ts s.0 s.1
+  own_front inner ts c s = front (rules inner) ts s.0 s.1
+  own_front in_inner ts c s = front (rules in_inner) ts s.0 s.1
 
 pub copies_are_fronts : AreFronts kind_of G C
 copies_are_fronts = costs.are_fronts kind_of copies_in rules own own_front
@@ -258,17 +258,24 @@ module _ (E : Names) (e : (room : Room) (p : Production) → HasFronts (E room p
     own_cost expr ts s n = cost (rules expr) ts s n
     own_cost conj ts s n = cost (rules conj) ts s n
     own_cost neg ts s n = cost (rules neg) ts s n
-    own_cost rest ts s n = cost (rules rest) ts s n
+    own_cost rest ts s n = let p = cost (rules rest) ts s n in (0, (p.0, p.1, refl))
     own_cost value ts s n = cost (rules value) ts s n
     own_cost term ts s n = cost (rules term) ts s n
     own_cost unary ts s n = cost (rules unary) ts s n
     own_cost primary ts s n = cost (rules primary) ts s n
     own_cost agg ts s n = cost (rules agg) ts s n
-    own_cost set_tail ts s n = cost (rules set_tail) ts s n
-    own_cost and_tail ts s n = cost (rules and_tail) ts s n
-    own_cost expr_tail ts s n = cost (rules expr_tail) ts s n
-    own_cost inner ts s n = cost (rules inner) ts s n
-    own_cost in_inner ts s n = cost (rules in_inner) ts s n
+    own_cost set_tail ts s n = let p = cost (rules set_tail) ts s n in (0, (p.0, p.1, refl))
+    own_cost and_tail ts s n = let p = cost (rules and_tail) ts s n in (0, (p.0, p.1, refl))
+    own_cost expr_tail ts s n = let p = cost (rules expr_tail) ts s n in (0, (p.0, p.1, refl))
+    own_cost inner ts s n = let p = cost (rules inner) ts s n in (0, (p.0, p.1, refl))
+    own_cost in_inner ts s n = let p = cost (rules in_inner) ts s n in (0, (p.0, p.1, refl))
+
+pub copied_at : (h : ℕ) → HaveCosts kind_of (language_within kind_of rules h) C
+copied_at h =
+    (costs.costs_at kind_of copies_in rules own RestCosts
+    (λ ts s n. absurd (n s))
+    (λ g a also. rest_cost (language_within kind_of rules g) (fronts_within kind_of rules g) a)
+    (λ g a also. own_cost (language_within kind_of rules g) (fronts_within kind_of rules g) a also) h).0
 
 pub all_have_copied : HaveCosts kind_of G C
 all_have_copied =

@@ -70,10 +70,10 @@ module _ {A : Type 0} (f : The A) where
 
 -- ---- items of FROM
 
-abbrev joins : The (Built Entry)
+abbrev pub joins : The (Built Entry)
 joins = alt join_on cross_join
 
-abbrev next_item : The (Built (List Entry))
+abbrev pub next_item : The (Built (List Entry))
 next_item = skip_then (grammar.a k.Comma) (ref from)
 
 -- what is joined to an entry, and the items after it

@@ -32,3 +32,6 @@ pub mod PlanItems
 pub mod PlanKnown
 pub mod EntryLists
 pub mod Copies
+pub mod CopyPrices
+pub mod CopyEnds
+pub mod EntryTexts

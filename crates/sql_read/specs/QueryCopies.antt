@@ -1,8 +1,8 @@
 -- What a text has copied up to a token: the value before BETWEEN at that word, and the value before a list of IN at each comma of it.
 use Rattle.std.specs.Prelude.{ℕ, ◌+◌, ◌*◌, ◌≤◌, ◌<◌, List, [], ◌∷◌, ◌++◌, length, Option, None, ◌⊎◌, ◌≡◌}
-use Rattle.grammar.specs.Form.{Form, Rules, seq, alt, star, map, counted, only, ref, language}
+use Rattle.grammar.specs.Form.{Form, Rules, seq, alt, map, counted, only, ref, language}
 use Rattle.grammar.specs.Productions.{skip_then, then_skip, optional}
-use Rattle.grammar.specs.Costs.{Part, PartValue, whole, begun, wholly, begun_of, cost_rules}
+use Rattle.grammar.specs.Costs.{Part, PartValue, begun, wholly, begun_of, cost_rules}
 use Rattle.sql_lex.specs.Lexemes.{Lexeme}
 use Rattle.sql_model.specs.declared.tree.Expr.{Expr}
 use Rattle.sql_read.specs.Kinds as k
@@ -10,7 +10,7 @@ use Rattle.sql_read.specs.Kinds.{Kind, kind_of}
 use Rattle.sql_read.specs.Numbering.{Built}
 use Rattle.sql_read.specs.QueryTrees as t
 use Rattle.sql_read.specs.QueryTrees.{Left, weight}
-use Rattle.sql_read.specs.QueryGrammar.{Production, Read, The, a, listed, commas, comparison, in_query, like, exists, rules, query, part, operand, block, item, from, entry, reference, expr, conj, neg, test, rest, value, term, unary, primary, agg, set_tail, and_tail, expr_tail, inner, in_inner}
+use Rattle.sql_read.specs.QueryGrammar.{Production, Read, The, a, listed, comparison, in_query, like, exists, rules, query, part, operand, block, item, from, entry, reference, expr, conj, neg, test, rest, value, term, unary, primary, agg, set_tail, and_tail, expr_tail, inner, in_inner}
 
 -- what is copied in a value that was read
 abbrev pub copies_in : (p : Production) → Read p → ℕ
@@ -99,8 +99,18 @@ test_begun =
     alt (so_far exists)
     (alt (so_far (ref value)) (map (λ p. p.0.0.copies + p.1 p.0) (seq (wholly (counted (ref value))) rest_begun)))
 
+-- what no query has as a part costs nothing
+abbrev pub uncounted : {A : Type 0} → The A → Counting ℕ
+uncounted f = map (λ copies. 0) (so_far f)
+
 abbrev pub own : Production → Counting ℕ
 own test = test_begun
+own rest = uncounted (rules rest)
+own set_tail = uncounted (rules set_tail)
+own and_tail = uncounted (rules and_tail)
+own expr_tail = uncounted (rules expr_tail)
+own inner = uncounted (rules inner)
+own in_inner = uncounted (rules in_inner)
 own other = so_far (rules other)
 
 abbrev pub copy_rules : Rules Lexeme Kind (Part Production) (PartValue Read)

@@ -18,7 +18,7 @@ use Rattle.sql_lex.specs.Bytes.{begins_word, is_digit, quote, double_quote}
 use Rattle.sql_lex.specs.Lexemes.{Lexeme}
 use Rattle.sql_read.specs.Kinds.{kind_of}
 use Rattle.sql_read.specs.Numbering.{first_numbers}
-use Rattle.grammar.specs.Costs.{begun}
+use Rattle.grammar.specs.Costs.{begun, front_rules}
 use Rattle.sql_read.specs.QueryCopies.{copy_rules}
 use Rattle.sql_read.specs.QueryEntries.{few_rules}
 use Rattle.sql_read.specs.QueryGrammar.{rules}
@@ -73,6 +73,14 @@ within levels text = length (whole_values (name_parses kind_of rules 40 (Some le
 -- the queries where a block has at most so many entries besides its first
 abbrev pub with_few : ℕ → List ℕ → List Query
 with_few further text = map (λ read. (read.build first_numbers).0) (whole_values (name_parses kind_of (few_rules further) 40 None g.query (tokens text)))
+
+abbrev pub is_any : {X : Type 0} → List X → Bool
+is_any [] = false
+is_any (x ∷ xs) = true
+
+-- whether a text is a front of these
+abbrev pub begins_few : ℕ → List ℕ → Bool
+begins_few further text = is_any (whole_values (name_parses kind_of (front_rules (few_rules further)) 40 None (begun g.query) (tokens text)))
 
 -- ---- short forms
 
@@ -327,6 +335,31 @@ pub two_in_each_block : with_few 1 (codes "SELECT * FROM r , ( SELECT * FROM r ,
 unfolding everything
 two_in_each_block = refl
 
+-- the entry itself is too many, and not what stands before it
+pub comma_before_one_too_many : begins_few 1 (codes "SELECT * FROM r , s ,") ≡ true
+unfolding everything
+comma_before_one_too_many = refl
+
+pub one_too_many : begins_few 1 (codes "SELECT * FROM r , s , (") ≡ false
+unfolding everything
+one_too_many = refl
+
+pub join_before_one_too_many : begins_few 1 (codes "SELECT * FROM r , s INNER JOIN") ≡ true
+unfolding everything
+join_before_one_too_many = refl
+
+pub one_too_many_joined : begins_few 1 (codes "SELECT * FROM r , s INNER JOIN t") ≡ false
+unfolding everything
+one_too_many_joined = refl
+
+pub cross_join_before_one_too_many : begins_few 1 (codes "SELECT * FROM r , s CROSS JOIN") ≡ true
+unfolding everything
+cross_join_before_one_too_many = refl
+
+pub other_parts_go_on : begins_few 1 (codes "SELECT * FROM r , s WHERE") ≡ true
+unfolding everything
+other_parts_go_on = refl
+
 -- ---- copies up to a token
 
 pub none_yet : copied (codes "a + 1") ≡ 0 ∷ []
@@ -348,6 +381,24 @@ at_a_comma = refl
 pub third_member : copied (codes "a IN ( 1 , 2 , 3") ≡ 2 ∷ []
 unfolding everything
 third_member = refl
+
+pub at_not_between : copied (codes "a NOT BETWEEN") ≡ 1 ∷ []
+unfolding everything
+at_not_between = refl
+
+pub behind_between : copied (codes "a BETWEEN 1 AND") ≡ 1 ∷ []
+unfolding everything
+behind_between = refl
+
+-- the comma of a call copies nothing
+pub at_a_comma_of_a_call : copied (codes "a IN ( f ( 1 , 2") ≡ 0 ∷ []
+unfolding everything
+at_a_comma_of_a_call = refl
+
+-- seven tokens, and the copy that was made in them
+pub copies_of_copies : copied (codes "( a BETWEEN 1 AND 2 ) IN ( 1 ,") ≡ 9 ∷ []
+unfolding everything
+copies_of_copies = refl
 
 -- ---- neighbours that are not spelled
 

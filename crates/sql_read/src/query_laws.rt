@@ -1,6 +1,6 @@
 //! Laws of the grammar of queries, each the contract of a function that does nothing.
-ghost use Rattle.std.specs.Prelude.{◌≡◌, ◌++◌, ◌∷◌, List, [], None, Some, ℕ};
-ghost use Rattle.grammar.specs.Form.{Room};
+ghost use Rattle.std.specs.Prelude.{◌≡◌, ◌++◌, ◌∷◌, ◌≤◌, List, [], length, None, Some, ℕ};
+ghost use Rattle.grammar.specs.Form.{Room, language};
 ghost use Rattle.grammar.specs.Language.{HasFronts, Includes, IsUnambiguous};
 ghost use Rattle.grammar.specs.Lookahead.{HasLookahead};
 ghost use Rattle.grammar.specs.Parses.{name_parses, whole_values};
@@ -10,7 +10,7 @@ ghost use Rattle.sql_read.specs.Kinds.{kind_of};
 ghost use Rattle.sql_read.specs.Numbering.{Built, Numbers};
 ghost use Rattle.sql_read.specs.Queries.{Begins, IsTooDeep, Spells, of_production, queries, shallow_queries};
 ghost use Rattle.sql_read.specs.QueryCopies.{CopiesOf};
-ghost use Rattle.sql_read.specs.QueryEntries.{IsEntryTooMany, few_queries};
+ghost use Rattle.sql_read.specs.QueryEntries.{IsEntryTooMany, few_queries, few_rules};
 ghost use Rattle.sql_read.specs.QueryPlan.{of_plan};
 ghost use Rattle.sql_read.specs.QueryLookahead.{table};
 ghost use Rattle.sql_read.specs.QueryGrammar.{Production, Read, query, rules};
@@ -33,9 +33,11 @@ pub fn passed_once()
     ensures { (x more y others : List Lexeme) (t u : Lexeme) → IsTooDeep x t → IsTooDeep y u → x ++ t ∷ more ≡ y ++ u ∷ others → (x ≡ y) × (t ≡ u) }
 {}
 
-/// Queries whose blocks have few enough entries are queries, and their fronts are fronts.
+/// Queries whose blocks have few enough entries are queries, and their fronts are fronts. Where as many further entries are allowed as a text
+/// has tokens, the text spells what it spells as a query.
 pub fn few_entries()
-    ensures { Includes queries few_queries }
+    ensures included { Includes queries few_queries }
+    ensures nothing_else { (most : ℕ) (ts : List Lexeme) (read : Built Query) → length ts ≤ most → queries.spells ts read → (language kind_of (few_rules most) None query).spells ts read }
 {}
 
 /// An entry is too many for its block at no more than one token of a text.
@@ -43,10 +45,11 @@ pub fn too_many_once()
     ensures { (x more y others : List Lexeme) (t u : Lexeme) → IsEntryTooMany x t → IsEntryTooMany y u → x ++ t ∷ more ≡ y ++ u ∷ others → (x ≡ y) × (t ≡ u) }
 {}
 
-/// What has copied something begins a query, and what begins a query has copied something, or nothing.
+/// What has copied something begins a query, what begins a query has copied something, or nothing, and a query has copied what it holds.
 pub fn copies()
     ensures begins { (ts : List Lexeme) (copies : ℕ) → CopiesOf ts copies → Begins ts }
     ensures counted { (ts : List Lexeme) → Begins ts → (copies : ℕ) × CopiesOf ts copies }
+    ensures whole { (ts : List Lexeme) (read : Built Query) → queries.spells ts read → CopiesOf ts read.copies }
 {}
 
 /// No list of tokens spells two queries, nor two values of any production.

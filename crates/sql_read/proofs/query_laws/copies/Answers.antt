@@ -1,4 +1,5 @@
 use Rattle.sql_read.proofs.Copies.{begins_of, copies_of}
+use Rattle.sql_read.proofs.CopyEnds.{whole_copies}
 use Rattle.sql_read.proofs.query_laws.copies.Goals as goal
 
 pub returns-clause-begins : goal.returns-clause-begins
@@ -6,3 +7,6 @@ returns-clause-begins c = begins_of
 
 pub returns-clause-counted : goal.returns-clause-counted
 returns-clause-counted c = copies_of
+
+pub returns-clause-whole : goal.returns-clause-whole
+returns-clause-whole c = whole_copies

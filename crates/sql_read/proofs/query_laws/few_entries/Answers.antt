@@ -2,7 +2,11 @@ use Rattle.std.proofs.Common.{None, arith}
 use Rattle.sql_read.specs.QueryEntries.{most_further}
 use Rattle.sql_read.specs.QueryGrammar.{query}
 use Rattle.sql_read.proofs.EntryLists.{few_included}
+use Rattle.sql_read.proofs.EntryTexts.{few_spell}
 use Rattle.sql_read.proofs.query_laws.few_entries.Goals as goal
 
-pub returns : goal.returns
-returns c = few_included most_further (omega arith) None query
+pub returns-clause-included : goal.returns-clause-included
+returns-clause-included c = few_included most_further (omega arith) None query
+
+pub returns-clause-nothing_else : goal.returns-clause-nothing_else
+returns-clause-nothing_else c most ts read n s = few_spell most query ts read n s

@@ -1,0 +1,88 @@
+-- What whole texts of a form cost, by their values.
+use Rattle.std.proofs.Common.{◌≡◌, ℕ, ◌+◌, Bool, List, [], ◌∷◌, inl, inr, refl, sym, ◌∙◌, ap, subst, None, Option, Some, arith}
+use Rattle.grammar.specs.Language.{Language, Concatenates}
+use Rattle.grammar.specs.Form.{Form, Room, empty, token, seq, alt, star, nest, map, only, ref}
+use Rattle.grammar.specs.Productions.{skip_then, then_skip, optional, separated}
+use Rattle.grammar.specs.Costs.{Part, PartValue, weighed, all_costs}
+use Rattle.grammar.proofs.Costs.{of_parts}
+
+abbrev pub summed : {A : Type 0} → (A → ℕ) → List A → ℕ
+summed a [] = 0
+summed a (v ∷ vs) = a v + summed a vs
+
+abbrev pub optional_price : {A : Type 0} → (A → ℕ) → Option A → ℕ
+optional_price a None = 0
+optional_price a (Some v) = a v
+
+module _ {T K N : Type 0} {V : N → Type 0} (kind : T → K) (cost : (n : N) → V n → ℕ) (P : Room → (n : Part N) → Language T (PartValue V n)) where
+  pub record Priced {A : Type 0} (f : Form T K N V A) (price : A → ℕ) : Type 0 where
+    pub holds : (ts : List T) (v : A × ℕ) → (of_parts kind P (weighed cost f)).spells ts v → price v.0 ≡ v.1
+
+  pub priced_same : {A : Type 0} {f : Form T K N V A} {a : A → ℕ} (b : A → ℕ) → Priced f a → ((v : A) → b v ≡ a v) → Priced f b
+  priced_same b l i = record { holds = λ ts v s. i v.0 ∙ l.holds ts v s }
+
+  pub priced_empty : Priced empty (λ v. 0)
+  priced_empty = record { holds = λ ts v s. sym (ap (λ z. z.1) s.2) }
+
+  pub priced_token : (p : K → Bool) → Priced (token p) (λ v. 0)
+  priced_token p = record { holds = λ ts v s. sym (ap (λ z. z.1) s.2) }
+
+  both_prices : (a b c d : ℕ) → a ≡ c → b ≡ d → a + b ≡ c + d
+  both_prices a b c d i j = omega (arith, i, j)
+
+  pub priced_seq : {A B : Type 0} {f : Form T K N V A} {g : Form T K N V B} {a : A → ℕ} {b : B → ℕ} → Priced f a → Priced g b → Priced (seq f g) (λ v. a v.0 + b v.1)
+  priced_seq {f = f} {g = g} {a = a} {b = b} l m = record { holds = holds }
+    where
+      holds : (ts : List T) (v : (_ × _) × ℕ) → (of_parts kind P (weighed cost (seq f g))).spells ts v → a v.0.0 + b v.0.1 ≡ v.1
+      holds ts v (u, (x, y, i, s, r), j) = subst (λ z. a z.0.0 + b z.0.1 ≡ z.1) (sym j) (both_prices (a u.0.0) (b u.1.0) u.0.1 u.1.1 (l.holds x u.0 s) (m.holds y u.1 r))
+
+  pub priced_alt : {A : Type 0} {f g : Form T K N V A} {a : A → ℕ} → Priced f a → Priced g a → Priced (alt f g) a
+  priced_alt l m = record { holds = λ ts v s. elim s [ inl r ↦ l.holds ts v r | inr r ↦ m.holds ts v r ] }
+
+  pub priced_nest : {A : Type 0} {f : Form T K N V A} {a : A → ℕ} → Priced f a → Priced (nest f) a
+  priced_nest l = record { holds = l.holds }
+
+  pub priced_map : {A B : Type 0} {f : Form T K N V A} {a : A → ℕ} (h : A → B) (b : B → ℕ) → Priced f a → ((v : A) → b (h v) ≡ a v) → Priced (map h f) b
+  priced_map h b l i = record { holds = λ ts v s. subst (λ z. b z.0 ≡ z.1) (sym s.2) (i s.0.0 ∙ l.holds ts s.0 s.1) }
+
+  pub priced_only : {A : Type 0} {f : Form T K N V A} {a : A → ℕ} (q : A → Bool) → Priced f a → Priced (only q f) a
+  priced_only q l = record { holds = λ ts v s. l.holds ts v s.0 }
+
+  pub priced_ref : (n : N) → Priced (ref n) (cost n)
+  priced_ref n = record { holds = λ ts v s. subst (λ z. cost n z.0 ≡ z.1) (sym s.2) refl }
+
+  pub priced_star : {A : Type 0} {f : Form T K N V A} {a : A → ℕ} (most : Option ℕ) → Priced f a → Priced (star most f) (summed a)
+  priced_star {f = f} {a = a} most l = record { holds = λ ts v s. subst (λ z. summed a z.0 ≡ z.1) (sym s.2) (each ts s.0 s.1) }
+    where
+      each : (ts : List T) (vs : List (_ × ℕ)) → Concatenates (of_parts kind P (weighed cost f)).spells ts vs → summed a (all_costs vs).0 ≡ (all_costs vs).1
+      each ts [] s = refl
+      each ts (v ∷ vs) (x, y, i, s, r) = both_prices (a v.0) (summed a (all_costs vs).0) v.1 (all_costs vs).1 (l.holds x v s) (each y vs r)
+
+  -- ---- ways to write a production
+
+  pub free_map : {A B : Type 0} {f : Form T K N V A} (h : A → B) → Priced f (λ v. 0) → Priced (map h f) (λ v. 0)
+  free_map h l = priced_map h (λ v. 0) l (λ v. refl)
+
+  pub free_seq : {A B : Type 0} {f : Form T K N V A} {g : Form T K N V B} → Priced f (λ v. 0) → Priced g (λ v. 0) → Priced (seq f g) (λ v. 0)
+  free_seq l m = priced_same (λ v. 0) (priced_seq l m) (λ v. refl)
+
+  pub free_optional : {A : Type 0} {f : Form T K N V A} → Priced f (λ v. 0) → Priced (optional f) (λ v. 0)
+  free_optional l = priced_alt (free_map (λ v. Some v) l) (free_map (λ v. None) priced_empty)
+
+  from_zero : (c : ℕ) → c ≡ 0 + c
+  from_zero c = omega arith
+
+  to_zero : (c : ℕ) → c ≡ c + 0
+  to_zero c = omega arith
+
+  pub priced_skip_then : {A B : Type 0} {f : Form T K N V A} {g : Form T K N V B} {b : B → ℕ} → Priced f (λ v. 0) → Priced g b → Priced (skip_then f g) b
+  priced_skip_then {b = b} l m = priced_map (λ p. p.1) b (priced_seq l m) (λ v. from_zero (b v.1))
+
+  pub priced_then_skip : {A B : Type 0} {f : Form T K N V A} {g : Form T K N V B} {a : A → ℕ} → Priced f a → Priced g (λ v. 0) → Priced (then_skip f g) a
+  priced_then_skip {a = a} l m = priced_map (λ p. p.0) a (priced_seq l m) (λ v. to_zero (a v.0))
+
+  pub priced_optional : {A : Type 0} {f : Form T K N V A} {a : A → ℕ} → Priced f a → Priced (optional f) (optional_price a)
+  priced_optional {a = a} l = priced_alt (priced_map (λ v. Some v) (optional_price a) l (λ v. refl)) (priced_map (λ v. None) (optional_price a) priced_empty (λ v. refl))
+
+  pub priced_separated : {A B : Type 0} {f : Form T K N V A} {g : Form T K N V B} {a : A → ℕ} (most : Option ℕ) → Priced g (λ v. 0) → Priced f a → Priced (separated most g f) (λ v. a v.0 + summed a v.1)
+  priced_separated most m l = priced_seq l (priced_star most (priced_skip_then m l))
