@@ -4,4 +4,5 @@ pub mod Places
 pub mod Names
 pub mod Binding
 pub mod Meaning
+pub mod Facts
 pub mod Samples

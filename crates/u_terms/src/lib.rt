@@ -3,6 +3,7 @@
 
 mod copy;
 mod equality;
+pub mod facts;
 pub mod laws;
 mod size;
 pub mod term;
@@ -10,6 +11,7 @@ pub mod term;
 mod tests;
 
 pub use equality::{same, same_value};
+pub use facts::{Facts, Fkey};
 pub use plain_data::{Boxed, List};
 pub use size::{depth, nodes, value_depth, value_nodes};
 pub use std::alloc::AllocError as NoMemory;
