@@ -5,6 +5,7 @@ pub mod bytes;
 mod front;
 pub mod laws;
 mod lexer;
+pub mod reserved;
 #[cfg(test)]
 mod tests;
 mod token;

@@ -1,14 +1,3 @@
-pub mod ByteKinds
-pub mod Folding
-pub mod Repeated
-pub mod FirstTokens
-pub mod Front
-pub mod Differing
-pub mod RepeatedLaws
-pub mod ColumnLaws
-pub mod TableLaws
-pub mod QueryLaws
-pub mod CaseLaws
 pub mod Cursors
 pub mod Unquoting
 pub mod EveryKind

@@ -1,10 +1,3 @@
-pub mod Words
-pub mod FirstText
-pub mod FirstTrees
-pub mod FirstForm
-pub mod ReadingWords
-pub mod ReadingFirst
-pub mod Views
 pub mod Cursor
 pub mod Refusals
 pub mod Unquoting

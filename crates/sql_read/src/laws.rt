@@ -2,28 +2,9 @@
 ghost use Rattle.std.specs.Prelude.{◌≡◌, ℕ, List};
 ghost use Rattle.sql_lex.specs.Names.{SpellsName};
 ghost use Rattle.sql_lex.specs.declared.token.TokenKind.{TokenKind as Kind};
-ghost use Rattle.sql_model.specs.declared.schema.Schema.{Schema};
-ghost use Rattle.sql_model.specs.declared.tree.Query.{Query};
-ghost use Rattle.sql_read.specs.FirstForm.{IsFirstCase};
-ghost use Rattle.sql_read.specs.Words.{Token, HasTokens};
-
-/// No text has two lists of tokens.
-#[tactic(auto, using(crate::proofs::FirstTokens::same_tokens))]
-pub fn one_list_of_tokens()
-    ensures { (at : ℕ) (text : List ℕ) (a b : List Token) →
-        HasTokens at text a → HasTokens at text b → a ≡ b }
-{}
 
 /// No token spells two names.
 #[tactic(auto, using(crate::proofs::Unquoting::same_name))]
 pub fn one_name()
     ensures { (kind : Kind) (bytes a b : List ℕ) → SpellsName kind bytes a → SpellsName kind bytes b → a ≡ b }
-{}
-
-/// No text spells two cases of the first form. Two schemas are compared by what they hold.
-pub fn one_first_case()
-    ensures { (text : List ℕ) (schema other : Schema) (left right p q : Query) (width w : ℕ) →
-        IsFirstCase text schema left right width → IsFirstCase text other p q w →
-        (schema.relations.entries ≡ other.relations.entries) × (schema.fkeys ≡ other.fkeys)
-        × (left ≡ p) × (right ≡ q) × (width ≡ w) }
 {}

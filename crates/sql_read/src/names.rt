@@ -6,8 +6,8 @@ ghost use Rattle.sql_lex.specs.Names.{SpellsName};
 ghost use Rattle.sql_read.specs.Refusals.{is_left_out_word};
 ghost use Rattle.sql_read.specs.Unquoting.{quoted_name, some_name, unquoted};
 
-use crate::reserved::{is_left_out, is_reserved};
 use sql_lex::bytes::folded;
+use sql_lex::reserved::{is_left_out, is_reserved};
 use sql_lex::{Token, TokenKind};
 use sql_model::{Name, NoMemory};
 use std::alloc::Global;

@@ -17,9 +17,9 @@ use Rattle.sql_model.specs.Columns.{same_name}
 use Rattle.sql_model.specs.Relations.{Relation, relation_named, answer}
 use Rattle.sql_model.specs.Meets.{Meets}
 use Rattle.sql_model.specs.Equivalent.{Equivalent}
-use Rattle.sql_read.specs.FirstText.{TableText, BlockText, NextBlock, QueryText}
-use Rattle.sql_read.specs.FirstTrees.{columns, relations_from, block_tree, union_tree, query_tree}
-use Rattle.sql_read.specs.FirstForm.{IsBlockOver, IsQuery, IsFirstCase}
+use Rattle.first_form.specs.FirstText.{TableText, BlockText, NextBlock, QueryText}
+use Rattle.first_form.specs.FirstTrees.{columns, relations_from, block_tree, union_tree, query_tree}
+use Rattle.first_form.specs.FirstForm.{IsBlockOver, IsQuery, IsFirstCase}
 use Rattle.u_terms.specs.Meaning.{meaning}
 use Rattle.udp_prog.specs.Translation.{query_term}
 use Rattle.udp_prog.proofs.QueryTerms.{Counts, Counts-select_star, Counts-union_all}

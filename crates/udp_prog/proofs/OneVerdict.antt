@@ -6,8 +6,8 @@ use Rattle.sql_model.specs.declared.schema.Schema.{Schema}
 use Rattle.sql_model.specs.Syntax.{Name, Query, OfBlock, Set}
 use Rattle.sql_model.specs.Relations.{Relation, relation_named}
 use Rattle.sql_model.specs.Compute.{everything}
-use Rattle.sql_read.specs.FirstForm.{IsFirstCase}
-use Rattle.sql_read.proofs.CaseLaws.{same_read}
+use Rattle.first_form.specs.FirstForm.{IsFirstCase}
+use Rattle.first_form.proofs.CaseLaws.{same_read}
 use Rattle.u_terms.specs.declared.term.U.{U}
 use Rattle.udp_prog.specs.Limits.{most_case_bytes, most_proof_bytes}
 use Rattle.udp_prog.specs.declared.step.Step.{Step}

@@ -3,8 +3,8 @@ use Rattle.std.proofs.Common.{◌≡◌, ℕ, ◌≤◌, List, [], ◌∷◌, Op
 use Rattle.std.specs.declared.alloc.Global.{Global}
 use Rattle.udp_io.specs.Writing.{Grows}
 use Rattle.std.specs.Prelude.{IfSome}
-use Rattle.sql_read.specs.declared.first.FirstCase.{FirstCase}
-use Rattle.sql_read.specs.FirstForm.{IsFirstCase}
+use Rattle.first_form.specs.declared.first.FirstCase.{FirstCase}
+use Rattle.first_form.specs.FirstForm.{IsFirstCase}
 use Rattle.sql_model.specs.declared.schema.Schema.{Schema}
 use Rattle.sql_model.specs.declared.tree.Query.{Query}
 use Rattle.sql_model.specs.Equivalent.{Equivalent}

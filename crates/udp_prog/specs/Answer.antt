@@ -5,7 +5,7 @@ use Rattle.std.specs.declared.alloc.Global.{Global}
 use Rattle.sql_model.specs.declared.schema.Schema.{Schema}
 use Rattle.sql_model.specs.declared.tree.Query.{Query}
 use Rattle.sql_model.specs.Equivalent.{Equivalent}
-use Rattle.sql_read.specs.FirstForm.{IsFirstCase}
+use Rattle.first_form.specs.FirstForm.{IsFirstCase}
 use Rattle.u_terms.specs.declared.term.U.{U}
 use Rattle.udp_io.specs.Faults.{Rose}
 use Rattle.udp_io.specs.Writing.{Grows, GrowsByPrefix}

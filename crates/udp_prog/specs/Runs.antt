@@ -1,7 +1,7 @@
 -- What the parts of a run found: contracts of private functions alone cite this.
 use Rattle.std.specs.Prelude.{◌≡◌, ℕ, ◌<◌, ◌≤◌, List, Option, IfSome, length}
-use Rattle.sql_read.specs.declared.first.FirstCase.{FirstCase}
-use Rattle.sql_read.specs.FirstForm.{IsFirstCase}
+use Rattle.first_form.specs.declared.first.FirstCase.{FirstCase}
+use Rattle.first_form.specs.FirstForm.{IsFirstCase}
 use Rattle.udp_io.specs.Faults.{Rose}
 use Rattle.udp_prog.specs.Limits.{most_case_bytes, most_proof_bytes}
 use Rattle.udp_prog.specs.declared.answer.Verdict.{Verdict}

@@ -1,6 +1,6 @@
 //! The top call: everything that the program does, over any store and any sink.
 ghost use Rattle.std.specs.Prelude.{◌≡◌, ◌<◌, ◌≤◌, ◌⊎◌, List, [], ℕ, length, codes, IfSome, IfOk, IfErr};
-ghost use Rattle.sql_read.specs.FirstForm.{IsFirstCase};
+ghost use Rattle.first_form.specs.FirstForm.{IsFirstCase};
 ghost use Rattle.udp_io.specs.Faults.{Rose};
 ghost use Rattle.udp_io.specs.Writing.{Grows};
 ghost use Rattle.udp_prog.specs.Checking.{Accepted};
@@ -14,7 +14,7 @@ use crate::checker::{Shown, check};
 use crate::fault::ProofFault;
 use crate::translation::query_term;
 use crate::{CASE_LIMIT, PROOF_LIMIT};
-use sql_read::{FirstCase, FirstFault, read_first};
+use first_form::{FirstCase, FirstFault, read_first};
 use std::alloc::Global;
 use udp_io::{ReadAllFault, Sink, Store, read_all, write_all};
 

@@ -1,7 +1,7 @@
 use Rattle.std.proofs.Common.{◌≤◌, ℕ, length, rules, arith}
 use Rattle.sql_model.specs.declared.schema.Schema.{Schema}
 use Rattle.sql_model.specs.declared.tree.Query.{Query}
-use Rattle.sql_read.specs.FirstForm.{IsFirstCase}
+use Rattle.first_form.specs.FirstForm.{IsFirstCase}
 use Rattle.udp_prog.specs.Limits.{most_case_bytes}
 use Rattle.udp_prog.proofs.Verdicts.{told, first_told}
 use Rattle.udp_prog.proofs.top.read_case.Goals as goal

@@ -1,0 +1,10 @@
+pub mod ByteKinds
+pub mod Repeated
+pub mod FirstTokens
+pub mod Front
+pub mod Differing
+pub mod RepeatedLaws
+pub mod ColumnLaws
+pub mod TableLaws
+pub mod QueryLaws
+pub mod CaseLaws
