@@ -12,3 +12,4 @@ pub mod ReadLaws
 pub mod TableNumbers
 pub mod ColumnsFit
 pub mod FkeysFit
+pub mod FactsLaws

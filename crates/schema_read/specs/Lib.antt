@@ -7,6 +7,7 @@ pub mod ForeignKeys
 pub mod Declarations
 pub mod Builds
 pub mod Fits
+pub mod SchemaFacts
 pub mod Building
 pub mod Sets
 pub mod Known

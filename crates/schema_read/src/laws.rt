@@ -1,13 +1,17 @@
 //! Laws of the definitions, each the contract of a function that does nothing.
-ghost use Rattle.std.specs.Prelude.{◌≡◌, List, map};
+ghost use Rattle.std.specs.Prelude.{◌≡◌, ◌↔◌, ℕ, List, map};
+ghost use Rattle.data_model.specs.Database.{Database};
 ghost use Rattle.data_model.specs.Lists.{Each};
 ghost use Rattle.data_model.specs.Numbers.{list_below};
 ghost use Rattle.sql_model.specs.declared.schema.Schema.{Schema};
 ghost use Rattle.sql_model.specs.declared.statement.Statement.{Statement};
-ghost use Rattle.sql_model.specs.Meets.{base_tables};
+ghost use Rattle.sql_model.specs.Meets.{Meets, base_tables};
+ghost use Rattle.u_terms.specs.declared.facts.Facts.{Facts};
+ghost use Rattle.u_terms.specs.Facts.{FactsOk, MeetsFacts};
 ghost use Rattle.schema_read.specs.Builds.{Builds};
 ghost use Rattle.schema_read.specs.Declarations.{count_tables};
 ghost use Rattle.schema_read.specs.Fits.{KeysFit, PrimaryFits, FkeyFits};
+ghost use Rattle.schema_read.specs.SchemaFacts.{AreFactsOf};
 
 /// Statements build one schema at most.
 pub fn one_schema()
@@ -34,4 +38,11 @@ pub fn keys_fit_their_tables()
 pub fn foreign_keys_fit_their_tables()
     ensures { (statements : List Statement) (schema : Schema) → Builds statements schema →
         Each (FkeyFits (base_tables schema)) schema.fkeys }
+{}
+
+/// The facts of a schema fit together, and the databases that meet them are those that meet the schema.
+pub fn facts_of_a_schema()
+    ensures fit { (statements : List Statement) (schema : Schema) → Builds statements schema → (facts : Facts) → AreFactsOf schema facts → FactsOk facts }
+    ensures databases { (statements : List Statement) (schema : Schema) → Builds statements schema → (facts : Facts) → AreFactsOf schema facts →
+        (n : ℕ) (db : Database) → Meets schema n db ↔ MeetsFacts facts n db }
 {}
