@@ -1,6 +1,18 @@
 pub mod Booleans
 pub mod Lists
 pub mod Each
+pub mod Columns
+pub mod Outputs
+pub mod Walks
+pub mod Groups
+pub mod Values
+pub mod Conditions
+pub mod Queries
+pub mod Fronts
+pub mod Blocks
+pub mod Singles
+pub mod Scalars
+pub mod Aggregates
 pub mod Resolvable
 pub mod Built
 pub mod Places
@@ -13,3 +25,7 @@ pub mod SoundParts
 pub mod Soundness
 pub mod SoundTrees
 pub mod PlainTrees
+pub mod Schemas
+pub mod Shapes
+pub mod GroupLaws
+pub mod SymbolLaws

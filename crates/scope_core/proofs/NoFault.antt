@@ -96,7 +96,7 @@ or-none : {X : Type 0} (o p : Option X) → option_or o p ≡ None → (o ≡ No
 or-none None p e = (refl, e)
 or-none (Some x) p e = absurd (some-none x e)
 
-no-first : (ss : List Site) → first_fault ss ≡ None → Each HasNoFault ss × Each (λ site. is_too_wide site ≡ false) ss
+pub no-first : (ss : List Site) → first_fault ss ≡ None → Each HasNoFault ss × Each (λ site. is_too_wide site ≡ false) ss
 no-first [] e = (tt, tt)
 no-first (site ∷ rest) e =
     let both = or-none (fault_at site) (first_fault rest) e in

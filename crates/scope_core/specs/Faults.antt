@@ -162,6 +162,10 @@ scalar_not_aggregate (AnExpression wanted levels (n.Sub query at)) = not (is_sca
 scalar_not_aggregate _ = false
 
 -- ---- E43: a view has one output name twice; of the names of its columns
+abbrev pub is_repeated : ColumnName → List ColumnName → Bool
+is_repeated None rest = false
+is_repeated (Some name) rest = list_any (is_called name) rest
+
 abbrev pub name_twice : List ColumnName → Bool
 name_twice [] = false
 name_twice (None ∷ rest) = name_twice rest

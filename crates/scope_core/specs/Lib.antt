@@ -12,7 +12,12 @@ pub mod Faults
 pub mod WellFormed
 pub mod FirstFault
 pub mod Plain
+pub mod Grouped
 pub mod Sound
 pub mod Fitting
+pub mod Literals
+pub mod Lent
+pub mod Answer
+pub mod Parts
 pub mod Compute
 pub mod samples

@@ -3,7 +3,7 @@
 use Rattle.std.specs.Prelude.{Bool, true, false, ◌&&◌, List, find, Option, Some, None}
 use Rattle.sql_model.specs.Syntax as n
 use Rattle.sql_model.specs.Columns.{same_name}
-use Rattle.scope_core.specs.Syntax.{RVal, Col, Lit, Values, NoValues, ValueThen, RCond, Eq, Conditions, NoConditions, ConditionThen, NoCondition, RSource, Table, Entries, NoEntries, EntryThen, Select, RQuery, OfBlock, Plain}
+use Rattle.scope_core.specs.Syntax.{RVal, Col, Lit, Values, NoValues, ValueThen, RCond, Eq, Conditions, NoConditions, ConditionThen, NoCondition, RSource, Table, Entries, NoEntries, EntryThen, Select, RQuery, OfBlock, Grouping, Plain, One, Keys}
 use Rattle.scope_core.specs.Scope.{Known}
 
 abbrev pub is_table : RSource → Bool
@@ -78,6 +78,11 @@ are_tree_equalities (ConditionThen condition rest) = is_tree_equality condition 
 abbrev pub are_tree_tables : {m : _} → Entries m → Bool
 are_tree_tables NoEntries = true
 are_tree_tables (EntryThen source width rest) = is_table source && are_tree_tables rest
+
+abbrev pub is_grouping : Grouping → Bool
+is_grouping Plain = false
+is_grouping One = true
+is_grouping (Keys columns) = true
 
 abbrev pub is_plain_tree : RQuery → Bool
 is_plain_tree (OfBlock (Select false s entries s' conds Plain NoCondition s'' items)) =

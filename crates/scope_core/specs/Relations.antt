@@ -1,6 +1,6 @@
 -- The relations of a schema as queries can name them, and the trees of its views, in order of declaration. A view sees the relations declared
 -- before it.
-use Rattle.std.specs.Prelude.{◌≡◌, List, [], ◌∷◌, ◌++◌, map, length, Some}
+use Rattle.std.specs.Prelude.{◌≡◌, ℕ, List, [], ◌∷◌, ◌++◌, map, length, Some}
 use Rattle.sql_model.specs.Syntax.{Name, Query}
 use Rattle.sql_model.specs.Headings.{output_columns}
 use Rattle.sql_model.specs.declared.schema.Schema.{Schema}
@@ -23,6 +23,10 @@ known_with known trees name r = known ++ known_relation known trees name r ∷ [
 abbrev pub trees_with : List Known → List RQuery → Relation → List RQuery
 trees_with known trees (relation.Table table) = trees
 trees_with known trees (relation.View query at) = trees ++ resolved query known [] ∷ []
+
+abbrev pub count_views : Relation → ℕ
+count_views (relation.Table table) = 0
+count_views (relation.View query at) = 1
 
 -- ---- of all relations, after some
 abbrev pub known_relations : List Known → List RQuery → List (Name × Relation) → List Known

@@ -129,3 +129,7 @@ module _ (IsTable IsView : ℕ → ℕ → Type 0) where
     pub AreSoundValues : {m : _} → SeenBlocks → Values m → Type 0
     AreSoundValues seen NoValues = Unit {0}
     AreSoundValues seen (ValueThen e rest) = IsSoundValue seen e × AreSoundValues seen rest
+
+-- a tree that stands by itself, whatever base tables and views there are
+abbrev pub IsSoundAlone : RQuery → Type 0
+IsSoundAlone tree = IsSound (λ number wide. Unit {0}) (λ place wide. Unit {0}) [] tree

@@ -1,4 +1,9 @@
 //! Why a query is refused.
+ghost use Rattle.std.specs.Prelude.{◌≡◌, IfErr, IfOk};
+ghost use Rattle.scope_core.specs.declared.fault.ScopeFault.TheVariants as fault;
+
+use crate::NoMemory;
+use std::alloc::AllocFailed;
 
 /// What is wrong at a place of a query. The code is that of the line `case refused: CODE at PLACE`.
 #[derive(Clone, Copy, Debug, PartialEq, Eq)]
@@ -51,4 +56,49 @@ pub enum ScopeFault {
     TooWide {
         width: u32,
     },
+}
+
+impl From<NoMemory> for ScopeFault {
+    ghost use Rattle.std.specs.Prelude.{◌≡◌};
+    ghost use Rattle.scope_core.specs.declared.fault.ScopeFault.TheVariants.{NoMemory};
+
+    ghost from_gives = { λ _ fault. fault ≡ NoMemory };
+
+    fn from(_error: NoMemory) -> ScopeFault {
+        ScopeFault::NoMemory
+    }
+}
+
+impl<T: Drop> From<AllocFailed<T>> for ScopeFault {
+    ghost use Rattle.std.specs.Prelude.{◌≡◌};
+    ghost use Rattle.scope_core.specs.declared.fault.ScopeFault.TheVariants.{NoMemory};
+
+    ghost from_gives = { λ _ fault. fault ≡ NoMemory };
+
+    fn from(_failed: AllocFailed<T>) -> ScopeFault {
+        ScopeFault::NoMemory
+    }
+}
+
+/// The fault of this code at this place.
+pub fn refused(code: ScopeCode, at: u32) -> ScopeFault
+    ensures { result ≡ fault.Refused code at 0 0 }
+{
+    ScopeFault::Refused {
+        code,
+        at,
+        first: 0,
+        second: 0,
+    }
+}
+
+/// A count as trees have it. What 32 bits don't hold has no tree in memory.
+pub fn number(count: usize) -> Result<u32, ScopeFault>
+    ensures fits { IfOk result (λ n. n ≡ count) }
+    ensures err { IfErr result (λ f. f ≡ fault.NoMemory) }
+{
+    match u32::try_from(count) {
+        Ok(number) => Ok(number),
+        Err(_) => Err(ScopeFault::NoMemory),
+    }
 }

@@ -9,6 +9,8 @@ ghost use Rattle.sql_model.specs.Meets.{Meets};
 ghost use Rattle.sql_model.specs.Relations.{answer};
 ghost use Rattle.scope_core.specs.Evaluation.{answer as resolved_answer};
 ghost use Rattle.scope_core.specs.Fitting.{AreSoundViews, IsSoundOver};
+ghost use Rattle.data_model.specs.Lists.{Each};
+ghost use Rattle.scope_core.specs.Literals.{QueryFits, SchemaFits, TreeFits};
 ghost use Rattle.scope_core.specs.Relations.{known_of, tree_of, views_of};
 ghost use Rattle.scope_core.specs.Plain.{is_plain, is_plain_tree};
 ghost use Rattle.scope_core.specs.Scope.{heading};
@@ -44,6 +46,13 @@ pub fn resolved_trees_are_sound()
         IsSoundOver schema.relations.entries (views_of schema) (tree_of schema query) }
     ensures wide { (schema : Schema) (query : Query) →
         width (tree_of schema query) ≡ length (output_columns query (map heading (known_of schema))) }
+{}
+
+/// The literals of trees are those of their queries: trees fit symbols where the queries do.
+#[tactic(auto, using(crate::proofs::SymbolLaws::laws))]
+pub fn trees_fit_symbols()
+    ensures views { (count : ℕ) (schema : Schema) → SchemaFits count schema → Each (TreeFits count) (views_of schema) }
+    ensures query { (count : ℕ) (schema : Schema) (query : Query) → QueryFits count query → TreeFits count (tree_of schema query) }
 {}
 
 /// The tree of a well-formed query is plain exactly where the query is.

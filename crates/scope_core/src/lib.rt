@@ -4,12 +4,29 @@
 //! `specs/Lib.antt`.
 #![tactic(auto)]
 
+mod catalog;
+mod checks;
+mod column;
 pub mod fault;
+mod grouped;
+mod grouping;
+mod heading;
 pub mod laws;
+mod level;
+mod output;
+mod resolution;
+mod resolved;
+mod shape;
+mod star;
+#[cfg(test)]
+mod tests;
 pub mod tree;
+mod views;
 
 pub use fault::{ScopeCode, ScopeFault};
 pub use plain_data::{Boxed, List};
+pub use resolved::{Resolved, Views};
 pub use sql_model::{AggFun, SetOp};
 pub use std::alloc::AllocError as NoMemory;
 pub use tree::{Grouping, RBlock, RCond, REntry, RQuery, RSource, RVal};
+pub use views::{resolve, resolve_views};

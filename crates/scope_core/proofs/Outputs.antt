@@ -1,0 +1,84 @@
+-- The columns of a query, as code builds it.
+use Rattle.std.proofs.Common.{◌≡◌, ℕ, zero, suc, ◌<◌, Bool, List, [], ◌∷◌, ◌++◌, length, get_or, Option, Some, None, refl, ap, sym, subst, ◌∙◌, arith}
+use Rattle.sql_model.specs.Syntax as n
+use Rattle.sql_model.specs.declared.tree.Query.TheVariants as q
+use Rattle.sql_model.specs.declared.tree.Source.TheVariants as source
+use Rattle.sql_model.specs.declared.tree.Entry.{Entry}
+use Rattle.sql_model.specs.declared.tree.Block.{out-Block, roll-Block, roll-out-Block}
+use Rattle.sql_model.specs.Compute.{everything}
+use Rattle.sql_model.specs.Headings.{Heading, columns_of, block_columns, item_columns, items_columns, output_columns, headings, source_columns}
+use Rattle.scope_core.specs.Lent.{entries_headings, entries_row, items_row, list_columns}
+
+pub output-Block : (b : n.Block) (relations : List Heading) → output_columns (q.Block b) relations ≡ block_columns b relations
+unfolding everything
+output-Block b relations = refl
+
+pub output-Set : (op : n.SetOp) (left right : n.Query) (at : _) (relations : List Heading)
+    → output_columns (q.Set op left right at) relations ≡ output_columns left relations
+unfolding everything
+output-Set op left right at relations = refl
+
+pub source-Query : (query : n.Query) (relations : List Heading) → source_columns (source.Query query) relations ≡ output_columns query relations
+unfolding everything
+source-Query query relations = refl
+
+pub source-Named : (name : n.Name) (at : ℕ) (relations : List Heading) → source_columns (source.Named name at) relations ≡ columns_of name relations
+unfolding everything
+source-Named name at relations = refl
+
+-- ---- blocks
+block_columns-rolled : (d : Bool) (items : List n.Item) (entries : List Entry) (c : Option n.Expr) (g : Option (List n.Expr)) (h : Option n.Expr)
+    (relations : List Heading)
+    → block_columns (roll-Block (record { distinct = d; items = items; entries = entries; cond = c; groups = g; having = h })) relations
+    ≡ list_columns items (entries_headings entries relations)
+unfolding everything list_columns entries_headings
+block_columns-rolled d items entries None None None relations = refl
+block_columns-rolled d items entries None None (Some h) relations = refl
+block_columns-rolled d items entries None (Some g) None relations = refl
+block_columns-rolled d items entries None (Some g) (Some h) relations = refl
+block_columns-rolled d items entries (Some c) None None relations = refl
+block_columns-rolled d items entries (Some c) None (Some h) relations = refl
+block_columns-rolled d items entries (Some c) (Some g) None relations = refl
+block_columns-rolled d items entries (Some c) (Some g) (Some h) relations = refl
+
+pub block_columns-fields : (b : n.Block) (relations : List Heading)
+    → block_columns b relations ≡ list_columns (out-Block b).items (entries_headings (out-Block b).entries relations)
+block_columns-fields b relations =
+    let B = out-Block b in
+    subst (λ x. block_columns x relations ≡ list_columns B.items (entries_headings B.entries relations)) (roll-out-Block b)
+    (block_columns-rolled B.distinct B.items B.entries B.cond B.groups B.having relations)
+
+pub list_columns-cons : (item : n.Item) (items : List n.Item) (from : List Heading)
+    → list_columns (item ∷ items) from ≡ item_columns item from ++ list_columns items from
+unfolding everything list_columns entries_headings
+list_columns-cons item items from = refl
+
+pub entries_headings-cons : (e : Entry) (es : List Entry) (relations : List Heading)
+    → entries_headings (e ∷ es) relations ≡ record { alias = e.alias; columns = source_columns e.source relations } ∷ entries_headings es relations
+unfolding everything list_columns entries_headings
+entries_headings-cons e es relations = refl
+
+pub entries_headings-nil : (relations : List Heading) → entries_headings [] relations ≡ []
+unfolding everything list_columns entries_headings
+entries_headings-nil relations = refl
+
+pub length-entries_headings : (es : List Entry) (relations : List Heading) → length (entries_headings es relations) ≡ length es
+length-entries_headings [] relations = ap (λ hs. length hs) (entries_headings-nil relations)
+length-entries_headings (e ∷ es) relations =
+    ap (λ hs. length hs) (entries_headings-cons e es relations) ∙ ap suc (length-entries_headings es relations)
+
+-- the heading of an entry
+pub heading-at : (es : List Entry) (relations : List Heading) (i : ℕ) (e : Entry) (d : Heading) → i < length es → e ≡ get_or es i e
+    → get_or (entries_headings es relations) i d ≡ record { alias = e.alias; columns = source_columns e.source relations }
+heading-at [] relations i e d h is = absurd (omega (arith, h))
+heading-at (x ∷ es) relations zero e d h is =
+    ap (λ hs. get_or hs 0 d) (entries_headings-cons x es relations) ∙ ap (λ y. record { alias = y.alias; columns = source_columns y.source relations }) (sym is)
+heading-at (x ∷ es) relations (suc i) e d h is =
+    ap (λ hs. get_or hs (suc i) d) (entries_headings-cons x es relations) ∙ heading-at es relations i e d (omega (arith, h)) is
+
+pub list_columns-nil : (from : List Heading) → list_columns [] from ≡ []
+unfolding everything list_columns entries_headings
+list_columns-nil from = refl
+
+pub ruleset outputs =
+    (output-Block, output-Set, source-Named, source-Query, block_columns-fields, list_columns-cons, list_columns-nil, entries_headings-cons, entries_headings-nil)

@@ -1,0 +1,6 @@
+use Rattle.std.proofs.Common.{◌≡◌, ◌++◌, drop}
+use Rattle.scope_core.specs.Resolving.{star}
+use Rattle.scope_core.proofs.star.add_all.Given as goal
+
+abbrev pub invariant-loop-entry : goal.invariant-loop-entry
+invariant-loop-entry l = l.values.items ++ star l.entry (drop l.entry l.headings) ≡ l.initial.values.items ++ star 0 l.headings

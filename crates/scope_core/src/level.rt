@@ -1,0 +1,183 @@
+//! What a place of a query sees of the blocks around it.
+ghost use Rattle.std.specs.Prelude.{◌≡◌, ◌+◌, ◌<◌, position, nat_lt, nat_eq, not, true, false, length, IfNone, IfSome, IfOk, IfErr, MatchOption, find, is_some, option_map};
+ghost use Rattle.std.specs.List.{flat_map, list_any};
+ghost use Rattle.sql_model.specs.Columns.{is_called, same_name};
+ghost use Rattle.sql_model.specs.Headings.{columns_of};
+ghost use Rattle.scope_core.specs.declared.fault.ScopeFault.TheVariants as fault;
+ghost use Rattle.scope_core.specs.Faults.{count_called, is_group, is_in_group, is_member};
+ghost use Rattle.scope_core.specs.Lent.{is_lacking_in, is_twice_in, levels_of};
+ghost use Rattle.scope_core.specs.Scope.{bare_place, headings_here, member_levels, place_in, sight_here};
+
+use crate::fault::ScopeFault;
+use crate::heading::Heading;
+use sql_model::Name;
+
+/// How a place sees a block around it: by the rows of its entries, by the columns of a group, or by the rows of one member.
+#[derive(Clone, Copy)]
+pub enum Sight<'a> {
+    Rows,
+    Group { columns: &'a [(u32, u32)] },
+    Member,
+}
+
+/// The blocks around a place, the innermost first. The first of the headings is that of entry number `first`.
+#[derive(Clone, Copy)]
+pub enum Levels<'s, 'a> {
+    Outside,
+    Block {
+        first: u32,
+        headings: &'s [Heading<'a>],
+        sight: Sight<'s>,
+        outer: &'s Levels<'s, 'a>,
+    },
+}
+
+impl<'s, 'a> Levels<'s, 'a> {
+    /// Whether this is the argument of an aggregate.
+    pub fn is_member(&self) -> bool
+        ensures { result ≡ is_member (sight_here (levels_of self.now)) }
+    {
+        match self {
+            Levels::Block {
+                sight: Sight::Member,
+                ..
+            } => true,
+            _ => false,
+        }
+    }
+
+    /// Whether the innermost block is seen by the columns of a group.
+    pub fn is_group(&self) -> bool
+        ensures { result ≡ is_group (sight_here (levels_of self.now)) }
+    {
+        match self {
+            Levels::Block {
+                sight: Sight::Group { .. },
+                ..
+            } => true,
+            _ => false,
+        }
+    }
+
+    /// Whether this is in the items or HAVING of a grouped block, arguments of aggregates included.
+    pub fn is_in_group(&self) -> bool
+        ensures { result ≡ is_in_group (sight_here (levels_of self.now)) }
+    {
+        self.is_group() || self.is_member()
+    }
+
+    /// What stands behind the names of the innermost block.
+    pub fn headings(&self) -> &'s [Heading<'a>]
+        ensures { result.now ≡ headings_here (levels_of self.now) }
+    {
+        match self {
+            Levels::Block { headings, .. } => *headings,
+            Levels::Outside => &[],
+        }
+    }
+
+    /// What the argument of an aggregate sees.
+    pub fn of_member(&self) -> Levels<'s, 'a>
+        ensures { levels_of result ≡ member_levels (levels_of self.now) }
+    {
+        match self {
+            Levels::Outside => Levels::Outside,
+            Levels::Block {
+                first,
+                headings,
+                sight: _,
+                outer,
+            } => Levels::Block {
+                first: *first,
+                headings: *headings,
+                sight: Sight::Member,
+                outer: *outer,
+            },
+        }
+    }
+}
+
+/// Where a block has a name. `twice` is whether two of the columns that are meant have it, and `lacks` whether none has.
+#[derive(Clone, Copy)]
+pub struct Found {
+    pub entry: usize,
+    pub column: usize,
+    pub twice: bool,
+    pub lacks: bool,
+}
+
+/// The first column of this name among all entries.
+fn bare_place(name: &Name, first: u32, headings: &[Heading]) -> Option<(usize, usize)>
+    ensures { result ≡ bare_place name.now first headings.now }
+{
+    for (index, heading) in headings.iter().enumerate() {
+        if let Some(column) = heading.columns().position(name) {
+            return Some((first as usize + index, column));
+        }
+    }
+    None
+}
+
+/// Whether two columns of all entries have this name.
+#[tactic(auto, using(crate::proofs::Lists::counts))]
+fn is_called_twice(name: &Name, headings: &[Heading]) -> bool
+    ensures { result ≡ nat_lt 1 (count_called name.now (flat_map (λ h. h.columns) headings.now)) }
+{
+    let mut seen = 0;
+    for heading in headings {
+        let count = heading.columns().count_called(name);
+        if count > 1 - seen {
+            return true;
+        }
+        seen += count;
+    }
+    false
+}
+
+fn find_bare(name: &Name, first: u32, headings: &[Heading]) -> Option<Found>
+    ensures none { IfNone result (place_in None name.now first headings.now ≡ None) }
+    ensures place { IfSome result (λ f. place_in None name.now first headings.now ≡ Some (f.entry, f.column)) }
+    ensures twice { IfSome result (λ f. f.twice ≡ nat_lt 1 (count_called name.now (flat_map (λ h. h.columns) headings.now))) }
+    ensures lacks { IfSome result (λ f. f.lacks ≡ false) }
+{
+    let (entry, column) = bare_place(name, first, headings)?;
+    Some(Found {
+        entry,
+        column,
+        twice: is_called_twice(name, headings),
+        lacks: false,
+    })
+}
+
+fn find_qualified(alias: &Name, name: &Name, first: u32, headings: &[Heading]) -> Option<Found>
+    ensures none { IfNone result (place_in (Some alias.now) name.now first headings.now ≡ None) }
+    ensures place { IfSome result (λ f. place_in (Some alias.now) name.now first headings.now ≡ Some (f.entry, f.column)) }
+    ensures twice { IfSome result (λ f. f.twice ≡ nat_lt 1 (count_called name.now (columns_of alias.now headings.now))) }
+    ensures lacks { IfSome result (λ f. f.lacks ≡ not (list_any (is_called name.now) (columns_of alias.now headings.now))) }
+{
+    for (index, heading) in headings.iter().enumerate() {
+        if heading.is_alias(alias) {
+            let columns = heading.columns();
+            return Some(Found {
+                entry: first as usize + index,
+                column: columns.position(name).unwrap_or(columns.len()),
+                twice: columns.count_called(name) > 1,
+                lacks: !columns.has(name),
+            });
+        }
+    }
+    None
+}
+
+/// A name in one block.
+pub fn find_in(qual: &Option<Name>, name: &Name, first: u32, headings: &[Heading]) -> Option<Found>
+    ensures none { IfNone result (place_in qual.now name.now first headings.now ≡ None) }
+    ensures place { IfSome result (λ f. place_in qual.now name.now first headings.now ≡ Some (f.entry, f.column)) }
+    ensures twice { IfSome result (λ f. f.twice ≡ is_twice_in qual.now name.now headings.now) }
+    ensures lacks { IfSome result (λ f. f.lacks ≡ is_lacking_in qual.now name.now headings.now) }
+{
+    match qual {
+        Some(alias) => find_qualified(alias, name, first, headings),
+        None => find_bare(name, first, headings),
+    }
+}

@@ -1,0 +1,690 @@
+//! The tree of a query, and the first fault on the way.
+//!
+//! One walk seeks faults and builds the tree. A chain of operators is as deep as it is long, so the functions on the way down keep
+//! small frames: what needs room of its own is kept out of them by `inline(never)`.
+ghost use Rattle.std.specs.Prelude.{◌≡◌, ◌++◌, ◌∷◌, [], ℕ, OnOk, OnErr, IfOk, IfErr, false, true, None, length};
+ghost use Rattle.sql_model.specs.declared.tree.Expr.TheVariants as expr;
+ghost use Rattle.sql_model.specs.Headings.{output_columns};
+ghost use Rattle.scope_core.specs.declared.fault.ScopeFault.TheVariants as fault;
+ghost use Rattle.scope_core.specs.declared.tree.RCond.TheVariants as condition;
+ghost use Rattle.scope_core.specs.declared.fault.ScopeCode.TheVariants as code;
+ghost use Rattle.scope_core.specs.Answer.{IsCause};
+ghost use Rattle.scope_core.specs.Faults.{is_in_group};
+ghost use Rattle.scope_core.specs.FirstFault.{fault_at};
+ghost use Rattle.scope_core.specs.Lent.{entries_headings, headings_of, levels_of, relations_of};
+ghost use Rattle.scope_core.specs.Parts.{block_fault, conditions_listed, conjuncts_listed, entries_fault, entries_listed, fault_within, item_fault, items_fault, items_listed, on_fault, on_listed, source_fault, truth_fault, truths_fault, value_fault, values_fault, values_listed, written_fault, written_listed, having_listed};
+ghost use Rattle.scope_core.specs.Resolving.{conjunction, conjuncts, conjuncts_written, resolved, resolved_block, resolved_having, resolved_item, resolved_source, resolved_value};
+ghost use Rattle.scope_core.specs.Scope.{no_entry, sight_here};
+ghost use Rattle.scope_core.specs.Sites.{TwoWidths};
+
+use crate::checks::{
+    check_alias, check_outputs, check_widths, conjuncts_of, is_one_group, is_scalar, place_of,
+    resolve_name,
+};
+use crate::column::resolve_column;
+use crate::fault::{ScopeCode, ScopeFault, number, refused};
+use crate::grouping::{conjunction, resolve_grouping, sight_by};
+use crate::heading::{Heading, Known};
+use crate::level::{Levels, Sight};
+use crate::output::{output_columns, source_columns};
+use crate::star::{add_alias_star, add_star};
+use crate::tree::{RBlock, RCond, REntry, RQuery, RSource, RVal};
+use plain_data::{Boxed, List};
+use sql_model::{AggFun, Block, Entry, Expr, Item, Query, SetOp, Source};
+use std::alloc::Global;
+
+/// A value.
+#[cycle(resolve)]
+#[tactic(auto, using(crate::proofs::Values::laws))]
+fn resolve_value<'a>(
+    alloc: Global,
+    expr: &'a Expr,
+    known: &[Known<'a>],
+    levels: &Levels<'_, 'a>,
+) -> Result<RVal, ScopeFault>
+    ensures fine { IfOk result (λ v. value_fault (relations_of known.now) (levels_of levels.now) expr.now ≡ None) }
+    ensures value { IfOk result (λ v. v ≡ resolved_value expr.now (relations_of known.now) (levels_of levels.now)) }
+    ensures err { IfErr result (λ f. IsCause f (value_fault (relations_of known.now) (levels_of levels.now) expr.now)) }
+{
+    match expr {
+        Expr::Col {
+            qual,
+            qual_at,
+            name,
+            at,
+        } => resolve_column(qual, *qual_at, name, *at, levels),
+        Expr::Lit { lit, .. } => Ok(RVal::Lit { lit: *lit }),
+        Expr::Fun { sym, args, .. } => Ok(RVal::Fun {
+            sym: *sym,
+            args: resolve_values(alloc, args.as_slice(), known, levels)?,
+        }),
+        Expr::Call { sym, args, .. } => Ok(RVal::Fun {
+            sym: *sym,
+            args: resolve_values(alloc, args.as_slice(), known, levels)?,
+        }),
+        Expr::Agg {
+            fun,
+            distinct,
+            arg,
+            at,
+        } => resolve_aggregate(alloc, *fun, *distinct, arg, *at, known, levels),
+        Expr::Sub { query, at } => resolve_scalar(alloc, query, *at, known, levels),
+        Expr::Pred { at, .. } => Err(refused(ScopeCode::NotValue, *at)),
+        Expr::Eq { at, .. } => Err(refused(ScopeCode::NotValue, *at)),
+        Expr::And { at, .. } => Err(refused(ScopeCode::NotValue, *at)),
+        Expr::Or { at, .. } => Err(refused(ScopeCode::NotValue, *at)),
+        Expr::Not { at, .. } => Err(refused(ScopeCode::NotValue, *at)),
+        Expr::Exists { at, .. } => Err(refused(ScopeCode::NotValue, *at)),
+        Expr::In { at, .. } => Err(refused(ScopeCode::NotValue, *at)),
+    }
+}
+
+#[cycle(resolve)]
+#[tactic(auto, using(crate::proofs::Values::laws))]
+fn resolve_values<'a>(
+    alloc: Global,
+    exprs: &'a [Expr],
+    known: &[Known<'a>],
+    levels: &Levels<'_, 'a>,
+) -> Result<List<RVal>, ScopeFault>
+    ensures fine { IfOk result (λ vs. values_fault (relations_of known.now) (levels_of levels.now) exprs.now ≡ None) }
+    ensures value { IfOk result (λ vs. vs ≡ values_listed (relations_of known.now) (levels_of levels.now) exprs.now) }
+    ensures err { IfErr result (λ f. IsCause f (values_fault (relations_of known.now) (levels_of levels.now) exprs.now)) }
+{
+    let mut values = Vec::with_capacity(alloc, exprs.len())?;
+    for expr in exprs {
+        let value = resolve_value(alloc, expr, known, levels)?;
+        values.push(value)?;
+    }
+    Ok(List::from_vec(values))
+}
+
+/// An aggregate; its argument sees the members of the group.
+#[cycle(resolve)]
+#[inline(never)]
+#[tactic(auto, using(crate::proofs::Values::laws))]
+fn resolve_aggregate<'a>(
+    alloc: Global,
+    fun: AggFun,
+    distinct: bool,
+    arg: &'a Option<Boxed<Expr>>,
+    at: u32,
+    known: &[Known<'a>],
+    levels: &Levels<'_, 'a>,
+) -> Result<RVal, ScopeFault>
+    ensures fine { IfOk result (λ v. value_fault (relations_of known.now) (levels_of levels.now) (expr.Agg fun distinct arg.now at) ≡ None) }
+    ensures value { IfOk result (λ v. v ≡ resolved_value (expr.Agg fun distinct arg.now at) (relations_of known.now) (levels_of levels.now)) }
+    ensures err { IfErr result (λ f. IsCause f (value_fault (relations_of known.now) (levels_of levels.now) (expr.Agg fun distinct arg.now at))) }
+{
+    if !levels.is_group() {
+        return Err(refused(ScopeCode::AggregateHere, at));
+    }
+    let arg = match arg {
+        Some(expr) => {
+            let member = levels.of_member();
+            let value = resolve_value(alloc, expr.get(), known, &member)?;
+            Some(Boxed::new(alloc, value)?)
+        }
+        None => None,
+    };
+    Ok(RVal::Agg { fun, distinct, arg })
+}
+
+/// A scalar subquery. `at` is the place of its parenthesis.
+#[cycle(resolve)]
+#[inline(never)]
+#[tactic(auto, using(crate::proofs::Values::laws))]
+fn resolve_scalar<'a>(
+    alloc: Global,
+    query: &'a Boxed<Query>,
+    at: u32,
+    known: &[Known<'a>],
+    levels: &Levels<'_, 'a>,
+) -> Result<RVal, ScopeFault>
+    ensures fine { IfOk result (λ v. value_fault (relations_of known.now) (levels_of levels.now) (expr.Sub query.now at) ≡ None) }
+    ensures value { IfOk result (λ v. v ≡ resolved_value (expr.Sub query.now at) (relations_of known.now) (levels_of levels.now)) }
+    ensures err { IfErr result (λ f. IsCause f (value_fault (relations_of known.now) (levels_of levels.now) (expr.Sub query.now at))) }
+{
+    check_subquery(at, levels)?;
+    match query.get() {
+        Query::Block { block } => {
+            if !is_scalar(block.get()) {
+                return Err(refused(ScopeCode::ScalarNotAggregate, at));
+            }
+            let block = resolve_boxed_block(alloc, block, known, levels)?;
+            Ok(RVal::Sub { block })
+        }
+        Query::Set { .. } => Err(refused(ScopeCode::ScalarNotAggregate, at)),
+    }
+}
+
+#[cycle(resolve)]
+#[inline(never)]
+#[tactic(auto, using(crate::proofs::Values::laws))]
+fn resolve_boxed_block<'a>(
+    alloc: Global,
+    block: &'a Boxed<Block>,
+    known: &[Known<'a>],
+    levels: &Levels<'_, 'a>,
+) -> Result<Boxed<RBlock>, ScopeFault>
+    ensures fine { IfOk result (λ v. block_fault (relations_of known.now) (levels_of levels.now) block.now ≡ None) }
+    ensures value { IfOk result (λ v. v ≡ resolved_block block.now (relations_of known.now) (levels_of levels.now)) }
+    ensures err { IfErr result (λ f. IsCause f (block_fault (relations_of known.now) (levels_of levels.now) block.now)) }
+{
+    let block = resolve_block(alloc, block.get(), known, levels)?;
+    Ok(Boxed::new(alloc, block)?)
+}
+
+/// A condition: an AND of its conjuncts, where it has more than one.
+#[cycle(resolve)]
+#[tactic(auto, using(crate::proofs::Conditions::laws))]
+fn resolve_condition<'a>(
+    alloc: Global,
+    expr: &'a Expr,
+    known: &[Known<'a>],
+    levels: &Levels<'_, 'a>,
+) -> Result<RCond, ScopeFault>
+    ensures fine { IfOk result (λ v. truth_fault (relations_of known.now) (levels_of levels.now) expr.now ≡ None) }
+    ensures value { IfOk result (λ v. v ≡ conjunction (conjuncts expr.now (relations_of known.now) (levels_of levels.now))) }
+    ensures err { IfErr result (λ f. IsCause f (truth_fault (relations_of known.now) (levels_of levels.now) expr.now)) }
+{
+    match expr {
+        Expr::Pred { sym, args, .. } => predicate(alloc, *sym, args.as_slice(), known, levels),
+        Expr::Call { sym, args, .. } => predicate(alloc, *sym, args.as_slice(), known, levels),
+        Expr::Eq { left, right, .. } => {
+            let left = resolve_value(alloc, left.get(), known, levels)?;
+            let right = resolve_value(alloc, right.get(), known, levels)?;
+            Ok(RCond::Eq { left, right })
+        }
+        Expr::And { parts, .. } => resolve_and(alloc, parts.as_slice(), known, levels),
+        Expr::Or { parts, .. } => Ok(RCond::Or {
+            parts: resolve_conditions(alloc, parts.as_slice(), known, levels)?,
+        }),
+        Expr::Not { part, .. } => Ok(RCond::Not {
+            part: resolve_part(alloc, part, known, levels)?,
+        }),
+        Expr::Exists { query, at } => resolve_exists(alloc, query, *at, known, levels),
+        Expr::In {
+            value,
+            query,
+            at,
+            in_at,
+        } => {
+            check_subquery(*at, levels)?;
+            let value = resolve_value(alloc, value.get(), known, levels)?;
+            let resolved = resolve_boxed_query(alloc, query, known, levels)?;
+            check_one_column(alloc, query, *in_at, known)?;
+            Ok(RCond::In {
+                value,
+                query: resolved,
+            })
+        }
+        Expr::Col { .. } => Err(refused(ScopeCode::NotTruth, place_of(expr))),
+        Expr::Lit { at, .. } => Err(refused(ScopeCode::NotTruth, *at)),
+        Expr::Fun { at, .. } => Err(refused(ScopeCode::NotTruth, *at)),
+        Expr::Agg { at, .. } => Err(refused(ScopeCode::NotTruth, *at)),
+        Expr::Sub { at, .. } => Err(refused(ScopeCode::NotTruth, *at)),
+    }
+}
+
+/// A predicate or a called name.
+#[cycle(resolve)]
+#[inline(never)]
+#[tactic(auto, using(crate::proofs::Conditions::laws))]
+fn predicate<'a>(
+    alloc: Global,
+    sym: u32,
+    args: &'a [Expr],
+    known: &[Known<'a>],
+    levels: &Levels<'_, 'a>,
+) -> Result<RCond, ScopeFault>
+    ensures fine { IfOk result (λ v. values_fault (relations_of known.now) (levels_of levels.now) args.now ≡ None) }
+    ensures value { IfOk result (λ v. v ≡ condition.Pred sym (values_listed (relations_of known.now) (levels_of levels.now) args.now)) }
+    ensures err { IfErr result (λ f. IsCause f (values_fault (relations_of known.now) (levels_of levels.now) args.now)) }
+{
+    Ok(RCond::Pred {
+        sym,
+        args: resolve_values(alloc, args, known, levels)?,
+    })
+}
+
+/// An EXISTS at this place.
+#[cycle(resolve)]
+#[inline(never)]
+#[tactic(auto, using(crate::proofs::Conditions::laws))]
+fn resolve_exists<'a>(
+    alloc: Global,
+    query: &'a Boxed<Query>,
+    at: u32,
+    known: &[Known<'a>],
+    levels: &Levels<'_, 'a>,
+) -> Result<RCond, ScopeFault>
+    ensures fine { IfOk result (λ v. truth_fault (relations_of known.now) (levels_of levels.now) (expr.Exists query.now at) ≡ None) }
+    ensures value { IfOk result (λ v. v ≡ condition.Exists (resolved query.now (relations_of known.now) (levels_of levels.now))) }
+    ensures err { IfErr result (λ f. IsCause f (truth_fault (relations_of known.now) (levels_of levels.now) (expr.Exists query.now at))) }
+{
+    check_subquery(at, levels)?;
+    let query = resolve_boxed_query(alloc, query, known, levels)?;
+    Ok(RCond::Exists { query })
+}
+
+#[cycle(resolve)]
+#[inline(never)]
+#[tactic(auto, using(crate::proofs::Conditions::laws))]
+fn resolve_and<'a>(
+    alloc: Global,
+    parts: &'a [Expr],
+    known: &[Known<'a>],
+    levels: &Levels<'_, 'a>,
+) -> Result<RCond, ScopeFault>
+    ensures fine { IfOk result (λ v. truths_fault (relations_of known.now) (levels_of levels.now) parts.now ≡ None) }
+    ensures value { IfOk result (λ v. v ≡ conjunction (conjuncts_listed (relations_of known.now) (levels_of levels.now) parts.now)) }
+    ensures err { IfErr result (λ f. IsCause f (truths_fault (relations_of known.now) (levels_of levels.now) parts.now)) }
+{
+    let mut conditions = Vec::new(alloc);
+    add_conjuncts_of_each(&mut conditions, alloc, parts, known, levels)?;
+    Ok(conjunction(conditions))
+}
+
+#[cycle(resolve)]
+#[inline(never)]
+#[tactic(auto, using(crate::proofs::Conditions::laws))]
+fn resolve_part<'a>(
+    alloc: Global,
+    part: &'a Boxed<Expr>,
+    known: &[Known<'a>],
+    levels: &Levels<'_, 'a>,
+) -> Result<Boxed<RCond>, ScopeFault>
+    ensures fine { IfOk result (λ v. truth_fault (relations_of known.now) (levels_of levels.now) part.now ≡ None) }
+    ensures value { IfOk result (λ v. v ≡ conjunction (conjuncts part.now (relations_of known.now) (levels_of levels.now))) }
+    ensures err { IfErr result (λ f. IsCause f (truth_fault (relations_of known.now) (levels_of levels.now) part.now)) }
+{
+    let part = resolve_condition(alloc, part.get(), known, levels)?;
+    Ok(Boxed::new(alloc, part)?)
+}
+
+#[cycle(resolve)]
+#[tactic(auto, using(crate::proofs::Conditions::laws))]
+fn resolve_conditions<'a>(
+    alloc: Global,
+    parts: &'a [Expr],
+    known: &[Known<'a>],
+    levels: &Levels<'_, 'a>,
+) -> Result<List<RCond>, ScopeFault>
+    ensures fine { IfOk result (λ v. truths_fault (relations_of known.now) (levels_of levels.now) parts.now ≡ None) }
+    ensures value { IfOk result (λ v. v ≡ conditions_listed (relations_of known.now) (levels_of levels.now) parts.now) }
+    ensures err { IfErr result (λ f. IsCause f (truths_fault (relations_of known.now) (levels_of levels.now) parts.now)) }
+{
+    let mut conditions = Vec::with_capacity(alloc, parts.len())?;
+    for part in parts {
+        let condition = resolve_condition(alloc, part, known, levels)?;
+        conditions.push(condition)?;
+    }
+    Ok(List::from_vec(conditions))
+}
+
+/// Appends the conjuncts of a condition: those of an AND's parts, and else the condition itself.
+#[cycle(resolve)]
+#[tactic(auto, using(crate::proofs::Conditions::laws))]
+fn add_conjuncts<'a>(
+    conditions: &mut Vec<RCond>,
+    alloc: Global,
+    expr: &'a Expr,
+    known: &[Known<'a>],
+    levels: &Levels<'_, 'a>,
+) -> Result<(), ScopeFault>
+    ensures fine { OnOk result (truth_fault (relations_of known.now) (levels_of levels.now) expr.now ≡ None) }
+    ensures value { OnOk result (conditions.new.items ≡ conditions.old.items ++ conjuncts expr.now (relations_of known.now) (levels_of levels.now)) }
+    ensures err { IfErr result (λ f. IsCause f (truth_fault (relations_of known.now) (levels_of levels.now) expr.now)) }
+{
+    match conjuncts_of(expr) {
+        Some(parts) => add_conjuncts_of_each(conditions, alloc, parts, known, levels),
+        None => {
+            let condition = resolve_condition(alloc, expr, known, levels)?;
+            conditions.push(condition)?;
+            Ok(())
+        }
+    }
+}
+
+#[cycle(resolve)]
+#[tactic(auto, using(crate::proofs::Conditions::laws))]
+fn add_conjuncts_of_each<'a>(
+    conditions: &mut Vec<RCond>,
+    alloc: Global,
+    parts: &'a [Expr],
+    known: &[Known<'a>],
+    levels: &Levels<'_, 'a>,
+) -> Result<(), ScopeFault>
+    ensures fine { OnOk result (truths_fault (relations_of known.now) (levels_of levels.now) parts.now ≡ None) }
+    ensures value { OnOk result (conditions.new.items ≡ conditions.old.items ++ conjuncts_listed (relations_of known.now) (levels_of levels.now) parts.now) }
+    ensures err { IfErr result (λ f. IsCause f (truths_fault (relations_of known.now) (levels_of levels.now) parts.now)) }
+{
+    for part in parts {
+        add_conjuncts(conditions, alloc, part, known, levels)?;
+    }
+    Ok(())
+}
+
+/// That a subquery may stand here. `at` is its place.
+fn check_subquery(at: u32, levels: &Levels) -> Result<(), ScopeFault>
+    ensures fine { OnOk result (is_in_group (sight_here (levels_of levels.now)) ≡ false) }
+    ensures grouped { OnErr result (is_in_group (sight_here (levels_of levels.now)) ≡ true) }
+    ensures err { IfErr result (λ f. f ≡ fault.Refused code.SubqueryInGroup at 0 0) }
+{
+    if levels.is_in_group() {
+        return Err(refused(ScopeCode::SubqueryInGroup, at));
+    }
+    Ok(())
+}
+
+#[cycle(resolve)]
+#[inline(never)]
+#[tactic(auto, using(crate::proofs::Queries::laws))]
+fn resolve_boxed_query<'a>(
+    alloc: Global,
+    query: &'a Boxed<Query>,
+    known: &[Known<'a>],
+    levels: &Levels<'_, 'a>,
+) -> Result<Boxed<RQuery>, ScopeFault>
+    ensures fine { IfOk result (λ v. fault_within (relations_of known.now) (levels_of levels.now) query.now ≡ None) }
+    ensures value { IfOk result (λ v. v ≡ resolved query.now (relations_of known.now) (levels_of levels.now)) }
+    ensures err { IfErr result (λ f. IsCause f (fault_within (relations_of known.now) (levels_of levels.now) query.now)) }
+{
+    let query = resolve_query(alloc, query.get(), known, levels)?;
+    Ok(Boxed::new(alloc, query)?)
+}
+
+/// A query within the blocks around it.
+#[cycle(resolve)]
+#[tactic(auto, using(crate::proofs::Queries::laws))]
+pub fn resolve_query<'a>(
+    alloc: Global,
+    query: &'a Query,
+    known: &[Known<'a>],
+    levels: &Levels<'_, 'a>,
+) -> Result<RQuery, ScopeFault>
+    ensures fine { IfOk result (λ v. fault_within (relations_of known.now) (levels_of levels.now) query.now ≡ None) }
+    ensures value { IfOk result (λ v. v ≡ resolved query.now (relations_of known.now) (levels_of levels.now)) }
+    ensures err { IfErr result (λ f. IsCause f (fault_within (relations_of known.now) (levels_of levels.now) query.now)) }
+{
+    match query {
+        Query::Block { block } => Ok(RQuery::Block {
+            block: resolve_boxed_block(alloc, block, known, levels)?,
+        }),
+        Query::Set {
+            op,
+            left,
+            right,
+            at,
+        } => {
+            let resolved_left = resolve_boxed_query(alloc, left, known, levels)?;
+            let resolved_right = resolve_boxed_query(alloc, right, known, levels)?;
+            check_operands(alloc, left, right, *at, known)?;
+            Ok(RQuery::Set {
+                op: *op,
+                left: resolved_left,
+                right: resolved_right,
+            })
+        }
+    }
+}
+
+/// That the operands of a set operator have one width.
+#[inline(never)]
+#[tactic(auto, using(crate::proofs::Columns::causes))]
+fn check_operands<'a>(
+    alloc: Global,
+    left: &'a Boxed<Query>,
+    right: &'a Boxed<Query>,
+    at: u32,
+    known: &[Known<'a>],
+) -> Result<(), ScopeFault>
+    ensures fine { OnOk result (fault_at (TwoWidths (length (output_columns left.now (headings_of known.now))) (length (output_columns right.now (headings_of known.now))) at) ≡ None) }
+    ensures err { IfErr result (λ f. IsCause f (fault_at (TwoWidths (length (output_columns left.now (headings_of known.now))) (length (output_columns right.now (headings_of known.now))) at))) }
+{
+    let left_columns = output_columns(alloc, left.get(), known)?;
+    let right_columns = output_columns(alloc, right.get(), known)?;
+    check_widths(left_columns.len(), right_columns.len(), at)
+}
+
+/// That the query of an IN has one column.
+#[inline(never)]
+#[tactic(auto, using(crate::proofs::Columns::causes))]
+fn check_one_column<'a>(
+    alloc: Global,
+    query: &'a Boxed<Query>,
+    at: u32,
+    known: &[Known<'a>],
+) -> Result<(), ScopeFault>
+    ensures fine { OnOk result (fault_at (TwoWidths 1 (length (output_columns query.now (headings_of known.now))) at) ≡ None) }
+    ensures err { IfErr result (λ f. IsCause f (fault_at (TwoWidths 1 (length (output_columns query.now (headings_of known.now))) at))) }
+{
+    let columns = output_columns(alloc, query.get(), known)?;
+    check_widths(1, columns.len(), at)
+}
+
+/// A block: its entries, then what stands in ON and WHERE, GROUP BY, the items and HAVING.
+#[cycle(resolve)]
+#[inline(never)]
+#[tactic(auto, using(crate::proofs::Blocks::laws, crate::proofs::Blocks::tree))]
+fn resolve_block<'a>(
+    alloc: Global,
+    block: &'a Block,
+    known: &[Known<'a>],
+    levels: &Levels<'_, 'a>,
+) -> Result<RBlock, ScopeFault>
+    ensures fine { IfOk result (λ v. block_fault (relations_of known.now) (levels_of levels.now) block.now ≡ None) }
+    ensures value { IfOk result (λ v. v ≡ resolved_block block.now (relations_of known.now) (levels_of levels.now)) }
+    ensures err { IfErr result (λ f. IsCause f (block_fault (relations_of known.now) (levels_of levels.now) block.now)) }
+{
+    let entries = block.entries.as_slice();
+    let from = resolve_entries(alloc, entries, &*known, &*levels)?;
+    let headings = from.headings.as_slice();
+    let mut conds = Vec::new(alloc);
+    add_on_conditions(&mut conds, alloc, entries, headings, &*known, &*levels)?;
+    let rows = Levels::Block {
+        first: 0,
+        headings: headings,
+        sight: Sight::Rows,
+        outer: &*levels,
+    };
+    add_written(&mut conds, alloc, &block.cond, &*known, &rows)?;
+    let one_group = is_one_group(block.items.as_slice(), &block.having);
+    let grouping = resolve_grouping(alloc, &block.groups, one_group, headings, &*levels)?;
+    let output = Levels::Block {
+        first: 0,
+        headings: headings,
+        sight: sight_by(&grouping),
+        outer: &*levels,
+    };
+    let items = resolve_items(alloc, block.items.as_slice(), &*known, &output)?;
+    let having = resolve_having(alloc, &block.having, &*known, &output)?;
+    Ok(RBlock {
+        distinct: block.distinct,
+        entries: from.entries,
+        conds: List::from_vec(conds),
+        grouping,
+        having,
+        items,
+    })
+}
+
+/// The entries of FROM, and what stands behind their names.
+#[derive(Drop)]
+struct FromClause<'a> {
+    entries: List<REntry>,
+    headings: Vec<Heading<'a>>,
+}
+
+#[cycle(resolve)]
+#[inline(never)]
+#[tactic(auto, using(crate::proofs::Queries::laws))]
+fn resolve_entries<'a>(
+    alloc: Global,
+    entries: &'a [Entry],
+    known: &[Known<'a>],
+    levels: &Levels<'_, 'a>,
+) -> Result<FromClause<'a>, ScopeFault>
+    ensures fine { IfOk result (λ v. entries_fault (relations_of known.now) (levels_of levels.now) [] entries.now ≡ None) }
+    ensures value { IfOk result (λ v. v.entries ≡ entries_listed (relations_of known.now) (levels_of levels.now) entries.now) }
+    ensures headings { IfOk result (λ v. v.headings.items ≡ entries_headings entries.now (headings_of known.now)) }
+    ensures err { IfErr result (λ f. IsCause f (entries_fault (relations_of known.now) (levels_of levels.now) [] entries.now)) }
+{
+    let mut resolved = Vec::with_capacity(alloc, entries.len())?;
+    let mut headings = Vec::with_capacity(alloc, entries.len())?;
+    for entry in entries {
+        let source = resolve_source(alloc, &entry.source, known, levels)?;
+        check_alias(&entry.alias, entry.at, headings.as_slice())?;
+        let columns = source_columns(alloc, &entry.source, known)?;
+        let width = number(columns.len())?;
+        resolved.push(REntry { source, width })?;
+        headings.push(Heading::new(&entry.alias, columns))?;
+    }
+    Ok(FromClause {
+        entries: List::from_vec(resolved),
+        headings,
+    })
+}
+
+#[cycle(resolve)]
+#[inline(never)]
+#[tactic(auto, using(crate::proofs::Queries::laws))]
+fn resolve_source<'a>(
+    alloc: Global,
+    source: &'a Source,
+    known: &[Known<'a>],
+    levels: &Levels<'_, 'a>,
+) -> Result<RSource, ScopeFault>
+    ensures fine { IfOk result (λ v. source_fault (relations_of known.now) (levels_of levels.now) source.now ≡ None) }
+    ensures value { IfOk result (λ v. v ≡ resolved_source source.now (relations_of known.now) (levels_of levels.now)) }
+    ensures err { IfErr result (λ f. IsCause f (source_fault (relations_of known.now) (levels_of levels.now) source.now)) }
+{
+    match source {
+        Source::Named { name, at } => resolve_name(name, *at, known),
+        Source::Query { query } => Ok(RSource::Query {
+            query: resolve_boxed_query(alloc, query, known, levels)?,
+        }),
+    }
+}
+
+/// Appends the conjuncts of the ON conditions. After a comma an ON sees its own entry alone, after a JOIN those before it too.
+#[cycle(resolve)]
+#[inline(never)]
+#[tactic(auto, using(crate::proofs::Queries::laws))]
+fn add_on_conditions<'s, 'a>(
+    conditions: &mut Vec<RCond>,
+    alloc: Global,
+    entries: &'a [Entry],
+    headings: &'s [Heading<'a>],
+    known: &[Known<'a>],
+    levels: &'s Levels<'s, 'a>,
+) -> Result<(), ScopeFault>
+    requires { headings.now ≡ entries_headings entries.now (headings_of known.now) }
+    ensures fine { OnOk result (on_fault (relations_of known.now) (levels_of levels.now) 0 no_entry entries.now ≡ None) }
+    ensures value { OnOk result (conditions.new.items ≡ conditions.old.items ++ on_listed (relations_of known.now) (levels_of levels.now) 0 no_entry entries.now) }
+    ensures err { IfErr result (λ f. IsCause f (on_fault (relations_of known.now) (levels_of levels.now) 0 no_entry entries.now)) }
+{
+    let mut first = 0;
+    for (index, entry) in entries.iter().enumerate() {
+        if !entry.joined {
+            first = index;
+        }
+        let seen = Levels::Block {
+            first: number(first)?,
+            headings: &headings[first..=index],
+            sight: Sight::Rows,
+            outer: levels,
+        };
+        add_written(conditions, alloc, &entry.on, known, &seen)?;
+    }
+    Ok(())
+}
+
+/// Appends the conjuncts of a condition, if one is written.
+#[cycle(resolve)]
+#[inline(never)]
+#[tactic(auto, using(crate::proofs::Conditions::laws))]
+fn add_written<'a>(
+    conditions: &mut Vec<RCond>,
+    alloc: Global,
+    condition: &'a Option<Expr>,
+    known: &[Known<'a>],
+    levels: &Levels<'_, 'a>,
+) -> Result<(), ScopeFault>
+    ensures fine { OnOk result (written_fault (relations_of known.now) (levels_of levels.now) condition.now ≡ None) }
+    ensures value { OnOk result (conditions.new.items ≡ conditions.old.items ++ written_listed (relations_of known.now) (levels_of levels.now) condition.now) }
+    ensures err { IfErr result (λ f. IsCause f (written_fault (relations_of known.now) (levels_of levels.now) condition.now)) }
+{
+    match condition {
+        Some(expr) => add_conjuncts(conditions, alloc, expr, known, levels),
+        None => Ok(()),
+    }
+}
+
+#[cycle(resolve)]
+#[inline(never)]
+#[tactic(auto, using(crate::proofs::Conditions::laws))]
+fn resolve_having<'a>(
+    alloc: Global,
+    condition: &'a Option<Expr>,
+    known: &[Known<'a>],
+    levels: &Levels<'_, 'a>,
+) -> Result<Option<RCond>, ScopeFault>
+    ensures fine { IfOk result (λ v. written_fault (relations_of known.now) (levels_of levels.now) condition.now ≡ None) }
+    ensures value { IfOk result (λ v. v ≡ having_listed (relations_of known.now) (levels_of levels.now) condition.now) }
+    ensures err { IfErr result (λ f. IsCause f (written_fault (relations_of known.now) (levels_of levels.now) condition.now)) }
+{
+    match condition {
+        Some(expr) => Ok(Some(resolve_condition(alloc, expr, known, levels)?)),
+        None => Ok(None),
+    }
+}
+
+/// The values of the items, one for each output.
+#[cycle(resolve)]
+#[inline(never)]
+#[tactic(auto, using(crate::proofs::Queries::laws))]
+fn resolve_items<'a>(
+    alloc: Global,
+    items: &'a [Item],
+    known: &[Known<'a>],
+    levels: &Levels<'_, 'a>,
+) -> Result<List<RVal>, ScopeFault>
+    ensures fine { IfOk result (λ v. items_fault (relations_of known.now) (levels_of levels.now) 0 items.now ≡ None) }
+    ensures value { IfOk result (λ v. v ≡ items_listed (relations_of known.now) (levels_of levels.now) items.now) }
+    ensures err { IfErr result (λ f. IsCause f (items_fault (relations_of known.now) (levels_of levels.now) 0 items.now)) }
+{
+    let mut values = Vec::with_capacity(alloc, items.len())?;
+    for item in items {
+        add_item(&mut values, alloc, item, known, levels)?;
+        check_outputs(values.len())?;
+    }
+    Ok(List::from_vec(values))
+}
+
+/// Appends the values of an item.
+#[cycle(resolve)]
+#[inline(never)]
+#[tactic(auto, using(crate::proofs::Queries::laws))]
+fn add_item<'a>(
+    values: &mut Vec<RVal>,
+    alloc: Global,
+    item: &'a Item,
+    known: &[Known<'a>],
+    levels: &Levels<'_, 'a>,
+) -> Result<(), ScopeFault>
+    ensures fine { OnOk result (item_fault (relations_of known.now) (levels_of levels.now) item.now ≡ None) }
+    ensures value { OnOk result (values.new.items ≡ values.old.items ++ resolved_item item.now (relations_of known.now) (levels_of levels.now)) }
+    ensures err { IfErr result (λ f. IsCause f (item_fault (relations_of known.now) (levels_of levels.now) item.now)) }
+{
+    match item {
+        Item::Star { at } => add_star(values, *at, levels),
+        Item::AliasStar { alias, at } => add_alias_star(values, alias, *at, levels),
+        Item::Value { expr, .. } => {
+            let value = resolve_value(alloc, expr, known, levels)?;
+            values.push(value)?;
+            Ok(())
+        }
+    }
+}
