@@ -183,11 +183,15 @@ module _ {T K N : Type 0} {V : N → Type 0} (kind : T → K) (rules : Rules T K
       let p = spelled_at room n x v s in let q = front_at room n y f in let a = above p.0 q.0 in
       record { height = a.top; left = (higher a.left room room (same_room room) n).spells x v p.1; right = (higher a.right room room (same_room room) n).front y q.1 }
 
+  pub spelled_both : (room : Room) (n : N) (x y : List T) (v w : V n) → (All room n).spells x v → (All room n).spells y w
+      → Together room n (λ L. L.spells x v) (λ L. L.spells y w)
+  spelled_both room n x y v w s r =
+      let p = spelled_at room n x v s in let q = spelled_at room n y w r in let a = above p.0 q.0 in
+      record { height = a.top; left = (higher a.left room room (same_room room) n).spells x v p.1; right = (higher a.right room room (same_room room) n).spells y w q.1 }
+
   pub spelled_twice : (room : Room) (n : N) (x : List T) (v w : V n) → (All room n).spells x v → (All room n).spells x w
       → Together room n (λ L. L.spells x v) (λ L. L.spells x w)
-  spelled_twice room n x v w s r =
-      let p = spelled_at room n x v s in let q = spelled_at room n x w r in let a = above p.0 q.0 in
-      record { height = a.top; left = (higher a.left room room (same_room room) n).spells x v p.1; right = (higher a.right room room (same_room room) n).spells x w q.1 }
+  spelled_twice room n x v w s r = spelled_both room n x x v w s r
 
   -- ---- a name's language and its production's
 

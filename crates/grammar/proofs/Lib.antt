@@ -10,11 +10,16 @@ pub mod Choices
 pub mod Repetitions
 pub mod Predictions
 pub mod Remaining
+pub mod Completing
+pub mod Fillings
 pub mod Longest
 pub mod Outcomes
 pub mod Costs
-pub mod CostEnds
+pub mod CostCuts
+pub mod CostCompletions
+pub mod SameFronts
 pub mod Prices
+pub mod SamePrices
 pub mod Short
 pub mod ParsesSound
 pub mod Plans

@@ -1,14 +1,17 @@
 -- What is still to come, as the cursor keeps it.
-use Rattle.std.proofs.Common.{◌≡◌, ◌≢◌, ℕ, suc, ◌+◌, ◌<◌, true, List, [], ◌∷◌, ◌++◌, length, drop, map, Option, Some, None, Result, Ok, Err, IfSome, IfOk, IfErr, IsNone, ◌↔◌, refl, sym, ap, ◌∙◌, subst, arith}
-use Rattle.std.specs.List.{All, slice_index_or}
+use Rattle.std.proofs.Common.{◌≡◌, ◌≢◌, ℕ, suc, ◌+◌, ◌≤◌, ◌<◌, true, List, [], ◌∷◌, ◌++◌, length, drop, map, Option, Some, None, Result, Ok, Err, IfSome, IfOk, IfErr, IsNone, ◌↔◌, ◌^◌, refl, sym, ap, ◌∙◌, subst, arith, inl, inr}
+use Rattle.std.specs.List.{All, concat, slice_index_or}
 use Rattle.std.proofs.lemmas.List.{length-append}
 use Rattle.sql_lex.specs.declared.token.Token.{Token}
 use Rattle.sql_lex.specs.declared.token.LexFault.{LexFault}
 use Rattle.sql_lex.specs.Lexemes.{Lexeme, Lexed, lexeme_of, nothing, with_first, fault_alone}
+use Rattle.sql_lex.specs.declared.token.TokenKind.{TokenKind}
+use Rattle.sql_lex.specs.declared.token.TokenKind.TheVariants.{Word, Quoted, Number, Text, Symbol}
+use Rattle.sql_lex.specs.Classes.{IsToken}
 use Rattle.sql_lex.specs.Tokens.{Lexes}
 use Rattle.sql_lex.proofs.WholeTexts.{slices}
-use Rattle.sql_lex.specs.Bytes.{folded_byte}
-use Rattle.sql_read.specs.Cursor.{to_come}
+use Rattle.sql_lex.specs.Bytes.{folded_byte, point}
+use Rattle.sql_read.specs.Cursor.{IsSound, most_copies, most_tokens, to_come}
 use Rattle.sql_read.specs.Refusals.{IsLeftOut, is_left_out_word, refusal_at}
 
 -- what the lexer gave and what it still holds is what it held
@@ -37,6 +40,27 @@ below_next bound token tokens below k d h = below (suc k) d (omega arith)
 pub below_first : (bound : ℕ) (token : Lexeme) (tokens : List Lexeme) → Below bound (token ∷ tokens) → token.start < bound
 below_first bound token tokens below = below 0 token (omega arith)
 
+-- a text has no more tokens than bytes
+token_has_byte : (kind : TokenKind) (bytes : List ℕ) → IsToken kind bytes → 1 ≤ length bytes
+token_has_byte kind [] t = absurd (none kind t)
+  where
+    none : (kind : TokenKind) → IsToken kind [] → ⊥
+    none Word t = t
+    none Quoted t = let e = t.2 in cc
+    none Number (inl t) = t
+    none Number (inr (inl t)) = absurd (omega (arith, ap length t.2, length-append t.0 (point ∷ t.1)))
+    none Number (inr (inr t)) = let e = t.1 in cc
+    none Text t = let e = t.1 in cc
+    none Symbol t = t
+token_has_byte kind (byte ∷ bytes) t = omega arith
+
+pub no_more_tokens : (at : ℕ) (text : List ℕ) (tokens : List Lexeme) (fault : Option LexFault) → Lexes at text tokens fault → length tokens ≤ length text
+no_more_tokens at text [] fault lexes = omega arith
+no_more_tokens at text (token ∷ tokens) fault (rest, gap, before, more) =
+    let some = token_has_byte token.kind token.text before.is_token in
+    let fewer = no_more_tokens (token.start + length token.text) rest tokens fault more in
+    omega (arith, ap length gap.parts, length-append (concat gap.pieces) (token.text ++ rest), length-append token.text rest)
+
 -- the tokens that the lexer holds are to come, behind the one that it gave
 pub below_held : (bound : ℕ) (next : Option (Result Token LexFault)) (lexer : Lexed) → (to_come next lexer).tokens ≢ [] → Below bound (to_come next lexer).tokens → Below bound lexer.tokens
 below_held bound None lexer some below = absurd (some refl)
@@ -46,11 +70,12 @@ below_held bound (Some (Err fault)) lexer some below = absurd (some refl)
 -- ---- passing
 pub record Passed (next : Option (Result Token LexFault)) (lexer : Lexed) : Type 0 where
   pub tokens : lexer.tokens ≡ drop 1 (to_come next lexer).tokens
+  pub fewer : length lexer.tokens + 1 ≡ length (to_come next lexer).tokens
   pub fault : lexer.fault ≡ (to_come next lexer).fault
 
 pub passed : (next : Option (Result Token LexFault)) (lexer : Lexed) → (to_come next lexer).tokens ≢ [] → Passed next lexer
 passed None lexer some = absurd (some refl)
-passed (Some (Ok token)) lexer some = record { tokens = refl; fault = refl }
+passed (Some (Ok token)) lexer some = record { tokens = refl; fewer = omega arith; fault = refl }
 passed (Some (Err fault)) lexer some = absurd (some refl)
 
 -- ---- the token that stands next
@@ -62,3 +87,12 @@ below_given bound next lexer given token e f below =
 -- ---- refusals
 pub left_out_there : (token : Lexeme) → is_left_out_word token.kind token.text ≡ true → IsLeftOut (refusal_at token)
 left_out_there token out = (map folded_byte token.text, token.start, rw out refl)
+
+-- ---- what is true of the fields
+pub sound_of : {next : Option (Result Token LexFault)} {lexer held : Lexed} {copies count : ℕ} → to_come next lexer ≡ held → Below (2 ^ 32) held.tokens
+    → count + length held.tokens ≤ most_tokens → copies ≤ most_copies → IsSound next lexer copies count
+sound_of e places counted copied = record {
+  places = subst (λ lexed. Below (2 ^ 32) lexed.tokens) (sym e) places;
+  counted = omega (arith, ap (λ lexed. length lexed.tokens) e);
+  copied = copied;
+}

@@ -10,9 +10,9 @@ use Rattle.sql_read.specs.QueryEntries.{IsEntryTooMany, few_rules, most_further}
 use Rattle.sql_read.specs.QueryGrammar.{query, rules}
 
 -- a front within, and the token that is not
-record Beyond {T A : Type 0} (B : Language T A) (x : List T) (t : T) : Type 0 where
-  within : B.front x
-  beyond : B.front (x ++ t ∷ []) → ⊥
+pub record Beyond {T A : Type 0} (B : Language T A) (x : List T) (t : T) : Type 0 where
+  pub within : B.front x
+  pub beyond : B.front (x ++ t ∷ []) → ⊥
 
 module _ {T A : Type 0} (B : Language T A) (b : HasFronts B) where
   -- what goes on within the limits is no longer than what passed them
@@ -21,7 +21,7 @@ module _ {T A : Type 0} (B : Language T A) (b : HasFronts B) where
       let j : c ≡ t = cc in
       d.beyond (b.shorter (x ++ t ∷ []) k (subst B.front (e ∙ (ap (λ z. x ++ z ∷ k) j ∙ sym (append_assoc x (t ∷ []) k))) f))
 
-  beyond_once : (x more y others : List T) (t u : T) → Beyond B x t → Beyond B y u → x ++ t ∷ more ≡ y ++ u ∷ others → (x ≡ y) × (t ≡ u)
+  pub beyond_once : (x more y others : List T) (t u : T) → Beyond B x t → Beyond B y u → x ++ t ∷ more ≡ y ++ u ∷ others → (x ≡ y) × (t ≡ u)
   beyond_once x more y others t u d e i = go (cut x (t ∷ more) y (u ∷ others) i)
     where
       go : Cut x (t ∷ more) y (u ∷ others) → (x ≡ y) × (t ≡ u)

@@ -1,24 +1,13 @@
 -- What contracts see of `Tokens`.
-use Rattle.std.specs.Prelude.{ℕ, List, [], ◌∷◌, Option, Some, None, Result, Ok, Err}
-use Rattle.sql_model.specs.declared.symbols.Lit.{Lit}
+use Rattle.std.specs.Prelude.{ℕ, ◌+◌, ◌≤◌, ◌<◌, ◌^◌, All, List, [], ◌∷◌, length, drop, Option, Some, None, Result, Ok, Err}
 use Rattle.sql_model.specs.declared.symbols.Symbols.{Symbols}
-use Rattle.sql_model.specs.FixedSymbols.{fixed_literals, fixed_symbols}
-use Rattle.sql_model.specs.Syntax.{Name}
 use Rattle.sql_lex.specs.declared.token.Token.{Token}
 use Rattle.sql_lex.specs.declared.token.LexFault.{LexFault}
 use Rattle.sql_lex.specs.Lexemes.{Lexeme, Lexed, lexeme_of, nothing, with_first, fault_alone}
+use Rattle.sql_read.specs.Numbering.{Numbers}
 
--- the literals and symbols that have numbers; each has its place here as its number
-pub record Numbered : Type 0 where
-  pub literals : List Lit
-  pub symbols : List Name
-
-abbrev pub numbered : Symbols → Numbered
-numbered symbols = record { literals = symbols.lits.keys; symbols = symbols.syms.keys }
-
--- before the first token of a text
-abbrev pub fixed_numbered : Numbered
-fixed_numbered = record { literals = fixed_literals; symbols = fixed_symbols }
+abbrev pub numbers_of : Symbols → Numbers
+numbers_of symbols = record { literals = symbols.lits.keys; symbols = symbols.syms.keys }
 
 pub record Cursor : Type 0 where
   -- the tokens that are still to come, up to the end of the text or the fault that stands behind them
@@ -26,9 +15,16 @@ pub record Cursor : Type 0 where
   pub fault : Option LexFault
   -- the place of the end of the text
   pub end : ℕ
-  pub numbered : Numbered
+  -- the literals and symbols that have numbers
+  pub numbers : Numbers
   -- the weight of the values copied so far
   pub copies : ℕ
+  -- how many tokens were passed
+  pub passed : ℕ
+
+-- behind the next token
+abbrev pub behind_next : Cursor → Cursor
+behind_next cursor = record cursor { tokens = drop 1 cursor.tokens; passed = cursor.passed + 1 }
 
 -- ---- what stands next
 abbrev pub next : List Lexeme → Option LexFault → Result (Option Lexeme) LexFault
@@ -52,3 +48,17 @@ abbrev pub to_come : Option (Result Token LexFault) → Lexed → Lexed
 to_come None lexer = nothing
 to_come (Some (Ok token)) lexer = with_first (lexeme_of token) lexer
 to_come (Some (Err fault)) lexer = fault_alone fault
+
+-- a text has no more bytes, so no more tokens
+abbrev pub most_tokens : ℕ
+most_tokens = 1048576
+
+-- the weight that a case may copy
+abbrev pub most_copies : ℕ
+most_copies = 1000000
+
+-- what is true of the fields: places fit their type, and so do the counts
+pub record IsSound (next : Option (Result Token LexFault)) (lexer : Lexed) (copies passed : ℕ) : Type 0 where
+  pub places : All (λ token. token.start < 2 ^ 32) (to_come next lexer).tokens
+  pub counted : passed + length (to_come next lexer).tokens ≤ most_tokens
+  pub copied : copies ≤ most_copies

@@ -1,74 +1,14 @@
 -- The kinds of tokens that the grammar tells apart.
-use Rattle.std.specs.Prelude.{ℕ, ◌==◌, Bool, false, ◌||◌, List, [], ◌∷◌, map, codes, if◌then◌else◌}
+use Rattle.std.specs.Prelude.{ℕ, ◌==◌, Bool, List, [], ◌∷◌, map, codes, if◌then◌else◌}
+use Rattle.std.specs.List.{list_any}
 use Rattle.data_model.specs.Rows.{same_row}
 use Rattle.sql_lex.specs.declared.token.TokenKind.{TokenKind}
 use Rattle.sql_lex.specs.declared.token.TokenKind.TheVariants as token
 use Rattle.sql_lex.specs.Bytes.{folded_byte}
 use Rattle.sql_lex.specs.Lexemes.{Lexeme}
 use Rattle.sql_lex.specs.Reserved.{is_reserved}
-
--- A kind for each word that the grammar uses and for each symbol, `<>` and `!=` being one. Words that are never used are LeftOut.
-pub data Kind : Type 0 where
-  All : Kind
-  And : Kind
-  As : Kind
-  Between : Kind
-  By : Kind
-  Constraint : Kind
-  Create : Kind
-  Cross : Kind
-  Distinct : Kind
-  Except : Kind
-  Exists : Kind
-  Foreign : Kind
-  From : Kind
-  Group : Kind
-  Having : Kind
-  In : Kind
-  Inner : Kind
-  Intersect : Kind
-  Join : Kind
-  Like : Kind
-  Not : Kind
-  Null : Kind
-  On : Kind
-  Or : Kind
-  Primary : Kind
-  References : Kind
-  Select : Kind
-  Table : Kind
-  Union : Kind
-  Unique : Kind
-  Where : Kind
-  Count : Kind
-  Sum : Kind
-  Avg : Kind
-  Min : Kind
-  Max : Kind
-  Key : Kind
-  View : Kind
-  Index : Kind
-  Word : Kind
-  Quoted : Kind
-  Number : Kind
-  Text : Kind
-  LeftOut : Kind
-  Open : Kind
-  Close : Kind
-  Comma : Kind
-  Semicolon : Kind
-  Dot : Kind
-  Star : Kind
-  Equals : Kind
-  Differs : Kind
-  Less : Kind
-  AtMost : Kind
-  Greater : Kind
-  AtLeast : Kind
-  Plus : Kind
-  Minus : Kind
-  Slash : Kind
-  Concat : Kind
+pub use Rattle.sql_read.specs.declared.kinds.Kind.{Kind}
+pub use Rattle.sql_read.specs.declared.kinds.Kind.TheVariants.{All, And, As, Between, By, Constraint, Create, Cross, Distinct, Except, Exists, Foreign, From, Group, Having, In, Inner, Intersect, Join, Like, Not, Null, On, Or, Primary, References, Select, Table, Union, Unique, Where, Count, Sum, Avg, Min, Max, Key, View, Index, Word, Quoted, Number, Text, LeftOut, Open, Close, Comma, Semicolon, Dot, Star, Equals, Differs, Less, AtMost, Greater, AtLeast, Plus, Minus, Slash, Concat}
 
 -- ---- the kind of a token
 
@@ -186,8 +126,7 @@ abbrev pub same : Kind → Kind → Bool
 same a b = number a == number b
 
 abbrev pub among : List Kind → Kind → Bool
-among [] k = false
-among (a ∷ others) k = same a k || among others k
+among kinds k = list_any (λ a. same a k) kinds
 
 -- each of them
 abbrev pub every_kind : List Kind
@@ -196,3 +135,7 @@ every_kind = All ∷ And ∷ As ∷ Between ∷ By ∷ Constraint ∷ Create ∷
     Select ∷ Table ∷ Union ∷ Unique ∷ Where ∷ Count ∷ Sum ∷ Avg ∷ Min ∷ Max ∷ Key ∷ View ∷ Index ∷ Word ∷ Quoted ∷
     Number ∷ Text ∷ LeftOut ∷ Open ∷ Close ∷ Comma ∷ Semicolon ∷ Dot ∷ Star ∷ Equals ∷ Differs ∷ Less ∷ AtMost ∷
     Greater ∷ AtLeast ∷ Plus ∷ Minus ∷ Slash ∷ Concat ∷ []
+
+-- unreserved words and quoted names
+abbrev pub name_kinds : List Kind
+name_kinds = Word ∷ Count ∷ Sum ∷ Avg ∷ Min ∷ Max ∷ Key ∷ View ∷ Index ∷ Quoted ∷ []

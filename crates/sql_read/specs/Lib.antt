@@ -2,6 +2,7 @@ pub mod Cursor
 pub mod Refusals
 pub mod Unquoting
 pub mod Kinds
+pub mod Eating
 pub mod TokenValues
 pub mod Numbering
 pub mod QueryTrees
@@ -11,4 +12,5 @@ pub mod QueryEntries
 pub mod QueryCopies
 pub mod QuerySamples
 pub mod QueryPlan
+pub mod PlanCopies
 pub mod QueryLookahead

@@ -7,6 +7,7 @@ use Rattle.sql_lex.specs.Lexemes.{Lexeme}
 use Rattle.sql_model.specs.declared.tree.Expr.{Expr}
 use Rattle.sql_read.specs.Kinds as k
 use Rattle.sql_read.specs.Kinds.{Kind, kind_of}
+use Rattle.sql_read.specs.Cursor.{most_copies}
 use Rattle.sql_read.specs.Numbering.{Built}
 use Rattle.sql_read.specs.QueryTrees as t
 use Rattle.sql_read.specs.QueryTrees.{Left, weight}
@@ -121,9 +122,6 @@ copy_rules = cost_rules rules own
 -- these tokens begin a query, and it has copied so much up to the last of them
 abbrev pub CopiesOf : List Lexeme → ℕ → Type 0
 CopiesOf ts copies = ((ts ≡ []) × (copies ≡ 0)) ⊎ (language kind_of copy_rules None (begun query)).spells ts copies
-
-abbrev pub most_copies : ℕ
-most_copies = 1000000
 
 -- With so much copied before the query, these tokens of it are within the limit, and this one passes it.
 pub record IsCopyTooMany (copied : ℕ) (before : List Lexeme) (token : Lexeme) : Type 0 where

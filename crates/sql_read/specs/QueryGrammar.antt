@@ -13,6 +13,7 @@ use Rattle.sql_model.specs.Syntax.{Except, Intersect}
 use Rattle.sql_lex.specs.Lexemes.{Lexeme}
 use Rattle.sql_read.specs.Kinds as k
 use Rattle.sql_read.specs.Kinds.{Kind, same, among}
+pub use Rattle.sql_read.specs.Kinds.{name_kinds}
 use Rattle.sql_read.specs.Numbering.{Built, plain}
 use Rattle.sql_read.specs.QueryTrees as t
 use Rattle.sql_read.specs.QueryTrees.{Left, Listed, SetWord, Inside, not_sub}
@@ -79,9 +80,6 @@ a kind = token (same kind)
 
 abbrev pub one_of : List Kind → The Lexeme
 one_of kinds = token (among kinds)
-
-abbrev pub name_kinds : List Kind
-name_kinds = k.Word ∷ k.Count ∷ k.Sum ∷ k.Avg ∷ k.Min ∷ k.Max ∷ k.Key ∷ k.View ∷ k.Index ∷ k.Quoted ∷ []
 
 -- a name of something: an unreserved word or a quoted name
 abbrev pub name : The Lexeme

@@ -115,21 +115,37 @@ abbrev pub star_or_left : Starred × ℕ → Lexeme ⊎ Left
 star_or_left (inl qual, count) = inl qual
 star_or_left (inr x, count) = inr (x, count)
 
+-- name . * or the first part of an expression that begins with a name
+abbrev pub starred : The Starred
+starred = words dot_star_or_name star_or_column (λ x. inr x)
+
+abbrev pub named_item : The (Built Item)
+named_item =
+    fork (map star_or_left (counted starred))
+    (map (λ nothing qual. t.alias_star_item qual) empty)
+    (map (λ p left. t.value_item (p.0 left) p.1) (seq (ref expr_tail) (optional alias)))
+
+-- an expression that begins with no name
+abbrev pub item_value : The (Built Expr)
+item_value = alt (going_on (alt minus (alt literal enclosed_first))) going_on_by_and
+
 abbrev pub plan_of_item : The (Built Item)
 plan_of_item =
     alt (map t.star_item (a k.Star))
-    (alt (fork (map star_or_left (counted (words dot_star_or_name star_or_column (λ x. inr x))))
-    (map (λ nothing qual. t.alias_star_item qual) empty)
-    (map (λ p left. t.value_item (p.0 left) p.1) (seq (ref expr_tail) (optional alias))))
-    (map (λ p. t.value_item p.0 p.1) (seq (alt (going_on (alt minus (alt literal enclosed_first))) going_on_by_and) (optional alias))))
+    (alt named_item
+    (map (λ p. t.value_item p.0 p.1) (seq item_value (optional alias))))
 
 -- ---- tests
+
+-- value AND value
+abbrev pub between_values : The (Built Expr × Built Expr)
+between_values = seq (ref value) (skip_then (a k.And) (ref value))
 
 -- IN ( .. ), BETWEEN value AND value and LIKE value, perhaps behind a NOT
 abbrev pub by_word : The (Option Lexeme → Left → Built Expr)
 by_word =
     alt (map (λ p word left. t.in_inside word p.0 p.1 left) (seq (a k.In) (parens (ref in_inner))))
-    (alt (map (λ p word left. t.between word p.0 p.1 left) (skip_then (a k.Between) (seq (ref value) (skip_then (a k.And) (ref value)))))
+    (alt (map (λ p word left. t.between word p.0 p.1 left) (skip_then (a k.Between) between_values))
     (map (λ x word left. t.like word x left) (skip_then (a k.Like) (ref value))))
 
 abbrev pub plan_of_rest : The (Left → Built Expr)

@@ -54,14 +54,20 @@ abbrev pub column : Option Lexeme × Lexeme → Expr
 column (None, name) = expr.Col None 0 (name_of name) name.start
 column (Some qual, name) = expr.Col (Some (name_of qual)) qual.start (name_of name) name.start
 
-abbrev literal_at : ℕ → Lit → Built Expr
+abbrev pub literal_at : ℕ → Lit → Built Expr
 literal_at at l = mapped (λ number. expr.Lit number at) (literal_number l)
 
+abbrev pub number_of : Lexeme → Lit
+number_of t = record { kind = literal.Number; text = normalised t.text }
+
+abbrev pub text_of : Lexeme → Lit
+text_of t = record { kind = literal.Text; text = inside t.text }
+
 abbrev pub number_literal : Lexeme → Built Expr
-number_literal t = literal_at t.start (record { kind = literal.Number; text = normalised t.text })
+number_literal t = literal_at t.start (number_of t)
 
 abbrev pub text_literal : Lexeme → Built Expr
-text_literal t = literal_at t.start (record { kind = literal.Text; text = inside t.text })
+text_literal t = literal_at t.start (text_of t)
 
 -- ---- operators
 
@@ -124,11 +130,11 @@ comparison sign right left = mapped (λ p. compared (kind_of sign) p.0 p.1) (bot
 abbrev pub in_query : Option Lexeme → Lexeme → Built Query → Left → Built Expr
 in_query word in_word q left = mapped (λ p. negated word (expr.In p.0 p.1 (place p.0) in_word.start)) (both left.0 q)
 
-abbrev equals_each : Expr → List Expr → List Expr
+abbrev pub equals_each : Expr → List Expr → List Expr
 equals_each x [] = []
 equals_each x (y ∷ ys) = expr.Eq x y (place x) ∷ equals_each x ys
 
-abbrev member : Expr → Expr → List Expr → Expr
+abbrev pub member : Expr → Expr → List Expr → Expr
 member x y [] = expr.Eq x y (place x)
 member x y (z ∷ zs) = expr.Or (equals_each x (y ∷ z ∷ zs)) (place x)
 
@@ -142,7 +148,7 @@ abbrev pub is_no_query : Built Expr × List (Built Expr) → Bool
 is_no_query (only, []) = not_sub only
 is_no_query (first, next ∷ others) = true
 
-abbrev bounds : Expr → Expr → Expr → Expr
+abbrev pub bounds : Expr → Expr → Expr → Expr
 bounds x low high = expr.And (expr.Pred 1 (low ∷ x ∷ []) (place x) ∷ expr.Pred 1 (x ∷ high ∷ []) (place x) ∷ []) (place x)
 
 -- the left side is copied at BETWEEN
@@ -179,14 +185,14 @@ exists (word, q) = mapped (λ x. expr.Exists x word.start) q
 abbrev pub sub : Lexeme × Built Query → Built Expr
 sub (open_, q) = mapped (λ x. expr.Sub x open_.start) q
 
-abbrev listed_or_none : Option (Built Expr × List (Built Expr)) → List (Built Expr)
+abbrev pub listed_or_none : Option (Built Expr × List (Built Expr)) → List (Built Expr)
 listed_or_none None = []
 listed_or_none (Some p) = p.0 ∷ p.1
 
 abbrev pub call : Lexeme → Option (Built Expr × List (Built Expr)) → Built Expr
 call word args = mapped (λ p. expr.Call p.0 p.1 word.start) (both (symbol_number (name_of word)) (each (listed_or_none args)))
 
-abbrev aggregate : Kind → AggFun
+abbrev pub aggregate : Kind → AggFun
 aggregate k.Count = s.Count
 aggregate k.Sum = s.Sum
 aggregate k.Avg = s.Avg
@@ -205,7 +211,7 @@ aggregated word distinct argument = mapped (λ x. expr.Agg (aggregate (kind_of w
 
 -- ---- items and entries
 
-abbrev name_of_alias : Option Lexeme → Option Name
+abbrev pub name_of_alias : Option Lexeme → Option Name
 name_of_alias None = None
 name_of_alias (Some alias) = Some (name_of alias)
 
@@ -231,8 +237,12 @@ table_entry table (Some alias) = plain (record { source = source.Named (name_of 
 abbrev pub query_entry : Built Query → Lexeme → Built Listed
 query_entry q alias = mapped (λ x. record { source = source.Query x; alias = name_of alias; at = alias.start }) q
 
-abbrev entry_of : Bool → Option Expr → Listed → Entry
+abbrev pub entry_of : Bool → Option Expr → Listed → Entry
 entry_of joined on listed = roll-Entry (record { source = listed.source; alias = listed.alias; at = listed.at; joined = joined; on = on })
+
+-- an entry without a condition
+abbrev pub entry_alone : Bool → Built Listed → Built Entry
+entry_alone joined listed = mapped (entry_of joined None) listed
 
 abbrev pub joined_on : Built Listed → Built Expr → Built Entry
 joined_on listed on = mapped (λ p. entry_of true (Some p.1) p.0) (both listed on)
@@ -245,7 +255,7 @@ entries first joined = mapped (λ p. entry_of false None p.0 ∷ p.1) (both firs
 
 -- ---- queries
 
-abbrev concatenated : {X : Type 0} → List (List X) → List X
+abbrev pub concatenated : {X : Type 0} → List (List X) → List X
 concatenated [] = []
 concatenated (xs ∷ others) = xs ++ concatenated others
 
@@ -259,10 +269,14 @@ block_tree distinct items froms cond groups having = query.Block (roll-Block (re
   having = having;
 }))
 
-abbrev all_of : {X : Type 0} → X × List X → List X
+abbrev pub all_of : {X : Type 0} → X × List X → List X
 all_of p = p.0 ∷ p.1
 
-abbrev columns_of : Option (Expr × List Expr) → Option (List Expr)
+-- the entries of all items of FROM
+abbrev pub all_entries : Built (List Entry) × List (Built (List Entry)) → Built (List Entry)
+all_entries froms = mapped concatenated (each (all_of froms))
+
+abbrev pub columns_of : Option (Expr × List Expr) → Option (List Expr)
 columns_of None = None
 columns_of (Some p) = Some (p.0 ∷ p.1)
 

@@ -51,11 +51,11 @@ abbrev pub without_trailing_zeros : List ℕ → List ℕ
 without_trailing_zeros [] = []
 without_trailing_zeros (byte ∷ bytes) = before_trimmed byte (without_trailing_zeros bytes)
 
-abbrev or_zero : List ℕ → List ℕ
+abbrev pub or_zero : List ℕ → List ℕ
 or_zero [] = zero_digit ∷ []
 or_zero (byte ∷ bytes) = byte ∷ bytes
 
-abbrev with_fraction : List ℕ → List ℕ
+abbrev pub with_fraction : List ℕ → List ℕ
 with_fraction [] = []
 with_fraction (byte ∷ bytes) = point ∷ byte ∷ bytes
 

@@ -1,5 +1,6 @@
 //! Laws of the grammar of queries, each the contract of a function that does nothing.
-ghost use Rattle.std.specs.Prelude.{◌≡◌, ◌++◌, ◌∷◌, ◌≤◌, List, [], length, None, Some, ℕ};
+ghost use Rattle.std.specs.Prelude.{◌≡◌, ◌++◌, ◌+◌, ◌∷◌, ◌≤◌, List, [], length, None, Some, true, ℕ};
+ghost use Rattle.std.specs.List.{list_all};
 ghost use Rattle.grammar.specs.Form.{Room, language};
 ghost use Rattle.grammar.specs.Language.{HasFronts, Includes, IsUnambiguous};
 ghost use Rattle.grammar.specs.Lookahead.{HasLookahead};
@@ -9,9 +10,11 @@ ghost use Rattle.sql_model.specs.declared.tree.Query.{Query};
 ghost use Rattle.sql_read.specs.Kinds.{kind_of};
 ghost use Rattle.sql_read.specs.Numbering.{Built, Numbers};
 ghost use Rattle.sql_read.specs.Queries.{Begins, IsTooDeep, Spells, of_production, queries, shallow_queries};
-ghost use Rattle.sql_read.specs.QueryCopies.{CopiesOf};
+ghost use Rattle.sql_read.specs.Cursor.{most_copies};
+ghost use Rattle.sql_read.specs.QueryCopies.{CopiesOf, IsCopyTooMany};
 ghost use Rattle.sql_read.specs.QueryEntries.{IsEntryTooMany, few_queries, few_rules};
 ghost use Rattle.sql_read.specs.QueryPlan.{of_plan};
+ghost use Rattle.sql_read.specs.PlanCopies.{CopiesTooMuch, HasCopied, copies_nothing};
 ghost use Rattle.sql_read.specs.QueryLookahead.{table};
 ghost use Rattle.sql_read.specs.QueryGrammar.{Production, Read, query, rules};
 
@@ -45,11 +48,35 @@ pub fn too_many_once()
     ensures { (x more y others : List Lexeme) (t u : Lexeme) → IsEntryTooMany x t → IsEntryTooMany y u → x ++ t ∷ more ≡ y ++ u ∷ others → (x ≡ y) × (t ≡ u) }
 {}
 
-/// What has copied something begins a query, what begins a query has copied something, or nothing, and a query has copied what it holds.
+/// What has copied something begins a query, what begins a query has copied something, or nothing, and a query has copied what it holds. Where
+/// a front goes on to a query with tokens that copy nothing, it has copied what that query holds; each front that has copied something does.
+/// It has copied one number, and a longer front no less.
 pub fn copies()
     ensures begins { (ts : List Lexeme) (copies : ℕ) → CopiesOf ts copies → Begins ts }
     ensures counted { (ts : List Lexeme) → Begins ts → (copies : ℕ) × CopiesOf ts copies }
     ensures whole { (ts : List Lexeme) (read : Built Query) → queries.spells ts read → CopiesOf ts read.copies }
+    ensures completed { (ts more : List Lexeme) (read : Built Query) → queries.spells (ts ++ more) read → list_all copies_nothing more ≡ true → CopiesOf ts read.copies }
+    ensures completes { (ts : List Lexeme) (copies : ℕ) → CopiesOf ts copies →
+        (more : List Lexeme) × (read : Built Query) × (list_all copies_nothing more ≡ true) × queries.spells (ts ++ more) read × (read.copies ≡ copies) }
+    ensures one { (ts : List Lexeme) (c d : ℕ) → CopiesOf ts c → CopiesOf ts d → c ≡ d }
+    ensures grows { (x y : List Lexeme) (c d : ℕ) → CopiesOf (x ++ y) c → CopiesOf x d → d ≤ c }
+{}
+
+/// What the plan has copied at a front of a query, the front has copied, and the other way round. Where a front of the plan is within the limit
+/// on copies, and with the next token is not, that token of the query is the one that passes it.
+pub fn plan_copies()
+    ensures there { (ts : List Lexeme) (read : Built Query) → HasCopied query ts read → CopiesOf ts read.copies }
+    ensures back { (ts : List Lexeme) (copies : ℕ) → CopiesOf ts copies → (read : Built Query) × HasCopied query ts read × (read.copies ≡ copies) }
+    ensures too_much { (copied : ℕ) (start before more : List Lexeme) (token : Lexeme) → start ≡ before ++ token ∷ more →
+        CopiesTooMuch query (λ read. read.copies) copied start (token ∷ more) → IsCopyTooMany copied before token }
+{}
+
+/// The limit on copies is passed at no more than one token of a text, and at none of one that is within it.
+pub fn copied_too_much_once()
+    ensures once { (copied : ℕ) (x more y others : List Lexeme) (t u : Lexeme) → IsCopyTooMany copied x t → IsCopyTooMany copied y u →
+        x ++ t ∷ more ≡ y ++ u ∷ others → (x ≡ y) × (t ≡ u) }
+    ensures never { (copied copies : ℕ) (x more : List Lexeme) (t : Lexeme) → CopiesOf (x ++ t ∷ more) copies → copied + copies ≤ most_copies →
+        IsCopyTooMany copied x t → ⊥ }
 {}
 
 /// No list of tokens spells two queries, nor two values of any production.

@@ -10,11 +10,16 @@ use sql_model::{NoMemory, Symbols};
 use std::alloc::Global;
 use std::marker::Model;
 
+mod counting;
+mod eating;
 #[cfg(test)]
 mod tests;
 
-/// The tokens of a text that are still to come, the numbers of its symbols and literals, and the weight of the values that
-/// were copied.
+pub use counting::Mark;
+pub use eating::place;
+
+/// The tokens of a text that are still to come, the numbers of its symbols and literals, the weight of the values that were
+/// copied, and how many tokens were passed.
 #[derive(Drop)]
 pub struct Tokens<'a> {
     lexer: Lexer<'a>,
@@ -23,11 +28,11 @@ pub struct Tokens<'a> {
     end: u32,
     symbols: Symbols,
     copies: u32,
+    passed: u32,
 }
 
 impl<'a> Model for Tokens<'a> {
-    ghost use Rattle.std.specs.Prelude.{All, ◌<◌, ◌^◌};
-    ghost use Rattle.sql_read.specs.Cursor.{Cursor, numbered, to_come};
+    ghost use Rattle.sql_read.specs.Cursor.{Cursor, IsSound, numbers_of, to_come};
 
     ghost Value = { Cursor };
 
@@ -35,16 +40,18 @@ impl<'a> Model for Tokens<'a> {
       tokens = (to_come t.next t.lexer).tokens;
       fault = (to_come t.next t.lexer).fault;
       end = t.end;
-      numbered = numbered t.symbols;
+      numbers = numbers_of t.symbols;
       copies = t.copies;
+      passed = t.passed;
     } };
 
-    ghost invariant = { λ t. All (λ token. token.start < 2 ^ 32) (to_come t.next t.lexer).tokens };
+    ghost invariant = { λ t. IsSound t.next t.lexer t.copies t.passed };
 }
 
 impl<'a> Tokens<'a> {
     ghost use Rattle.sql_lex.specs.Tokens.{Lexes};
-    ghost use Rattle.sql_read.specs.Cursor.{fixed_numbered, lent, next_of, numbered};
+    ghost use Rattle.sql_read.specs.Cursor.{behind_next, lent, next_of, numbers_of};
+    ghost use Rattle.sql_read.specs.Numbering.{first_numbers};
     ghost use Rattle.sql_read.specs.Refusals.{refusal};
 
     /// Before the first token of the text.
@@ -52,8 +59,9 @@ impl<'a> Tokens<'a> {
         requires { length text.now ≤ 1048576 }
         ensures tokens { IfOk result (λ tokens. Lexes 0 text.now tokens.tokens tokens.fault) }
         ensures end { IfOk result (λ tokens. tokens.end ≡ length text.now) }
-        ensures numbered { IfOk result (λ tokens. tokens.numbered ≡ fixed_numbered) }
+        ensures numbers { IfOk result (λ tokens. tokens.numbers ≡ first_numbers) }
         ensures copies { IfOk result (λ tokens. tokens.copies ≡ 0) }
+        ensures passed { IfOk result (λ tokens. tokens.passed ≡ 0) }
     {
         let symbols = Symbols::new(alloc)?;
         let mut lexer = Lexer::new(text);
@@ -64,6 +72,7 @@ impl<'a> Tokens<'a> {
             end: text.len() as u32,
             symbols,
             copies: 0,
+            passed: 0,
         })
     }
 
@@ -82,9 +91,10 @@ impl<'a> Tokens<'a> {
     /// Passes the next token.
     pub fn pass(&mut self)
         requires { self.old.tokens ≢ [] }
-        ensures { self.new ≡ record self.old { tokens = drop 1 self.old.tokens } }
+        ensures { self.new ≡ behind_next self.old }
     {
         self.next = self.lexer.next();
+        self.passed += 1;
     }
 
     /// Passes all that is left, so that nothing stands next.
@@ -96,7 +106,7 @@ impl<'a> Tokens<'a> {
 
     /// Hands on the symbols and literals numbered so far.
     pub fn into_symbols(self) -> Symbols
-        ensures { numbered result ≡ self.entry.numbered }
+        ensures { numbers_of result ≡ self.entry.numbers }
     {
         self.symbols
     }

@@ -1,0 +1,117 @@
+//! Single tokens, taken by their kinds.
+ghost use Rattle.std.specs.Prelude.{◌≡◌, ◌<◌, ◌^◌};
+ghost use Rattle.sql_read.specs.Eating.{Eats, EatsWithin, Expects, ExpectsWithin, is_next};
+ghost use Rattle.sql_read.specs.Kinds.{among, same};
+
+use super::Tokens;
+use crate::fault::ReadFault;
+use crate::kinds::{Kind, is_among, is_same, kind_of};
+use sql_lex::Token;
+use std::alloc::Global;
+
+/// The place of a token.
+pub fn place(token: &Token<'_>) -> u32
+    requires { token.now.start < 2 ^ 32 }
+    ensures { result ≡ token.now.start }
+{
+    token.start as u32
+}
+
+impl<'a> Tokens<'a> {
+    /// Whether a token of this kind stands next.
+    pub fn sees(&self, kind: Kind) -> bool
+        ensures { result ≡ is_next (same kind) self.now.tokens }
+    {
+        match self.peek() {
+            Ok(Some(token)) => is_same(kind, kind_of(&token)),
+            _ => false,
+        }
+    }
+
+    /// Whether a token of one of these kinds stands next.
+    pub fn sees_any(&self, kinds: &[Kind]) -> bool
+        ensures { result ≡ is_next (among kinds.now) self.now.tokens }
+    {
+        match self.peek() {
+            Ok(Some(token)) => is_among(kinds, kind_of(&token)),
+            _ => false,
+        }
+    }
+
+    /// Passes the next token, if it is of this kind.
+    pub fn eat(&mut self, kind: Kind) -> Option<Token<'a>>
+        ensures { Eats (same kind) self.old result self.new }
+    {
+        match self.peek() {
+            Ok(Some(token)) if is_same(kind, kind_of(&token)) => {
+                self.pass();
+                Some(token)
+            }
+            _ => None,
+        }
+    }
+
+    /// Passes the next token, if it is of one of these kinds.
+    pub fn eat_any(&mut self, kinds: &[Kind]) -> Option<Token<'a>>
+        ensures { Eats (among kinds.now) self.old result self.new }
+    {
+        match self.peek() {
+            Ok(Some(token)) if is_among(kinds, kind_of(&token)) => {
+                self.pass();
+                Some(token)
+            }
+            _ => None,
+        }
+    }
+
+    /// Passes the next token, which is to be of this kind.
+    pub fn expect(&mut self, alloc: Global, kind: Kind) -> Result<Token<'a>, ReadFault>
+        ensures { Expects (same kind) self.old result self.new }
+    {
+        match self.eat(kind) {
+            Some(token) => Ok(token),
+            None => Err(self.fault(alloc)),
+        }
+    }
+
+    /// Passes the next token, which is to be of one of these kinds.
+    pub fn expect_any(&mut self, alloc: Global, kinds: &[Kind]) -> Result<Token<'a>, ReadFault>
+        ensures { Expects (among kinds.now) self.old result self.new }
+    {
+        match self.eat_any(kinds) {
+            Some(token) => Ok(token),
+            None => Err(self.fault(alloc)),
+        }
+    }
+
+    /// Passes the next token, if it is of one of these kinds; that is too deep where there is no room.
+    pub fn eat_within(&mut self, kinds: &[Kind], room: u8) -> Result<Option<Token<'a>>, ReadFault>
+        ensures { EatsWithin (among kinds.now) room self.old result self.new }
+    {
+        match self.peek() {
+            Ok(Some(token)) if is_among(kinds, kind_of(&token)) => {
+                if room == 0 {
+                    return Err(ReadFault::TooDeep { at: place(&token) });
+                }
+                self.pass();
+                Ok(Some(token))
+            }
+            _ => Ok(None),
+        }
+    }
+
+    /// Passes the next token, which is to be of one of these kinds; that is too deep where there is no room.
+    pub fn expect_within(
+        &mut self,
+        alloc: Global,
+        kinds: &[Kind],
+        room: u8,
+    ) -> Result<Token<'a>, ReadFault>
+        ensures { ExpectsWithin (among kinds.now) room self.old result self.new }
+    {
+        match self.eat_within(kinds, room)? {
+            Some(token) => Ok(token),
+            None => Err(self.fault(alloc)),
+        }
+    }
+}
