@@ -13,3 +13,9 @@ pub mod TableNumbers
 pub mod ColumnsFit
 pub mod FkeysFit
 pub mod FactsLaws
+pub mod StatementKnown
+pub mod StatementColumns
+pub mod Unlimited
+pub mod StatementFronts
+pub mod StatementCounts
+pub mod StatementCopies

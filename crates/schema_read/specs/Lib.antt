@@ -13,3 +13,9 @@ pub mod Sets
 pub mod Known
 pub mod Views
 mod Samples
+mod StatementSamples
+pub mod StatementTrees
+pub mod StatementGrammar
+pub mod Statements
+pub mod StatementLookahead
+pub mod StatementLimits

@@ -11,6 +11,7 @@ mod names;
 mod read;
 mod relations;
 mod sets;
+pub mod statement_laws;
 #[cfg(test)]
 mod tests;
 

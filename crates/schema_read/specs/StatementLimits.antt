@@ -1,0 +1,93 @@
+-- The limits on the columns of a table and on the number of relations, and those of the queries of views, each with the token that is one
+-- too many. Each limit is a language of the statements that keep it.
+use Rattle.std.specs.Prelude.{ℕ, zero, suc, ◌+◌, ◌≡◌, ◌≤◌, ◌<◌, List, [], ◌∷◌, ◌++◌, length, None, ◌⊎◌}
+use Rattle.grammar.specs.Form.{empty, seq, alt, star, map, language, form_language}
+use Rattle.grammar.specs.Language.{map_language, upto_language}
+use Rattle.grammar.specs.Productions.{skip_then}
+use Rattle.sql_lex.specs.Lexemes.{Lexeme}
+use Rattle.sql_model.specs.declared.statement.Statement.{Statement}
+use Rattle.sql_model.specs.declared.statement.Statement.TheVariants as statement
+use Rattle.sql_read.specs.declared.kinds.Kind.TheVariants as k
+use Rattle.sql_read.specs.Kinds.{kind_of}
+use Rattle.sql_read.specs.Numbering.{each}
+use Rattle.sql_read.specs.Cursor.{most_copies}
+use Rattle.sql_read.specs.QueryCopies.{copy_rules, so_far}
+use Rattle.sql_read.specs.QueryEntries.{few_rules, most_further}
+use Rattle.sql_read.specs.QueryGrammar.{The, a}
+use Rattle.schema_read.specs.StatementTrees.{Elements}
+use Rattle.schema_read.specs.StatementGrammar as g
+use Rattle.schema_read.specs.Statements.{OfStatements, IsFirstBeyond, of_form}
+
+-- ---- columns
+
+-- {, [CONSTRAINT name] tablerule}
+abbrev pub constraints : The (List Elements)
+constraints = star None (skip_then (a k.Comma) g.constraint)
+
+-- What stands behind the first column of a table, with at most so many further columns. The comma before one more may come, but then no
+-- column goes on.
+abbrev pub few_columns : ℕ → The (List Elements)
+few_columns zero = constraints
+few_columns (suc most) =
+    map (λ p. p.0 ++ p.1)
+    (seq constraints (alt (map (λ none. []) empty) (map (λ p. p.0 ∷ p.1) (seq (skip_then (a k.Comma) g.column) (few_columns most)))))
+
+-- columns that a table may have besides its first
+abbrev pub most_further_columns : ℕ
+most_further_columns = 31
+
+-- the statements whose tables have no more
+abbrev pub narrow_statements : ℕ → OfStatements
+narrow_statements most = of_form None (g.statements_with (few_columns most))
+
+-- The token is the name of a column that is one too many for its table.
+abbrev pub IsColumnTooMany : List Lexeme → Lexeme → Type 0
+IsColumnTooMany = IsFirstBeyond (narrow_statements most_further_columns)
+
+-- ---- relations
+
+abbrev pub most_relations : ℕ
+most_relations = 256
+
+-- at most so many statements
+abbrev pub few_statements : ℕ → OfStatements
+few_statements most = map_language (λ read. each read) (upto_language most (of_form None (g.ended_with g.elements)))
+
+-- The token is the word CREATE of a statement that is one too many.
+abbrev pub IsRelationTooMany : List Lexeme → Lexeme → Type 0
+IsRelationTooMany = IsFirstBeyond (few_statements most_relations)
+
+-- ---- the queries of views
+
+-- the statements in whose views no block has more entries besides its first
+abbrev pub few_entry_statements : ℕ → OfStatements
+few_entry_statements most = form_language kind_of (language kind_of (few_rules most)) None g.statements
+
+-- The token begins an entry that is one too many for its block.
+abbrev pub IsEntryTooMany : List Lexeme → Lexeme → Type 0
+IsEntryTooMany = IsFirstBeyond (few_entry_statements most_further)
+
+-- these tokens begin statements, and their views have copied so much up to the last of them
+abbrev pub CopiesOf : List Lexeme → ℕ → Type 0
+CopiesOf ts copies = ((ts ≡ []) × (copies ≡ 0)) ⊎ (form_language kind_of (language kind_of copy_rules) None (so_far g.statements)).spells ts copies
+
+-- With so much copied before the statements, these tokens of them are within the limit, and this one passes it.
+pub record IsCopyTooMany (copied : ℕ) (before : List Lexeme) (token : Lexeme) : Type 0 where
+  pub copies_before : ℕ
+  pub so_far_before : CopiesOf before copies_before
+  pub within : copied + copies_before ≤ most_copies
+  pub copies : ℕ
+  pub so_far_with : CopiesOf (before ++ token ∷ []) copies
+  pub too_many : most_copies < copied + copies
+
+-- ---- what statements count
+
+abbrev pub column_count : Statement → ℕ
+column_count (statement.Table name columns rules) = length columns
+column_count (statement.View name query) = 0
+column_count (statement.Index name unique on columns) = 0
+
+abbrev pub rule_count : Statement → ℕ
+rule_count (statement.Table name columns rules) = length rules
+rule_count (statement.View name query) = 0
+rule_count (statement.Index name unique on columns) = 0

@@ -1,0 +1,97 @@
+//! Laws of the grammar of statements, each the contract of a function that does nothing.
+ghost use Rattle.std.specs.Prelude.{◌≡◌, ◌≤◌, ℕ, suc, ◌++◌, ◌∷◌, List, [], length};
+ghost use Rattle.data_model.specs.Lists.{Each};
+ghost use Rattle.grammar.specs.Form.{Room};
+ghost use Rattle.grammar.specs.Language.{HasFronts, Includes, IsUnambiguous};
+ghost use Rattle.grammar.specs.Lookahead.{HasLookahead};
+ghost use Rattle.sql_lex.specs.Lexemes.{Lexeme};
+ghost use Rattle.sql_model.specs.declared.statement.Statement.{Statement};
+ghost use Rattle.sql_read.specs.Kinds.{kind_of};
+ghost use Rattle.sql_read.specs.Numbering.{Built, Numbers};
+ghost use Rattle.sql_read.specs.QueryEntries.{most_further};
+ghost use Rattle.schema_read.specs.StatementGrammar as g;
+ghost use Rattle.schema_read.specs.StatementLimits.{CopiesOf, IsColumnTooMany, IsEntryTooMany, IsRelationTooMany, column_count, few_entry_statements, few_statements, narrow_statements, rule_count};
+ghost use Rattle.schema_read.specs.StatementLookahead.{of_statements};
+ghost use Rattle.schema_read.specs.Statements.{Begins, IsTooDeep, Spells, SpellsIn, in_plan, of_form, shallow_statements, statements};
+
+/// Statements may go on after no tokens, after fewer tokens than they may go on after, and after whole ones.
+pub fn fronts()
+    ensures empty { Begins [] }
+    ensures shorter { (x y : List Lexeme) → Begins (x ++ y) → Begins x }
+    ensures spelled { (before after : Numbers) (ts : List Lexeme) (list : List Statement) → Spells before ts list after → Begins ts }
+    ensures limited { (room : Room) → HasFronts (of_form room g.statements) }
+{}
+
+/// What is spelled within a limit is spelled, and a front within it is a front.
+pub fn limits()
+    ensures shallow { Includes statements shallow_statements }
+    ensures narrow { (most : ℕ) → Includes statements (narrow_statements most) }
+    ensures few { (most : ℕ) → Includes statements (few_statements most) }
+    ensures few_entries { Includes statements (few_entry_statements most_further) }
+{}
+
+/// Each limit is passed at no more than one token of a text.
+pub fn passed_once()
+    ensures depth { (x more y others : List Lexeme) (t u : Lexeme) →
+        IsTooDeep x t → IsTooDeep y u → x ++ t ∷ more ≡ y ++ u ∷ others → (x ≡ y) × (t ≡ u) }
+    ensures columns { (x more y others : List Lexeme) (t u : Lexeme) →
+        IsColumnTooMany x t → IsColumnTooMany y u → x ++ t ∷ more ≡ y ++ u ∷ others → (x ≡ y) × (t ≡ u) }
+    ensures relations { (x more y others : List Lexeme) (t u : Lexeme) →
+        IsRelationTooMany x t → IsRelationTooMany y u → x ++ t ∷ more ≡ y ++ u ∷ others → (x ≡ y) × (t ≡ u) }
+    ensures entries { (x more y others : List Lexeme) (t u : Lexeme) →
+        IsEntryTooMany x t → IsEntryTooMany y u → x ++ t ∷ more ≡ y ++ u ∷ others → (x ≡ y) × (t ≡ u) }
+{}
+
+/// No list of tokens spells two lists of statements, nor two values of them within the limits.
+pub fn one_list()
+    ensures lists { (before after other : Numbers) (ts : List Lexeme) (p q : List Statement) →
+        Spells before ts p after → Spells before ts q other → (p ≡ q) × (after ≡ other) }
+    ensures values { (room : Room) → IsUnambiguous (of_form room g.statements) }
+{}
+
+/// Over the plan of queries statements spell and begin the same, within the limits and without.
+pub fn same_languages()
+    ensures planned { (room : Room) → Includes (in_plan room g.statements) (of_form room g.statements) }
+    ensures known { (room : Room) → Includes (of_form room g.statements) (in_plan room g.statements) }
+{}
+
+/// One token of lookahead tells of statements what the table says.
+pub fn lookahead()
+    ensures { (room : Room) → HasLookahead kind_of (of_form room g.statements) of_statements }
+{}
+
+/// Statements are spelled with few columns exactly where their tables have no more than that.
+pub fn few_columns()
+    ensures few { (most : ℕ) (before after : Numbers) (ts : List Lexeme) (list : List Statement) →
+        SpellsIn (narrow_statements most) before ts list after → Each (λ s. column_count s ≤ suc most) list }
+    ensures others { (most : ℕ) (before after : Numbers) (ts : List Lexeme) (list : List Statement) →
+        Spells before ts list after → Each (λ s. column_count s ≤ suc most) list → SpellsIn (narrow_statements most) before ts list after }
+{}
+
+/// Few statements are spelled exactly where there are no more than that.
+pub fn few_relations()
+    ensures few { (most : ℕ) (before after : Numbers) (ts : List Lexeme) (list : List Statement) →
+        SpellsIn (few_statements most) before ts list after → length list ≤ most }
+    ensures others { (most : ℕ) (before after : Numbers) (ts : List Lexeme) (list : List Statement) →
+        Spells before ts list after → length list ≤ most → SpellsIn (few_statements most) before ts list after }
+{}
+
+/// A table has no more rules than its text has tokens.
+pub fn few_rules()
+    ensures { (before after : Numbers) (ts : List Lexeme) (list : List Statement) →
+        Spells before ts list after → Each (λ s. rule_count s ≤ length ts) list }
+{}
+
+/// Where as many further entries are allowed as a text has tokens, it spells what it spells without that limit.
+pub fn few_entries()
+    ensures { (most : ℕ) (before after : Numbers) (ts : List Lexeme) (list : List Statement) →
+        length ts ≤ most → Spells before ts list after → SpellsIn (few_entry_statements most) before ts list after }
+{}
+
+/// What has copied something begins statements, what begins statements has copied something, or nothing, and whole statements have copied
+/// what they hold.
+pub fn copies()
+    ensures begins { (ts : List Lexeme) (copies : ℕ) → CopiesOf ts copies → Begins ts }
+    ensures counted { (ts : List Lexeme) → Begins ts → (copies : ℕ) × CopiesOf ts copies }
+    ensures whole { (ts : List Lexeme) (read : Built (List Statement)) → statements.spells ts read → CopiesOf ts read.copies }
+{}
