@@ -9,7 +9,7 @@ use Rattle.grammar.specs.Lookahead.{PredictiveGrammar}
 use Rattle.grammar.specs.Reading.{Took}
 use Rattle.grammar.specs.Completions.{Fills, Reaches, Continues, Overspends}
 use Rattle.grammar.proofs.Sets.{and_both}
-use Rattle.grammar.proofs.Predictions.{free, bounded, within, produced}
+use Rattle.grammar.proofs.Predictions.{free, bounded, bounded_within, produced}
 
 pub both_chosen : {T : Type 0} (chosen : T → Bool) (x y : List T) → list_all chosen x ≡ true → list_all chosen y ≡ true → list_all chosen (x ++ y) ≡ true
 both_chosen chosen x y p q = list_all-append chosen x y ∙ and_both (list_all chosen x) (list_all chosen y) p q
@@ -143,7 +143,7 @@ module _ {T K N : Type 0} {V : N → Type 0} (g : PredictiveGrammar T K N V) (d 
     }
 
     spelled_free : {C : Type 0} (f : Form T K N V C) (here : List T) (v : C) (mid : List T) (t : Took (free g f) (bounded g d f) here v mid) → (free g f).spells t.taken v
-    spelled_free f here v mid t = (within g d f).includes.spells t.taken v t.spelled
+    spelled_free f here v mid t = (bounded_within g d f).includes.spells t.taken v t.spelled
 
     -- ---- one after the other
 

@@ -23,12 +23,12 @@ concatenates_more S R m ts (v ∷ vs) (x, y, e, s, r) = (x, y, e, m x v s, conca
 
 -- ---- fronts
 
-module _ {T K N : Type 0} {V : N → Type 0} (kind : T → K) (E : Room → (n : N) → Language T (V n)) (e : (room : Room) (n : N) → HasFronts (E room n)) where
-  repeated_fronts : {A : Type 0} (room : Room) (most : Option ℕ) (L : Language T A) → HasFronts L → HasFronts (repeated room most L)
-  repeated_fronts None most L l = star_fronts L l
-  repeated_fronts (Some levels) None L l = star_fronts L l
-  repeated_fronts (Some levels) (Some most) L l = upto_fronts L l most
+pub repeated_fronts : {T A : Type 0} (room : Room) (most : Option ℕ) (L : Language T A) → HasFronts L → HasFronts (repeated room most L)
+repeated_fronts None most L l = star_fronts L l
+repeated_fronts (Some levels) None L l = star_fronts L l
+repeated_fronts (Some levels) (Some most) L l = upto_fronts L l most
 
+module _ {T K N : Type 0} {V : N → Type 0} (kind : T → K) (E : Room → (n : N) → Language T (V n)) (e : (room : Room) (n : N) → HasFronts (E room n)) where
   pub form_fronts : {A : Type 0} (f : Form T K N V A) (room : Room) → HasFronts (form_language kind E room f)
   form_fronts empty room = empty_fronts
   form_fronts (token p) room = token_fronts kind p

@@ -6,6 +6,7 @@ pub mod Heights
 pub mod Known
 pub mod Tables
 pub mod Steps
+pub mod Begun
 pub mod Choices
 pub mod Repetitions
 pub mod Predictions

@@ -1,8 +1,10 @@
 -- A grammar in the languages of another one, and inclusions of languages that are put together alike.
-use Rattle.std.proofs.Common.{ℕ, zero, suc, List, ◌++◌, inl, inr, refl, sym, ◌∙◌, ap, append_assoc}
-use Rattle.grammar.specs.Language.{Language, Includes, seq_language, alt_language, map_language}
+use Rattle.std.proofs.Common.{ℕ, zero, suc, List, [], ◌++◌, inl, inr, refl, sym, ◌∙◌, ap, append_assoc}
+use Rattle.grammar.specs.Language.{Language, Includes, seq_language, alt_language, map_language, no_language}
 use Rattle.grammar.specs.Form.{Rules, Room, IsRoomier, form_language, language_within, language}
 use Rattle.grammar.proofs.Forms.{includes_through, includes_nothing, form_grows}
+use Rattle.grammar.proofs.Fronts.{seq_fronts, alt_fronts, no_fronts}
+use Rattle.grammar.proofs.Steps.{IsWithin}
 use Rattle.grammar.proofs.Heights.{name_fronts, spelled_at, front_at, same_room}
 
 -- ---- all names at once
@@ -46,6 +48,20 @@ alt_in L M L' M' l m = record {
   spells = λ ts v s. elim s [ inl a ↦ inl (l.spells ts v a) | inr b ↦ inr (m.spells ts v b) ];
   front = λ ts f. elim f [ inl a ↦ inl (l.front ts a) | inr b ↦ inr (m.front ts b) ];
 }
+
+-- ---- within a language
+
+pub seq_within : {T A C : Type 0} (U B : Language T A) (W D : Language T C) → IsWithin U B → IsWithin W D → IsWithin (seq_language U W) (seq_language B D)
+seq_within U B W D l m = record {
+  includes = includes_through _ _ _ (first_in B U l.includes D) (second_in D W m.includes U);
+  fronts = seq_fronts B D l.fronts m.fronts;
+}
+
+pub alt_within : {T A : Type 0} (U B W D : Language T A) → IsWithin U B → IsWithin W D → IsWithin (alt_language U W) (alt_language B D)
+alt_within U B W D l m = record { includes = alt_in B D U W l.includes m.includes; fronts = alt_fronts B D l.fronts m.fronts }
+
+pub nothing_within : {T A : Type 0} (U : Language T A) → U.front [] → IsWithin U no_language
+nothing_within U f = record { includes = includes_nothing U f; fronts = no_fronts }
 
 -- ---- what is read of a first part goes into what follows it
 

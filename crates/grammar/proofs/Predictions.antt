@@ -1,11 +1,11 @@
 -- The languages of the forms of a predictive grammar, with no limits and with so many levels left.
 use Rattle.std.proofs.Common.{◌≡◌, ℕ, Bool, true, List, Some, None}
 use Rattle.grammar.specs.Language.{Language, Includes, HasFronts}
-use Rattle.grammar.specs.Form.{Form, Room, form_language, language}
+use Rattle.grammar.specs.Form.{Form, Room, IsRoomier, form_language, language}
 use Rattle.grammar.specs.Lookahead.{Lookahead, PredictiveGrammar, is_predictive, limited, lookahead, unlimited}
 use Rattle.grammar.specs.Reading.{Took, Failed, Exceeded}
-use Rattle.grammar.proofs.Forms.{form_grows}
-use Rattle.grammar.proofs.Heights.{name_fronts, name_grows, of_form, to_rule, from_rule}
+use Rattle.grammar.proofs.Forms.{form_fronts, form_grows, includes_itself, includes_through}
+use Rattle.grammar.proofs.Heights.{name_fronts, name_grows, to_rule, from_rule}
 use Rattle.grammar.proofs.Known.{Known}
 use Rattle.grammar.proofs.Outcomes.{took_once, failed_once, exceeded_once, took_not_failed, took_not_exceeded, failed_not_exceeded}
 use Rattle.grammar.proofs.Tables.{grammar_known, name_known}
@@ -27,11 +27,28 @@ module _ {T K N : Type 0} {V : N → Type 0} (g : PredictiveGrammar T K N V) whe
   pub known : {A : Type 0} (f : Form T K N V A) → ok f ≡ true → Known g.kind (free f) (ahead f)
   known f o = grammar_known g.kind g.kinds g.every g.table g.rules g.right f None o
 
-  pub within : {A : Type 0} (levels : ℕ) (f : Form T K N V A) → IsWithin (free f) (bounded levels f)
-  within levels f = record {
-    includes = form_grows g.kind (language g.kind g.rules) (language g.kind g.rules) (name_fronts g.kind g.rules) (name_grows g.kind g.rules) f (Some levels) None tt;
-    fronts = of_form g.kind g.rules f (Some levels);
-  }
+  -- names with languages of their own, each within that of the grammar
+  pub record AreWithin (E : Room → (n : N) → Language T (V n)) : Type 0 where
+    pub included : (room : Room) (n : N) → Includes (language g.kind g.rules room n) (E room n)
+    pub fronts : (room : Room) (n : N) → HasFronts (E room n)
+
+  -- the grammar's own
+  pub limits_within : AreWithin (language g.kind g.rules)
+  limits_within = record { included = λ room n. includes_itself (language g.kind g.rules room n); fronts = name_fronts g.kind g.rules }
+
+  module _ (E : Room → (n : N) → Language T (V n)) (e : AreWithin E) where
+    grows : (small large : Room) → IsRoomier small large → (n : N) → Includes (language g.kind g.rules large n) (E small n)
+    grows small large i n =
+        includes_through (E small n) (language g.kind g.rules small n) (language g.kind g.rules large n) (e.included small n) (name_grows g.kind g.rules small large i n)
+
+    pub within : {A : Type 0} (room : Room) (f : Form T K N V A) → IsWithin (free f) (form_language g.kind E room f)
+    within room f = record {
+      includes = form_grows g.kind E (language g.kind g.rules) (name_fronts g.kind g.rules) grows f room None tt;
+      fronts = form_fronts g.kind E e.fronts f room;
+    }
+
+  pub bounded_within : {A : Type 0} (levels : ℕ) (f : Form T K N V A) → IsWithin (free f) (bounded levels f)
+  bounded_within levels f = within (language g.kind g.rules) limits_within (Some levels) f
 
   -- a name is its production
   pub produced : (room : Room) (n : N) → Same (form_language g.kind (language g.kind g.rules) room (g.rules n)) (language g.kind g.rules room n)

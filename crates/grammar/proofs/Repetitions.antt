@@ -1,13 +1,14 @@
 -- How readings of one part make a reading of its repetition, with no limit or with one on the number of parts.
 use Rattle.std.proofs.Common.{◌≡◌, ℕ, zero, suc, ◌≤◌, true, not, List, [], ◌∷◌, ◌++◌, length, Option, Some, None, inl, inr, refl, sym, ◌∙◌, ap, subst, append_assoc, arith}
 use Rattle.grammar.specs.Language.{Language, HasFronts, Concatenates, seq_language, star_language, upto_language}
-use Rattle.grammar.specs.Form.{repeated}
+use Rattle.grammar.specs.Form.{Room, repeated}
 use Rattle.grammar.specs.Lookahead.{Lookahead, star_lookahead}
-use Rattle.grammar.specs.Reading.{Stops, Passes, Took, Failed, Exceeded}
+use Rattle.grammar.specs.Reading.{Stops, Passes, Took, Failed, Exceeded, Began}
 use Rattle.grammar.proofs.Cut.{not_nil}
 use Rattle.grammar.proofs.Sets.{and_right, not_both}
-use Rattle.grammar.proofs.Fronts.{star_fronts, upto_fronts, one_before, star_from, star_to}
-use Rattle.grammar.proofs.Forms.{star_grows, star_includes_upto}
+use Rattle.grammar.proofs.Fronts.{one_before, star_from, star_to}
+use Rattle.grammar.proofs.Begun.{first_began, second_began}
+use Rattle.grammar.proofs.Forms.{repeated_fronts, repeated_grows}
 use Rattle.grammar.proofs.Known.{Known, Parted, star_known}
 use Rattle.grammar.proofs.Steps.{IsWithin, seq_first_failed, seq_first_exceeded, seq_took, seq_second_failed, seq_second_exceeded}
 use Rattle.grammar.proofs.Choices.{is_absent}
@@ -56,97 +57,45 @@ abbrev pub once_more : Option ℕ → Option ℕ
 once_more None = None
 once_more (Some m) = Some (suc m)
 
-module _ {T K A : Type 0} (kind : T → K) (U B : Language T A) (a : Lookahead K) (u : Known kind U a) (l : IsWithin U B) (never_null : a.nullable ≡ true → ⊥) (parted : Parted a a) (levels : ℕ) where
+module _ {T A : Type 0} (B : Language T A) where
+  pub repeats_once_more : HasFronts B → (room : Room) (most : Option ℕ) → IsOneMore B (repeated room most B) (repeated room (once_more most) B)
+  repeats_once_more b None most = star_one_more B b
+  repeats_once_more b (Some levels) None = star_one_more B b
+  repeats_once_more b (Some levels) (Some m) = upto_one_more B b m
+
+  pub repeats_none : (room : Room) (most : Option ℕ) → (repeated room most B).spells [] []
+  repeats_none None most = refl
+  repeats_none (Some levels) None = refl
+  repeats_none (Some levels) (Some m) = (refl, omega arith)
+
+pub repeated_within : {T A : Type 0} (U B : Language T A) → IsWithin U B → (room : Room) (most : Option ℕ) → IsWithin (star_language U) (repeated room most B)
+repeated_within U B l room most = record { includes = repeated_grows B U l.includes most room None tt; fronts = repeated_fronts room most B l.fronts }
+
+-- M is what remains of the repetition of B after one more, and M' what remained before it
+module _ {T K A : Type 0} (kind : T → K) (U B : Language T A) (a : Lookahead K) (u : Known kind U a) (l : IsWithin U B) (never_null : a.nullable ≡ true → ⊥) (parted : Parted a a) where
   abbrev all : Language T (List A)
   all = star_language U
-
-  abbrev few : Option ℕ → Language T (List A)
-  few most = repeated (Some levels) most B
 
   pub all_known : Known kind all (star_lookahead a)
   all_known = star_known kind U a u never_null parted
 
-  pub all_within : (most : Option ℕ) → IsWithin all (few most)
-  all_within None = record { includes = star_grows B U l.includes; fronts = star_fronts B l.fronts }
-  all_within (Some m) = record { includes = star_includes_upto B U l.includes m; fronts = upto_fronts B l.fronts m }
-
-  one_more : (most : Option ℕ) → IsOneMore B (few most) (few (once_more most))
-  one_more None = star_one_more B l.fronts
-  one_more (Some m) = upto_one_more B l.fronts m
-
   -- ---- none
 
-  spells_none : (most : Option ℕ) → (few most).spells [] []
-  spells_none None = refl
-  spells_none (Some m) = (refl, omega arith)
-
-  pub star_end : (most : Option ℕ) (ts : List T) → is_absent kind a ts ≡ true → Took all (few most) ts [] ts
-  star_end most ts d = record { taken = []; whole = refl; spelled = spells_none most; stops = go ts d }
+  pub star_end : (M : Language T (List A)) → M.spells [] [] → (ts : List T) → is_absent kind a ts ≡ true → Took all M ts [] ts
+  star_end M s ts d = record { taken = []; whole = refl; spelled = s; stops = go ts d }
     where
       go : (ts : List T) → is_absent kind a ts ≡ true → Stops all [] ts
       go [] d = tt
       go (t ∷ ts) d = λ f. not_both (a.first (kind t)) (and_right (not a.nullable) (not (a.first (kind t))) d) (all_known.ahead.first t [] f)
-
-  begins_one : (t : T) → U.front (t ∷ []) → all.front (t ∷ [])
-  begins_one t f = inr ([], t ∷ [], [], refl, refl, f)
-
-  -- where so many are read as the limit allows, and one more begins
-  pub star_full : (t : T) (rest : List T) → U.front (t ∷ []) → Exceeded all (few (Some zero)) (t ∷ rest) (t ∷ rest)
-  star_full t rest f = record { taken = []; whole = refl; begun = inl refl; passes = (begins_one t f, no) }
-    where
-      no : (few (Some zero)).front (t ∷ []) → ⊥
-      no (inl e) = cc
-      no (inr (x, y, vs, e, s, g, n)) = omega (arith, n)
 
   -- ---- one, and the rest
 
   abbrev one_of : Language T (A × List A)
   one_of = seq_language U all
 
-  abbrev one_few : Option ℕ → Language T (A × List A)
-  one_few most = seq_language B (few most)
-
   one_stops : (x rest : List T) → Stops one_of x rest → Stops all x rest
   one_stops x [] s = tt
   one_stops x (t ∷ rest) s = λ f. s ((star_one_more U u.fronts).back (x ++ t ∷ []) (λ e. not_nil x [] t e) f)
-
-  one_passes : (most : Option ℕ) (x rest : List T) → Passes one_of (one_few most) x rest → Passes all (few (once_more most)) x rest
-  one_passes most x [] p = p
-  one_passes most x (t ∷ rest) p = ((star_one_more U u.fronts).there _ p.0, λ f. p.1 ((one_more most).back (x ++ t ∷ []) (λ e. not_nil x [] t e) f))
-
-  one_failed : (most : Option ℕ) (ts rest : List T) (k : Failed one_of (one_few most) ts rest) → (k.taken ≡ [] → ⊥) → Failed all (few (once_more most)) ts rest
-  one_failed most ts rest k n = record {
-    taken = k.taken;
-    whole = k.whole;
-    begun = (one_more most).there k.taken k.begun;
-    unspelled = unspelled;
-    stops = one_stops k.taken rest k.stops;
-  }
-    where
-      unspelled : (vs : List A) → Concatenates U.spells k.taken vs → ⊥
-      unspelled [] e = n e
-      unspelled (v ∷ vs) s = k.unspelled (v, vs) s
-
-  one_exceeded : (most : Option ℕ) (ts rest : List T) → Exceeded one_of (one_few most) ts rest → Exceeded all (few (once_more most)) ts rest
-  one_exceeded most ts rest k = record { taken = k.taken; whole = k.whole; begun = (one_more most).there k.taken k.begun; passes = one_passes most k.taken rest k.passes }
-
-  pub star_took : (most : Option ℕ) (ts : List T) (v : A) (mid : List T) (vs : List A) (rest : List T) → Took U B ts v mid → Took all (few most) mid vs rest → Took all (few (once_more most)) ts (v ∷ vs) rest
-  star_took most ts v mid vs rest r q =
-      let k = seq_took kind U B all (few most) a (star_lookahead a) u all_known l (all_within most) parted ts v mid vs rest r q in
-      record {
-        taken = k.taken;
-        whole = k.whole;
-        spelled = subst (λ z. (few (once_more most)).spells z (v ∷ vs)) (sym k.spelled.2) ((one_more most).spells k.spelled.0 k.spelled.1 v vs k.spelled.3 k.spelled.4);
-        stops = one_stops k.taken rest k.stops;
-      }
-
-  -- a failure of one and the rest has taken something, where one begins
-  something_taken : (most : Option ℕ) (ts rest : List T) (t : T) (others : List T) → ts ≡ t ∷ others → U.front (t ∷ []) → (k : Failed one_of (one_few most) ts rest) → k.taken ≡ [] → ⊥
-  something_taken most ts rest t others i f k e = go rest (sym i ∙ (k.whole ∙ ap (λ z. z ++ rest) e)) (subst (λ z. Stops one_of z rest) e k.stops)
-    where
-      go : (rest : List T) → t ∷ others ≡ rest → Stops one_of [] rest → ⊥
-      go [] i s = cc
-      go (c ∷ rest) i s = let j : t ≡ c = cc in s (inl (subst (λ z. U.front (z ∷ [])) j f))
 
   -- what is spelled begins with a token
   pub taken_begins : (ts : List T) (v : A) (mid : List T) → Took U B ts v mid → (t : T) × (others : List T) × (ts ≡ t ∷ others) × U.front (t ∷ [])
@@ -156,22 +105,79 @@ module _ {T K A : Type 0} (kind : T → K) (U B : Language T A) (a : Lookahead K
       go [] e s = absurd (never_null (u.ahead.nullable v s))
       go (t ∷ x) e s = (t, x ++ mid, e, u.fronts.shorter (t ∷ []) x (u.fronts.spelled (t ∷ x) v s))
 
-  pub star_then_failed : (most : Option ℕ) (ts : List T) (v : A) (mid rest : List T) → Took U B ts v mid → Failed all (few most) mid rest → Failed all (few (once_more most)) ts rest
-  star_then_failed most ts v mid rest r q =
-      let k = seq_second_failed kind U B all (few most) a (star_lookahead a) u all_known l (all_within most) parted ts v mid rest r q in
-      let p = taken_begins ts v mid r in
-      one_failed most ts rest k (something_taken most ts rest p.0 p.1 p.2 p.3 k)
+  module _ (M M' : Language T (List A)) (m : IsWithin all M) (o : IsOneMore B M M') where
+    abbrev one_few : Language T (A × List A)
+    one_few = seq_language B M
 
-  pub star_then_exceeded : (most : Option ℕ) (ts : List T) (v : A) (mid rest : List T) → Took U B ts v mid → Exceeded all (few most) mid rest → Exceeded all (few (once_more most)) ts rest
-  star_then_exceeded most ts v mid rest r q =
-      one_exceeded most ts rest (seq_second_exceeded kind U B all (few most) a (star_lookahead a) u all_known l (all_within most) parted ts v mid rest r q)
+    one_passes : (x rest : List T) → Passes one_of one_few x rest → Passes all M' x rest
+    one_passes x [] p = p
+    one_passes x (t ∷ rest) p = ((star_one_more U u.fronts).there _ p.0, λ f. p.1 (o.back (x ++ t ∷ []) (λ e. not_nil x [] t e) f))
 
-  -- where one more begins, and is not read to its end
-  pub star_failed : (most : Option ℕ) (t : T) (ts rest : List T) → U.front (t ∷ []) → Failed U B (t ∷ ts) rest → Failed all (few (once_more most)) (t ∷ ts) rest
-  star_failed most t ts rest f r =
-      let k = seq_first_failed kind U B all (few most) a (star_lookahead a) u all_known l (all_within most) parted (t ∷ ts) rest r in
-      one_failed most (t ∷ ts) rest k (something_taken most (t ∷ ts) rest t ts refl f k)
+    one_began : (ts rest : List T) → Began one_few ts rest → Began M' ts rest
+    one_began ts rest k = record { taken = k.taken; whole = k.whole; begun = o.there k.taken k.begun }
 
-  pub star_exceeded : (most : Option ℕ) (ts rest : List T) → Exceeded U B ts rest → Exceeded all (few (once_more most)) ts rest
-  star_exceeded most ts rest r =
-      one_exceeded most ts rest (seq_first_exceeded kind U B all (few most) a (star_lookahead a) u all_known l (all_within most) parted ts rest r)
+    one_failed : (ts rest : List T) (k : Failed one_of one_few ts rest) → (k.taken ≡ [] → ⊥) → Failed all M' ts rest
+    one_failed ts rest k n = record {
+      taken = k.taken;
+      whole = k.whole;
+      begun = o.there k.taken k.begun;
+      unspelled = unspelled;
+      stops = one_stops k.taken rest k.stops;
+    }
+      where
+        unspelled : (vs : List A) → Concatenates U.spells k.taken vs → ⊥
+        unspelled [] e = n e
+        unspelled (v ∷ vs) s = k.unspelled (v, vs) s
+
+    one_exceeded : (ts rest : List T) → Exceeded one_of one_few ts rest → Exceeded all M' ts rest
+    one_exceeded ts rest k = record { taken = k.taken; whole = k.whole; begun = o.there k.taken k.begun; passes = one_passes k.taken rest k.passes }
+
+    pub star_took : (ts : List T) (v : A) (mid : List T) (vs : List A) (rest : List T) → Took U B ts v mid → Took all M mid vs rest → Took all M' ts (v ∷ vs) rest
+    star_took ts v mid vs rest r q =
+        let k = seq_took kind U B all M a (star_lookahead a) u all_known l m parted ts v mid vs rest r q in
+        record {
+          taken = k.taken;
+          whole = k.whole;
+          spelled = subst (λ z. M'.spells z (v ∷ vs)) (sym k.spelled.2) (o.spells k.spelled.0 k.spelled.1 v vs k.spelled.3 k.spelled.4);
+          stops = one_stops k.taken rest k.stops;
+        }
+
+    -- a failure of one and the rest has taken something, where one begins
+    something_taken : (ts rest : List T) (t : T) (others : List T) → ts ≡ t ∷ others → U.front (t ∷ []) → (k : Failed one_of one_few ts rest) → k.taken ≡ [] → ⊥
+    something_taken ts rest t others i f k e = go rest (sym i ∙ (k.whole ∙ ap (λ z. z ++ rest) e)) (subst (λ z. Stops one_of z rest) e k.stops)
+      where
+        go : (rest : List T) → t ∷ others ≡ rest → Stops one_of [] rest → ⊥
+        go [] i s = cc
+        go (c ∷ rest) i s = let j : t ≡ c = cc in s (inl (subst (λ z. U.front (z ∷ [])) j f))
+
+    pub star_then_failed : (ts : List T) (v : A) (mid rest : List T) → Took U B ts v mid → Failed all M mid rest → Failed all M' ts rest
+    star_then_failed ts v mid rest r q =
+        let k = seq_second_failed kind U B all M a (star_lookahead a) u all_known l m parted ts v mid rest r q in
+        let p = taken_begins ts v mid r in
+        one_failed ts rest k (something_taken ts rest p.0 p.1 p.2 p.3 k)
+
+    pub star_then_exceeded : (ts : List T) (v : A) (mid rest : List T) → Took U B ts v mid → Exceeded all M mid rest → Exceeded all M' ts rest
+    star_then_exceeded ts v mid rest r q = one_exceeded ts rest (seq_second_exceeded kind U B all M a (star_lookahead a) u all_known l m parted ts v mid rest r q)
+
+    pub star_then_began : (ts : List T) (v : A) (mid rest : List T) → Took U B ts v mid → Began M mid rest → Began M' ts rest
+    star_then_began ts v mid rest r q = one_began ts rest (second_began U B M ts v mid rest r q)
+
+    -- where one more begins, and is not read to its end
+    pub star_failed : (t : T) (ts rest : List T) → U.front (t ∷ []) → Failed U B (t ∷ ts) rest → Failed all M' (t ∷ ts) rest
+    star_failed t ts rest f r =
+        let k = seq_first_failed kind U B all M a (star_lookahead a) u all_known l m parted (t ∷ ts) rest r in
+        one_failed (t ∷ ts) rest k (something_taken (t ∷ ts) rest t ts refl f k)
+
+    pub star_exceeded : (ts rest : List T) → Exceeded U B ts rest → Exceeded all M' ts rest
+    star_exceeded ts rest r = one_exceeded ts rest (seq_first_exceeded kind U B all M a (star_lookahead a) u all_known l m parted ts rest r)
+
+    pub star_began : (ts rest : List T) → Began B ts rest → Began M' ts rest
+    star_began ts rest r = one_began ts rest (first_began B M ts rest r)
+
+-- where so many are read as the limit allows, and one more begins
+pub star_full : {T A : Type 0} (U B : Language T A) (levels : ℕ) (t : T) (rest : List T) → U.front (t ∷ []) → Exceeded (star_language U) (repeated (Some levels) (Some zero) B) (t ∷ rest) (t ∷ rest)
+star_full U B levels t rest f = record { taken = []; whole = refl; begun = inl refl; passes = (inr ([], t ∷ [], [], refl, refl, f), no) }
+  where
+    no : (upto_language zero B).front (t ∷ []) → ⊥
+    no (inl e) = cc
+    no (inr (x, y, vs, e, s, g, n)) = omega (arith, n)

@@ -340,7 +340,7 @@ module _ {T K : Type 0} (kind : T → K) where
 
   -- a sequence goes by the first's value, which it keeps
 
-  map_within : {A C : Type 0} (h : A → C) (U B : Language T A) → IsWithin U B → IsWithin (map_language h U) (map_language h B)
+  pub map_within : {A C : Type 0} (h : A → C) (U B : Language T A) → IsWithin U B → IsWithin (map_language h U) (map_language h B)
   map_within h U B l = record {
     includes = record { spells = λ ts v s. (s.0, l.includes.spells ts s.0 s.1, s.2); front = l.includes.front };
     fronts = record { empty = l.fronts.empty; shorter = l.fronts.shorter; spelled = λ ts v s. l.fronts.spelled ts s.0 s.1 };

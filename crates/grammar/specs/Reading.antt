@@ -36,6 +36,12 @@ pub record Exceeded {T A : Type 0} (U B : Language T A) (ts rest : List T) : Typ
   pub begun : B.front taken
   pub passes : Passes U B taken rest
 
+-- the tokens taken are a front
+pub record Began {T A : Type 0} (B : Language T A) (ts rest : List T) : Type 0 where
+  pub taken : List T
+  pub whole : ts ≡ taken ++ rest
+  pub begun : B.front taken
+
 -- the longest list of leading tokens that is a front
 pub record IsLongestFront {T A : Type 0} (L : Language T A) (ts taken : List T) : Type 0 where
   pub leading : (rest : List T) × (ts ≡ taken ++ rest)
@@ -48,3 +54,4 @@ pub record Remains {T A C : Type 0} (M M' : Language T C) (here : List T) (N N' 
   pub took : (v : C) (rest : List T) → Took M M' here v rest → Took N N' start (h v) rest
   pub failed : (rest : List T) → Failed M M' here rest → Failed N N' start rest
   pub exceeded : (rest : List T) → Exceeded M M' here rest → Exceeded N N' start rest
+  pub began : (rest : List T) → Began M' here rest → Began N' start rest
