@@ -1,11 +1,11 @@
 -- The entries of a block in one list, and item by item.
 use Rattle.std.proofs.Common.{◌≡◌, ℕ, zero, suc, ◌≤◌, List, [], ◌∷◌, ◌++◌, length, inl, inr, refl, sym, ◌∙◌, ap, subst, append_assoc, Option, Some, None, arith}
-use Rattle.grammar.specs.Language.{Includes, HasFronts}
-use Rattle.grammar.specs.Form.{Room, seq, alt, star, map, ref, language}
+use Rattle.grammar.specs.Language.{Language, Includes, HasFronts}
+use Rattle.grammar.specs.Form.{Room, seq, alt, star, map, ref, form_language, language}
 use Rattle.grammar.specs.Productions.{skip_then}
 use Rattle.grammar.proofs.Fronts.{one_before, star_from, star_to}
 use Rattle.grammar.proofs.Forms.{includes_through}
-use Rattle.grammar.proofs.Heights.{of_form}
+use Rattle.grammar.proofs.Heights.{from_rule, of_form}
 use Rattle.grammar.proofs.Plans.{plan_included}
 use Rattle.sql_lex.specs.Lexemes.{Lexeme}
 use Rattle.sql_model.specs.declared.tree.Entry.{Entry}
@@ -15,11 +15,20 @@ use Rattle.sql_read.specs.Numbering.{Built}
 use Rattle.sql_read.specs.QueryTrees as t
 use Rattle.sql_read.specs.QueryTrees.{Listed}
 use Rattle.sql_read.specs.QueryGrammar as grammar
-use Rattle.sql_read.specs.QueryGrammar.{Production, The, listed, join_on, cross_join, rules, query, part, operand, block, item, from, entry, reference, expr, conj, neg, test, rest, value, term, unary, primary, agg, set_tail, and_tail, expr_tail, inner, in_inner}
-use Rattle.sql_read.specs.QueryEntries.{Further, next_entry, before_entry, further_entries, parted, items_of, few_rules}
+use Rattle.sql_read.specs.QueryGrammar.{Production, Read, The, Froms, block_with, listed, join_on, cross_join, rules, block, from, entry}
+use Rattle.sql_read.specs.QueryEntries.{Further, next_entry, before_entry, further_entries, parted, items_of, few_froms, few_rules}
 use Rattle.sql_read.proofs.QueryInside.{star_none}
 use Rattle.sql_read.proofs.QueryWords.{Below, itself, below_map, below_seq}
-use Rattle.sql_read.proofs.PlanInsides.{G, gl, closes, joined_at}
+use Rattle.sql_read.proofs.PlanInsides.{joined_at}
+
+abbrev G : Room → (p : Production) → Language Lexeme (Read p)
+G = language kind_of rules
+
+abbrev gl : {A : Type 0} → Room → The A → Language Lexeme A
+gl room f = form_language kind_of G room f
+
+closes : (room : Room) (p : Production) → Includes (G room p) (gl room (rules p))
+closes room p = from_rule kind_of rules room p
 
 -- ---- one more before others
 
@@ -168,20 +177,26 @@ module _ (room : Room) where
 
 -- ---- blocks
 
-module _ (m : ℕ) (few : suc m ≤ 255) where
-  abbrev one_list : The (Built (List Entry) × List (Built (List Entry)))
-  one_list = map items_of (seq (ref entry) (further_entries m))
+-- other items of FROM
+pub block_below : {E : Room → (p : Production) → Language Lexeme (Read p)} {f g : The Froms} → Below E f g → Below E (block_with f) (block_with g)
+block_below {E = E} l =
+    below_map (λ p. t.block_of p.0 p.1.0 p.1.1.0 p.1.1.1.0 p.1.1.1.1.0 p.1.1.1.1.1)
+    (skip_below (grammar.a k.Select) (below_seq (itself _) (below_seq (itself _) (below_seq (skip_below (grammar.a k.From) l) (itself _)))))
+  where
+    skip_below : {A B : Type 0} (f : The A) {g h : The B} → Below E g h → Below E (skip_then f g) (skip_then f h)
+    skip_below f l = below_map (λ p. p.1) (below_seq (itself f) l)
 
-  list_below : Below G one_list (listed (ref from))
+module _ (m : ℕ) (few : suc m ≤ 255) where
+  pub list_below : Below G (few_froms m) (listed (ref from))
   list_below = record { holds = λ room. record { spells = spells room; front = front room } }
     where
-      spells : (room : Room) (ts : List Lexeme) (v : Built (List Entry) × List (Built (List Entry))) → (gl room one_list).spells ts v → (gl room (listed (ref from))).spells ts v
+      spells : (room : Room) (ts : List Lexeme) (v : Built (List Entry) × List (Built (List Entry))) → (gl room (few_froms m)).spells ts v → (gl room (listed (ref from))).spells ts v
       spells room ts v (u, (x, y, e, s, r), i) = subst ((gl room (listed (ref from))).spells ts) (sym i) (go (further_spells room m y u.1 r))
         where
           go : (gl room (after_entry (suc m))).spells y (parted u.1) → (gl room (listed (ref from))).spells ts (items_of u)
           go (a, b, e2, js, cs) = (x ++ a, b, joined_at ts x y a b e e2, item_spells room x a u.0 (parted u.1).0 s js, (wider next_item room (suc m) 255 few).spells b (parted u.1).1 cs)
 
-      front : (room : Room) (ts : List Lexeme) → (gl room one_list).front ts → (gl room (listed (ref from))).front ts
+      front : (room : Room) (ts : List Lexeme) → (gl room (few_froms m)).front ts → (gl room (listed (ref from))).front ts
       front room ts (inl s) = inl ((closes room from).front ts (inl s))
       front room ts (inr (x, y, f, e, s, r)) = go (further_front room m y r)
         where
@@ -189,35 +204,9 @@ module _ (m : ℕ) (few : suc m ≤ 255) where
           go (inl js) = inl (subst (G room from).front (sym e) (item_front room x y f s js))
           go (inr (a, b, js, e2, q, cs)) = inr (x ++ a, b, t.entries f js, joined_at ts x y a b e e2, item_spells room x a f js s q, (wider next_item room (suc m) 255 few).front b cs)
 
-  skip_below : {A B : Type 0} (f : The A) {g h : The B} → Below G g h → Below G (skip_then f g) (skip_then f h)
-  skip_below f l = below_map (λ p. p.1) (below_seq (itself f) l)
-
   few_below : (p : Production) → Below G (few_rules m p) (rules p)
-  few_below block =
-      below_map (λ p. t.block_of p.0 p.1.0 p.1.1.0 p.1.1.1.0 p.1.1.1.1.0 p.1.1.1.1.1)
-      (skip_below (grammar.a k.Select) (below_seq (itself _) (below_seq (itself _) (below_seq (skip_below (grammar.a k.From) list_below) (itself _)))))
-  few_below query = itself (rules query)
-  few_below part = itself (rules part)
-  few_below operand = itself (rules operand)
-  few_below item = itself (rules item)
-  few_below from = itself (rules from)
-  few_below entry = itself (rules entry)
-  few_below reference = itself (rules reference)
-  few_below expr = itself (rules expr)
-  few_below conj = itself (rules conj)
-  few_below neg = itself (rules neg)
-  few_below test = itself (rules test)
-  few_below rest = itself (rules rest)
-  few_below value = itself (rules value)
-  few_below term = itself (rules term)
-  few_below unary = itself (rules unary)
-  few_below primary = itself (rules primary)
-  few_below agg = itself (rules agg)
-  few_below set_tail = itself (rules set_tail)
-  few_below and_tail = itself (rules and_tail)
-  few_below expr_tail = itself (rules expr_tail)
-  few_below inner = itself (rules inner)
-  few_below in_inner = itself (rules in_inner)
+  few_below block = block_below list_below
+  few_below other = itself (rules other)
 
   closed : (room : Room) (p : Production) → Includes (G room p) (gl room (few_rules m p))
   closed room p = includes_through (gl room (few_rules m p)) (gl room (rules p)) (G room p) ((few_below p).holds room) (closes room p)

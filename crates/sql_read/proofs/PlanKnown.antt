@@ -1,47 +1,12 @@
 -- The plan is included in the grammar.
 use Rattle.grammar.specs.Language.{Includes}
-use Rattle.grammar.specs.Form.{Room, empty, language}
-use Rattle.grammar.proofs.Forms.{includes_through}
-use Rattle.grammar.proofs.Plans.{plan_included}
+use Rattle.grammar.specs.Form.{Room, language}
 use Rattle.sql_read.specs.Kinds.{kind_of}
-use Rattle.sql_read.specs.QueryGrammar.{Production, rules, query, part, operand, block, item, from, entry, reference, expr, conj, neg, test, rest, value, term, unary, primary, agg, set_tail, and_tail, expr_tail, inner, in_inner, commas}
+use Rattle.sql_read.specs.QueryGrammar.{Production, rules}
 use Rattle.sql_read.specs.QueryPlan.{plan}
-use Rattle.sql_read.proofs.QueryWords.{Below, itself}
-use Rattle.sql_read.proofs.PlanInsides.{G, gl, closes}
-use Rattle.sql_read.proofs.PlanWords.{reference_planned, agg_planned}
-use Rattle.sql_read.proofs.PlanParens.{primary_planned}
-use Rattle.sql_read.proofs.PlanOfInsides.{insides_planned}
-use Rattle.sql_read.proofs.PlanRests.{rest_planned}
-use Rattle.sql_read.proofs.PlanItems.{item_planned}
-
-plan_below : (p : Production) → Below G (plan p) (rules p)
-plan_below item = item_planned
-plan_below reference = reference_planned
-plan_below rest = rest_planned
-plan_below primary = primary_planned
-plan_below agg = agg_planned
-plan_below inner = insides_planned empty
-plan_below in_inner = insides_planned commas
-plan_below query = itself (rules query)
-plan_below part = itself (rules part)
-plan_below operand = itself (rules operand)
-plan_below block = itself (rules block)
-plan_below from = itself (rules from)
-plan_below entry = itself (rules entry)
-plan_below expr = itself (rules expr)
-plan_below conj = itself (rules conj)
-plan_below neg = itself (rules neg)
-plan_below test = itself (rules test)
-plan_below value = itself (rules value)
-plan_below term = itself (rules term)
-plan_below unary = itself (rules unary)
-plan_below set_tail = itself (rules set_tail)
-plan_below and_tail = itself (rules and_tail)
-plan_below expr_tail = itself (rules expr_tail)
-
-closed : (room : Room) (p : Production) → Includes (G room p) (gl room (plan p))
-closed room p = includes_through (gl room (plan p)) (gl room (rules p)) (G room p) ((plan_below p).holds room) (closes room p)
+use Rattle.sql_read.proofs.PlanBelow.{grammar_above}
+use Rattle.sql_read.proofs.Variants.{unchanged}
 
 -- what the plan spells and begins, the grammar does
 pub grammar_includes : (room : Room) (p : Production) → Includes (language kind_of rules room p) (language kind_of plan room p)
-grammar_includes = plan_included kind_of plan rules closed
+grammar_includes = grammar_above unchanged

@@ -10,7 +10,7 @@ use Rattle.sql_read.specs.Kinds.{kind_of}
 use Rattle.sql_read.specs.Numbering.{Built}
 use Rattle.sql_read.specs.QueryTrees as t
 use Rattle.sql_read.specs.QueryTrees.{Left, SetWord}
-use Rattle.sql_read.specs.QueryGrammar.{Production, Read, The, rules, intersects, unions, products, sums, ands, ors, not_neg, exists, query, part, operand, item, reference, expr, conj, neg, test, rest, value, term, unary, primary, agg, set_tail, and_tail, expr_tail, inner, in_inner}
+use Rattle.sql_read.specs.QueryGrammar.{Production, Read, The, Froms, rules_with, intersects, unions, products, sums, ands, ors, not_neg, exists, query, part, operand, item, reference, expr, conj, neg, test, rest, value, term, unary, primary, agg, set_tail, and_tail, expr_tail, inner, in_inner}
 use Rattle.sql_read.specs.QueryPlan.{going_on, going_on_by_and}
 
 -- whether the plan has the grammar's own production of a name
@@ -24,7 +24,7 @@ is_kept inner = false
 is_kept in_inner = false
 is_kept other = true
 
-module _ (E : Room → (p : Production) → Language Lexeme (Read p)) (kept : (p : Production) → is_kept p ≡ true → Alike kind_of E (ref p) (rules p)) where
+module _ (froms : The Froms) (E : Room → (p : Production) → Language Lexeme (Read p)) (kept : (p : Production) → is_kept p ≡ true → Alike kind_of E (ref p) (rules_with froms p)) where
   abbrev pub Same : {A : Type 0} → The A → The A → Type 0
   Same f g = Alike kind_of E f g
 

@@ -13,6 +13,7 @@ use Rattle.sql_read.specs.QueryGrammar.{The, a, name, name_kinds, called_word, a
 use Rattle.sql_read.proofs.EveryKind.{every_kind_is_there}
 use Rattle.sql_read.specs.QueryPlan.{arguments, one_argument, other_aggregate, count_arguments, word_with, words, going_on}
 use Rattle.sql_read.proofs.QueryInside.{Names, P, fl}
+use Rattle.sql_read.proofs.Variants.{Variant}
 
 -- what f spells and begins, g does
 pub record Below (E : Names) {A : Type 0} (f g : The A) : Type 0 where
@@ -77,77 +78,78 @@ name_by_kind kind e = implied (among name_kinds kind) (by_kind kind) (every_kind
 aggregate_by_kind : (kind : Kind) → among (k.Count ∷ k.Sum ∷ k.Avg ∷ k.Min ∷ k.Max ∷ []) kind ≡ true → (same k.Count kind || among (k.Sum ∷ k.Avg ∷ k.Min ∷ k.Max ∷ []) kind) ≡ true
 aggregate_by_kind kind e = e
 
--- a token of either set
-token_parts : (p q r : Kind → Bool) → ((kind : Kind) → p kind ≡ true → (q kind || r kind) ≡ true) → Below P (token p) (alt (token q) (token r))
-token_parts p q r m = record { holds = λ room. record { spells = spells room; front = front room } }
-  where
-    spells : (room : Room) (ts : List Lexeme) (v : Lexeme) → (fl room (token p)).spells ts v → (fl room (alt (token q) (token r))).spells ts v
-    spells room ts v (e, s) = elim (or_cases (q (kind_of v)) (r (kind_of v)) (m (kind_of v) s)) [ inl x ↦ inl (e, x) | inr y ↦ inr (e, y) ]
+module _ (variant : Variant) where
+  -- a token of either set
+  token_parts : (p q r : Kind → Bool) → ((kind : Kind) → p kind ≡ true → (q kind || r kind) ≡ true) → Below (P variant) (token p) (alt (token q) (token r))
+  token_parts p q r m = record { holds = λ room. record { spells = spells room; front = front room } }
+    where
+      spells : (room : Room) (ts : List Lexeme) (v : Lexeme) → (fl variant room (token p)).spells ts v → (fl variant room (alt (token q) (token r))).spells ts v
+      spells room ts v (e, s) = elim (or_cases (q (kind_of v)) (r (kind_of v)) (m (kind_of v) s)) [ inl x ↦ inl (e, x) | inr y ↦ inr (e, y) ]
 
-    front : (room : Room) (ts : List Lexeme) → (fl room (token p)).front ts → (fl room (alt (token q) (token r))).front ts
-    front room ts (inl e) = inl (inl e)
-    front room ts (inr (v, e, s)) = elim (or_cases (q (kind_of v)) (r (kind_of v)) (m (kind_of v) s)) [ inl x ↦ inl (inr (v, e, x)) | inr y ↦ inr (inr (v, e, y)) ]
+      front : (room : Room) (ts : List Lexeme) → (fl variant room (token p)).front ts → (fl variant room (alt (token q) (token r))).front ts
+      front room ts (inl e) = inl (inl e)
+      front room ts (inr (v, e, s)) = elim (or_cases (q (kind_of v)) (r (kind_of v)) (m (kind_of v) s)) [ inl x ↦ inl (inr (v, e, x)) | inr y ↦ inr (inr (v, e, y)) ]
 
-abbrev after_quoted : Kind → Bool
-after_quoted kind = among (k.Word ∷ k.Key ∷ k.View ∷ k.Index ∷ []) kind || (same k.Count kind || among (k.Sum ∷ k.Avg ∷ k.Min ∷ k.Max ∷ []) kind)
+  abbrev after_quoted : Kind → Bool
+  after_quoted kind = among (k.Word ∷ k.Key ∷ k.View ∷ k.Index ∷ []) kind || (same k.Count kind || among (k.Sum ∷ k.Avg ∷ k.Min ∷ k.Max ∷ []) kind)
 
-abbrev aggregates : Kind → Bool
-aggregates kind = same k.Count kind || among (k.Sum ∷ k.Avg ∷ k.Min ∷ k.Max ∷ []) kind
+  abbrev aggregates : Kind → Bool
+  aggregates kind = same k.Count kind || among (k.Sum ∷ k.Avg ∷ k.Min ∷ k.Max ∷ []) kind
 
-pub name_parts : Below P name (alt (a k.Quoted) (alt called_word (alt (a k.Count) other_aggregate)))
-name_parts =
-    through (token_parts (among name_kinds) (same k.Quoted) after_quoted name_by_kind)
-    (below_alt (itself (a k.Quoted))
-    (through (token_parts after_quoted (among (k.Word ∷ k.Key ∷ k.View ∷ k.Index ∷ [])) aggregates (λ kind e. e))
-    (below_alt (itself called_word) (token_parts aggregates (same k.Count) (among (k.Sum ∷ k.Avg ∷ k.Min ∷ k.Max ∷ [])) (λ kind e. e)))))
+  pub name_parts : Below (P variant) name (alt (a k.Quoted) (alt called_word (alt (a k.Count) other_aggregate)))
+  name_parts =
+      through (token_parts (among name_kinds) (same k.Quoted) after_quoted name_by_kind)
+      (below_alt (itself (a k.Quoted))
+      (through (token_parts after_quoted (among (k.Word ∷ k.Key ∷ k.View ∷ k.Index ∷ [])) aggregates (λ kind e. e))
+      (below_alt (itself called_word) (token_parts aggregates (same k.Count) (among (k.Sum ∷ k.Avg ∷ k.Min ∷ k.Max ∷ [])) (λ kind e. e)))))
 
-pub aggregate_parts : Below P aggregate_word (alt (a k.Count) other_aggregate)
-aggregate_parts = token_parts (among (k.Count ∷ k.Sum ∷ k.Avg ∷ k.Min ∷ k.Max ∷ [])) (same k.Count) (among (k.Sum ∷ k.Avg ∷ k.Min ∷ k.Max ∷ [])) aggregate_by_kind
+  pub aggregate_parts : Below (P variant) aggregate_word (alt (a k.Count) other_aggregate)
+  aggregate_parts = token_parts (among (k.Count ∷ k.Sum ∷ k.Avg ∷ k.Min ∷ k.Max ∷ [])) (same k.Count) (among (k.Sum ∷ k.Avg ∷ k.Min ∷ k.Max ∷ [])) aggregate_by_kind
 
--- ---- words
+  -- ---- words
 
-module _ {D X : Type 0} (dot : The D) (named : Lexeme → D → X) (called : Built Expr → X) where
-  -- a name with what may follow it
-  abbrev pub with_dot : The Lexeme → The X
-  with_dot word = map (λ (p : Lexeme × D). named p.0 p.1) (seq word dot)
+  module _ {D X : Type 0} (dot : The D) (named : Lexeme → D → X) (called : Built Expr → X) where
+    -- a name with what may follow it
+    abbrev pub with_dot : The Lexeme → The X
+    with_dot word = map (λ (p : Lexeme × D). named p.0 p.1) (seq word dot)
 
-  word_named : (word : The Lexeme) (args : The (Lexeme → Built Expr)) → Below P (with_dot word) (word_with word args dot named called)
-  word_named word args =
-      through (to_alike (applied kind_of P (λ d w. named w d) word dot))
-      (below_map (λ (p : Lexeme × (Lexeme → X)). p.1 p.0) (below_seq (itself word) (at_first (map (λ f w. called (f w)) args) (itself (map (λ d w. named w d) dot)))))
+    word_named : (word : The Lexeme) (args : The (Lexeme → Built Expr)) → Below (P variant) (with_dot word) (word_with word args dot named called)
+    word_named word args =
+        through (to_alike (applied kind_of (P variant) (λ d w. named w d) word dot))
+        (below_map (λ (p : Lexeme × (Lexeme → X)). p.1 p.0) (below_seq (itself word) (at_first (map (λ f w. called (f w)) args) (itself (map (λ d w. named w d) dot)))))
 
-  pub word_called : (word : The Lexeme) (args : The (Lexeme → Built Expr)) → Below P (map (λ (p : Lexeme × (Lexeme → Built Expr)). called (p.1 p.0)) (seq word args)) (word_with word args dot named called)
-  word_called word args =
-      through (to_alike (applied kind_of P (λ f w. called (f w)) word args))
-      (below_map (λ (p : Lexeme × (Lexeme → X)). p.1 p.0) (below_seq (itself word) (at_second (map (λ d w. named w d) dot) (itself (map (λ f w. called (f w)) args)))))
+    pub word_called : (word : The Lexeme) (args : The (Lexeme → Built Expr)) → Below (P variant) (map (λ (p : Lexeme × (Lexeme → Built Expr)). called (p.1 p.0)) (seq word args)) (word_with word args dot named called)
+    word_called word args =
+        through (to_alike (applied kind_of (P variant) (λ f w. called (f w)) word args))
+        (below_map (λ (p : Lexeme × (Lexeme → X)). p.1 p.0) (below_seq (itself word) (at_second (map (λ d w. named w d) dot) (itself (map (λ f w. called (f w)) args)))))
 
-  abbrev all_words : The X
-  all_words = words dot named called
+    abbrev all_words : The X
+    all_words = words dot named called
 
-  part_named : (f g : The Lexeme) → Below P (with_dot (alt f g)) (alt (with_dot f) (with_dot g))
-  part_named f g =
-      through (below_map (λ (p : Lexeme × D). named p.0 p.1) (of_alike (alt_seq kind_of P f g dot)))
-      (of_alike (map_alt kind_of P (λ (p : Lexeme × D). named p.0 p.1) (seq f dot) (seq g dot)))
+    part_named : (f g : The Lexeme) → Below (P variant) (with_dot (alt f g)) (alt (with_dot f) (with_dot g))
+    part_named f g =
+        through (below_map (λ (p : Lexeme × D). named p.0 p.1) (of_alike (alt_seq kind_of (P variant) f g dot)))
+        (of_alike (map_alt kind_of (P variant) (λ (p : Lexeme × D). named p.0 p.1) (seq f dot) (seq g dot)))
 
-  -- each name
-  pub any_named : Below P (with_dot name) all_words
-  any_named =
-      through (below_map (λ (p : Lexeme × D). named p.0 p.1) (below_seq name_parts (itself dot)))
-      (through (part_named (a k.Quoted) (alt called_word (alt (a k.Count) other_aggregate)))
-      (below_alt (itself (with_dot (a k.Quoted)))
-      (through (part_named called_word (alt (a k.Count) other_aggregate))
-      (below_alt (word_named called_word arguments)
-      (through (part_named (a k.Count) other_aggregate)
-      (below_alt (word_named (a k.Count) count_arguments) (word_named other_aggregate (parens one_argument))))))))
+    -- each name
+    pub any_named : Below (P variant) (with_dot name) all_words
+    any_named =
+        through (below_map (λ (p : Lexeme × D). named p.0 p.1) (below_seq name_parts (itself dot)))
+        (through (part_named (a k.Quoted) (alt called_word (alt (a k.Count) other_aggregate)))
+        (below_alt (itself (with_dot (a k.Quoted)))
+        (through (part_named called_word (alt (a k.Count) other_aggregate))
+        (below_alt (word_named called_word arguments)
+        (through (part_named (a k.Count) other_aggregate)
+        (below_alt (word_named (a k.Count) count_arguments) (word_named other_aggregate (parens one_argument))))))))
 
-  abbrev quoted_part : The X
-  quoted_part = with_dot (a k.Quoted)
+    abbrev quoted_part : The X
+    quoted_part = with_dot (a k.Quoted)
 
-  pub any_called : Below P (map (λ (p : Lexeme × (Lexeme → Built Expr)). called (p.1 p.0)) (seq called_word arguments)) all_words
-  any_called = at_second quoted_part (at_first _ (word_called called_word arguments))
+    pub any_called : Below (P variant) (map (λ (p : Lexeme × (Lexeme → Built Expr)). called (p.1 p.0)) (seq called_word arguments)) all_words
+    any_called = at_second quoted_part (at_first _ (word_called called_word arguments))
 
-  pub any_count : Below P (map (λ (p : Lexeme × (Lexeme → Built Expr)). called (p.1 p.0)) (seq (a k.Count) count_arguments)) all_words
-  any_count = at_second quoted_part (at_second _ (at_first _ (word_called (a k.Count) count_arguments)))
+    pub any_count : Below (P variant) (map (λ (p : Lexeme × (Lexeme → Built Expr)). called (p.1 p.0)) (seq (a k.Count) count_arguments)) all_words
+    any_count = at_second quoted_part (at_second _ (at_first _ (word_called (a k.Count) count_arguments)))
 
-  pub any_aggregate : Below P (map (λ (p : Lexeme × (Lexeme → Built Expr)). called (p.1 p.0)) (seq other_aggregate (parens one_argument))) all_words
-  any_aggregate = at_second quoted_part (at_second _ (at_second _ (word_called other_aggregate (parens one_argument))))
+    pub any_aggregate : Below (P variant) (map (λ (p : Lexeme × (Lexeme → Built Expr)). called (p.1 p.0)) (seq other_aggregate (parens one_argument))) all_words
+    any_aggregate = at_second quoted_part (at_second _ (at_second _ (word_called other_aggregate (parens one_argument))))

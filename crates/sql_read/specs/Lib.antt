@@ -14,3 +14,7 @@ pub mod QuerySamples
 pub mod QueryPlan
 pub mod PlanCopies
 pub mod QueryLookahead
+pub mod Reads
+pub mod Parts
+pub mod ReadingQueries
+pub mod ReadingEntries

@@ -13,7 +13,7 @@ use Rattle.sql_read.specs.Kinds.{Kind, kind_of}
 use Rattle.sql_read.specs.Numbering.{Built}
 use Rattle.sql_read.specs.QueryTrees as t
 use Rattle.sql_read.specs.QueryTrees.{Listed}
-use Rattle.sql_read.specs.QueryGrammar.{Production, Read, The, a, join_on, cross_join, block_with, rules, query, block, entry}
+use Rattle.sql_read.specs.QueryGrammar.{Production, Read, The, Froms, a, join_on, cross_join, rules_with, query, entry}
 use Rattle.sql_read.specs.Queries.{Begins}
 
 -- an entry after a comma, or one that is joined
@@ -40,12 +40,15 @@ parted (inl listed ∷ others) = let p = parted others in ([], t.entries listed 
 parted (inr joined ∷ others) = let p = parted others in (joined ∷ p.0, p.1)
 
 -- the items of FROM, from the first entry and all others
-abbrev pub items_of : Built Listed × List Further → Built (List Entry) × List (Built (List Entry))
+abbrev pub items_of : Built Listed × List Further → Froms
 items_of p = let q = parted p.1 in (t.entries p.0 q.0, q.1)
 
+-- the items of FROM, in one list with at most so many further entries
+abbrev pub few_froms : ℕ → The Froms
+few_froms most = map items_of (seq (ref entry) (further_entries most))
+
 abbrev pub few_rules : ℕ → Rules Lexeme Kind Production Read
-few_rules most block = block_with (map items_of (seq (ref entry) (further_entries most)))
-few_rules most other = rules other
+few_rules most = rules_with (few_froms most)
 
 -- entries that a block may have besides its first
 abbrev pub most_further : ℕ

@@ -248,39 +248,44 @@ insides more =
     (alt (map (λ p. inr (inl p)) (seq (in_parentheses (ref query)) more))
     (map (λ p. inr (inr p)) (seq (only not_sub (ref expr)) more)))
 
+-- the items of FROM, each with its entries
+abbrev pub Froms : Type 0
+Froms = Built (List Entry) × List (Built (List Entry))
+
 -- SELECT [DISTINCT] item {, item} FROM froms [WHERE expr] [GROUP BY ref {, ref}] [HAVING expr]
-abbrev pub block_with : The (Built (List Entry) × List (Built (List Entry))) → The (Built Query)
+abbrev pub block_with : The Froms → The (Built Query)
 block_with froms =
     map (λ p. t.block_of p.0 p.1.0 p.1.1.0 p.1.1.1.0 p.1.1.1.1.0 p.1.1.1.1.1)
     (skip_then (a k.Select) (seq (optional (a k.Distinct)) (seq (listed (ref item))
     (seq (skip_then (a k.From) froms)
     (seq (optional (skip_then (a k.Where) (ref expr))) (seq group_by (optional (skip_then (a k.Having) (ref expr)))))))))
 
-abbrev pub rules : Rules Lexeme Kind Production Read
-rules query = map (λ p. t.sets p.0 p.1) (seq (ref part) unions)
-rules part = map (λ p. t.sets p.0 p.1) (seq (ref operand) intersects)
-rules operand = alt (ref block) (parens (ref query))
-rules block = block_with (listed (ref from))
-rules item =
+-- with these items of FROM in each block
+abbrev pub rules_with : The Froms → Rules Lexeme Kind Production Read
+rules_with froms query = map (λ p. t.sets p.0 p.1) (seq (ref part) unions)
+rules_with froms part = map (λ p. t.sets p.0 p.1) (seq (ref operand) intersects)
+rules_with froms operand = alt (ref block) (parens (ref query))
+rules_with froms block = block_with froms
+rules_with froms item =
     alt (map t.star_item (a k.Star))
     (alt (map t.alias_star_item (then_skip name (seq (a k.Dot) (a k.Star))))
     (map (λ p. t.value_item p.0 p.1) (seq (ref expr) (optional alias))))
-rules from = map (λ p. t.entries p.0 p.1) (seq (ref entry) (star None (alt join_on cross_join)))
-rules entry =
+rules_with froms from = map (λ p. t.entries p.0 p.1) (seq (ref entry) (star None (alt join_on cross_join)))
+rules_with froms entry =
     alt (map (λ p. t.table_entry p.0 p.1) (seq name (optional alias)))
     (map (λ p. t.query_entry p.0 p.1) (seq (parens (ref query)) alias))
-rules reference = map t.column (seq (optional (then_skip name (a k.Dot))) name)
-rules expr = map (t.chained t.or_node) (seq (ref conj) ors)
-rules conj = map (t.chained t.and_node) (seq (ref neg) ands)
-rules neg = alt not_neg (ref test)
-rules test =
+rules_with froms reference = map t.column (seq (optional (then_skip name (a k.Dot))) name)
+rules_with froms expr = map (t.chained t.or_node) (seq (ref conj) ors)
+rules_with froms conj = map (t.chained t.and_node) (seq (ref neg) ands)
+rules_with froms neg = alt not_neg (ref test)
+rules_with froms test =
     alt exists
     (map (λ p. t.tested p.0 p.1) (seq (counted (ref value)) (optional (ref rest))))
-rules rest = alt comparison (alt in_query (alt in_list (alt between like)))
-rules value = map (λ p. t.operated p.0 p.1) (seq (ref term) sums)
-rules term = map (λ p. t.operated p.0 p.1) (seq (ref unary) products)
-rules unary = alt minus (ref primary)
-rules primary =
+rules_with froms rest = alt comparison (alt in_query (alt in_list (alt between like)))
+rules_with froms value = map (λ p. t.operated p.0 p.1) (seq (ref term) sums)
+rules_with froms term = map (λ p. t.operated p.0 p.1) (seq (ref unary) products)
+rules_with froms unary = alt minus (ref primary)
+rules_with froms primary =
     alt (map t.number_literal (a k.Number))
     (alt (map t.text_literal (a k.Text))
     (alt (map (λ x. plain x) (ref reference))
@@ -288,13 +293,16 @@ rules primary =
     (alt call
     (alt (parens (only not_sub (ref expr)))
     subquery)))))
-rules agg =
+rules_with froms agg =
     alt (map (λ p. t.count_rows p.0) (seq (a k.Count) (parens (a k.Star))))
     (map (λ p. t.aggregated p.0 p.1.0 p.1.1) (seq aggregate_word (parens (seq (optional (a k.Distinct)) (ref expr)))))
-rules set_tail = map (λ p. t.combined p.0 p.1) (seq intersects unions)
-rules and_tail = map (λ p. t.joined p.0 p.1) (seq ands ors)
-rules expr_tail =
+rules_with froms set_tail = map (λ p. t.combined p.0 p.1) (seq intersects unions)
+rules_with froms and_tail = map (λ p. t.joined p.0 p.1) (seq ands ors)
+rules_with froms expr_tail =
     map (λ p. t.continued p.0 p.1.0 p.1.1.0 p.1.1.1)
     (seq (counted (seq products sums)) (seq (optional (ref rest)) (seq ands ors)))
-rules inner = insides empty
-rules in_inner = insides commas
+rules_with froms inner = insides empty
+rules_with froms in_inner = insides commas
+
+abbrev pub rules : Rules Lexeme Kind Production Read
+rules = rules_with (listed (ref from))

@@ -11,7 +11,8 @@ use Rattle.sql_read.specs.Kinds.{Kind, kind_of}
 use Rattle.sql_read.specs.Numbering.{Built, plain}
 use Rattle.sql_read.specs.QueryTrees as t
 use Rattle.sql_read.specs.QueryTrees.{Left, Enclosed, Inside}
-use Rattle.sql_read.specs.QueryGrammar.{Production, Read, The, a, one_of, name, called_word, in_parentheses, parens, listed, alias, not_neg, exists, minus, commas, comparison, rules, query, part, operand, block, item, from, entry, reference, expr, conj, neg, test, rest, value, term, unary, primary, agg, set_tail, and_tail, expr_tail, inner, in_inner}
+use Rattle.sql_read.specs.QueryEntries.{few_froms}
+use Rattle.sql_read.specs.QueryGrammar.{Production, Read, The, Froms, block_with, a, one_of, name, called_word, in_parentheses, parens, listed, alias, not_neg, exists, minus, commas, comparison, rules, query, part, operand, block, item, from, entry, reference, expr, conj, neg, test, rest, value, term, unary, primary, agg, set_tail, and_tail, expr_tail, inner, in_inner}
 
 -- ---- first parts of expressions
 
@@ -155,36 +156,44 @@ plan_of_rest =
 
 -- ---- the plan
 
-abbrev pub plan : Rules Lexeme Kind Production Read
-plan item = plan_of_item
-plan reference = map (λ p. column_or p.0 p.1) (seq name dot_name)
+-- with these items of FROM in each block
+abbrev pub plan_with : The Froms → Rules Lexeme Kind Production Read
+plan_with froms item = plan_of_item
+plan_with froms reference = map (λ p. column_or p.0 p.1) (seq name dot_name)
   where
     column_or : Lexeme → Option Lexeme → Expr
     column_or word None = t.column (None, word)
     column_or qual (Some word) = t.column (Some qual, word)
-plan rest = plan_of_rest
-plan primary = alt literal (alt named_first enclosed_first)
-plan agg =
+plan_with froms rest = plan_of_rest
+plan_with froms primary = alt literal (alt named_first enclosed_first)
+plan_with froms agg =
     alt (map (λ p. p.1 p.0) (seq (a k.Count) count_arguments))
     (map (λ p. p.1 p.0) (seq other_aggregate (parens one_argument)))
-plan inner = plan_of_insides empty
-plan in_inner = plan_of_insides commas
-plan query = rules query
-plan part = rules part
-plan operand = rules operand
-plan block = rules block
-plan from = rules from
-plan entry = rules entry
-plan expr = rules expr
-plan conj = rules conj
-plan neg = rules neg
-plan test = rules test
-plan value = rules value
-plan term = rules term
-plan unary = rules unary
-plan set_tail = rules set_tail
-plan and_tail = rules and_tail
-plan expr_tail = rules expr_tail
+plan_with froms inner = plan_of_insides empty
+plan_with froms in_inner = plan_of_insides commas
+plan_with froms query = rules query
+plan_with froms part = rules part
+plan_with froms operand = rules operand
+plan_with froms block = block_with froms
+plan_with froms from = rules from
+plan_with froms entry = rules entry
+plan_with froms expr = rules expr
+plan_with froms conj = rules conj
+plan_with froms neg = rules neg
+plan_with froms test = rules test
+plan_with froms value = rules value
+plan_with froms term = rules term
+plan_with froms unary = rules unary
+plan_with froms set_tail = rules set_tail
+plan_with froms and_tail = rules and_tail
+plan_with froms expr_tail = rules expr_tail
+
+abbrev pub plan : Rules Lexeme Kind Production Read
+plan = plan_with (listed (ref from))
+
+-- with at most so many further entries in each block
+abbrev pub few_plan : ℕ → Rules Lexeme Kind Production Read
+few_plan most = plan_with (few_froms most)
 
 abbrev pub of_plan : Room → (p : Production) → Language Lexeme (Read p)
 of_plan room p = language kind_of plan room p

@@ -17,6 +17,7 @@ use Rattle.sql_model.specs.declared.tree.Query.TheVariants as query
 use Rattle.sql_model.specs.Syntax as s
 use Rattle.sql_model.specs.Syntax.{Name, SetOp, AggFun}
 use Rattle.sql_lex.specs.Lexemes.{Lexeme}
+pub use Rattle.sql_read.specs.declared.listed.Listed.{Listed}
 use Rattle.sql_read.specs.Kinds as k
 use Rattle.sql_read.specs.Kinds.{Kind, kind_of}
 use Rattle.sql_read.specs.TokenValues.{name_of, inside, normalised}
@@ -224,25 +225,21 @@ alias_star_item alias = plain (item.AliasStar (name_of alias) alias.start)
 abbrev pub value_item : Built Expr → Option Lexeme → Built Item
 value_item value alias = mapped (λ x. item.Value x (name_of_alias alias)) value
 
--- an entry, before it is known how it is joined
-pub record Listed : Type 0 where
-  pub source : Source
-  pub alias : Name
-  pub at : ℕ
+abbrev pub listed_table : Lexeme → Lexeme → Listed
+listed_table table alias = record { source = source.Named (name_of table) table.start; alias = name_of alias; at = alias.start }
+
+abbrev pub listed_query : Lexeme → Query → Listed
+listed_query alias x = record { source = source.Query x; alias = name_of alias; at = alias.start }
 
 abbrev pub table_entry : Lexeme → Option Lexeme → Built Listed
-table_entry table None = plain (record { source = source.Named (name_of table) table.start; alias = name_of table; at = table.start })
-table_entry table (Some alias) = plain (record { source = source.Named (name_of table) table.start; alias = name_of alias; at = alias.start })
+table_entry table None = plain (listed_table table table)
+table_entry table (Some alias) = plain (listed_table table alias)
 
 abbrev pub query_entry : Built Query → Lexeme → Built Listed
-query_entry q alias = mapped (λ x. record { source = source.Query x; alias = name_of alias; at = alias.start }) q
+query_entry q alias = mapped (listed_query alias) q
 
 abbrev pub entry_of : Bool → Option Expr → Listed → Entry
 entry_of joined on listed = roll-Entry (record { source = listed.source; alias = listed.alias; at = listed.at; joined = joined; on = on })
-
--- an entry without a condition
-abbrev pub entry_alone : Bool → Built Listed → Built Entry
-entry_alone joined listed = mapped (entry_of joined None) listed
 
 abbrev pub joined_on : Built Listed → Built Expr → Built Entry
 joined_on listed on = mapped (λ p. entry_of true (Some p.1) p.0) (both listed on)
@@ -259,18 +256,25 @@ abbrev pub concatenated : {X : Type 0} → List (List X) → List X
 concatenated [] = []
 concatenated (xs ∷ others) = xs ++ concatenated others
 
-abbrev block_tree : Bool → List Item → List (List Entry) → Option Expr → Option (List Expr) → Option Expr → Query
-block_tree distinct items froms cond groups having = query.Block (roll-Block (record {
+abbrev pub block_node : Bool → List Item → List Entry → Option Expr → Option (List Expr) → Option Expr → Query
+block_node distinct items entries cond groups having = query.Block (roll-Block (record {
   distinct = distinct;
   items = items;
-  entries = concatenated froms;
+  entries = entries;
   cond = cond;
   groups = groups;
   having = having;
 }))
 
+abbrev block_tree : Bool → List Item → List (List Entry) → Option Expr → Option (List Expr) → Option Expr → Query
+block_tree distinct items froms cond groups having = block_node distinct items (concatenated froms) cond groups having
+
 abbrev pub all_of : {X : Type 0} → X × List X → List X
 all_of p = p.0 ∷ p.1
+
+-- entries behind others
+abbrev pub appended : Built (List Entry) → Built (List Entry) → Built (List Entry)
+appended before read = mapped (λ p. p.0 ++ p.1) (both before read)
 
 -- the entries of all items of FROM
 abbrev pub all_entries : Built (List Entry) × List (Built (List Entry)) → Built (List Entry)

@@ -12,8 +12,8 @@ ghost use Rattle.sql_read.specs.Numbering.{Built, Numbers};
 ghost use Rattle.sql_read.specs.Queries.{Begins, IsTooDeep, Spells, of_production, queries, shallow_queries};
 ghost use Rattle.sql_read.specs.Cursor.{most_copies};
 ghost use Rattle.sql_read.specs.QueryCopies.{CopiesOf, IsCopyTooMany};
-ghost use Rattle.sql_read.specs.QueryEntries.{IsEntryTooMany, few_queries, few_rules};
-ghost use Rattle.sql_read.specs.QueryPlan.{of_plan};
+ghost use Rattle.sql_read.specs.QueryEntries.{IsEntryTooMany, few_queries, few_rules, most_further};
+ghost use Rattle.sql_read.specs.QueryPlan.{few_plan, of_plan};
 ghost use Rattle.sql_read.specs.PlanCopies.{CopiesTooMuch, HasCopied, copies_nothing};
 ghost use Rattle.sql_read.specs.QueryLookahead.{table};
 ghost use Rattle.sql_read.specs.QueryGrammar.{Production, Read, query, rules};
@@ -94,6 +94,13 @@ pub fn lookahead()
 pub fn same_languages()
     ensures planned { (room : Room) (p : Production) → Includes (of_plan room p) (of_production room p) }
     ensures known { (room : Room) (p : Production) → Includes (of_production room p) (of_plan room p) }
+{}
+
+/// With few entries in each block too, the plan spells and begins what the grammar does.
+pub fn few_languages()
+    ensures planned { (room : Room) (p : Production) → Includes (language kind_of (few_plan most_further) room p) (language kind_of (few_rules most_further) room p) }
+    ensures known { (room : Room) (p : Production) → Includes (language kind_of (few_rules most_further) room p) (language kind_of (few_plan most_further) room p) }
+    ensures fewer { (room : Room) (p : Production) → Includes (of_plan room p) (language kind_of (few_plan most_further) room p) }
 {}
 
 /// A query that is computed from tokens is spelled by them.

@@ -1,0 +1,154 @@
+-- What the function for queries reads is read of the grammar.
+use Rattle.std.proofs.Common.{◌≡◌, ℕ, List, [], ◌∷◌, ◌++◌, Some, None, refl, sym, ◌∙◌, ap, subst, append_assoc, arith}
+use Rattle.std.proofs.lemmas.List.{append_cancel_right}
+use Rattle.grammar.specs.Form.{ref, language}
+use Rattle.grammar.specs.Reading.{Took, Failed, Exceeded, Passes}
+use Rattle.grammar.proofs.Heights.{name_fronts, name_grows}
+use Rattle.grammar.proofs.Longest.{took_longest, failed_longest}
+use Rattle.grammar.proofs.Steps.{Same, took_in, failed_in, exceeded_in}
+use Rattle.sql_lex.specs.Lexemes.{Lexeme}
+use Rattle.sql_model.specs.declared.tree.Query.{Query}
+use Rattle.sql_read.specs.declared.fault.ReadFault.{ReadFault}
+use Rattle.sql_read.specs.declared.fault.ReadFault.TheVariants.{Lex, Unexpected, LeftOut, TooDeep, Limit, NoMemory}
+use Rattle.sql_read.specs.declared.fault.LimitKind.{LimitKind}
+use Rattle.sql_read.specs.declared.fault.LimitKind.TheVariants as limit
+use Rattle.sql_read.specs.Cursor.{Cursor, next}
+use Rattle.sql_read.specs.Eating.{Extends, IsNextAt}
+use Rattle.sql_read.specs.Kinds.{kind_of}
+use Rattle.sql_read.specs.Numbering.{Built}
+use Rattle.sql_read.specs.Queries.{IsShallow, IsTooDeep, most_levels, queries, shallow_queries}
+use Rattle.sql_read.specs.QueryGrammar.{query, rules}
+use Rattle.sql_read.specs.QueryPlan.{plan}
+use Rattle.sql_read.specs.QueryEntries.{few_queries, most_further}
+use Rattle.sql_read.specs.ReadingQueries.{IsAtEnd, IsLimited, IsRead, IsRefused, IsUnfinished, Keeps, PassesLimits}
+use Rattle.sql_read.specs.Reads.{entries_too, few_form, of_form, Fails, Exceeds, Gives, Refuses, SaysLimit}
+use Rattle.sql_read.specs.Refusals.{refusal_of}
+use Rattle.sql_read.proofs.FewPlan.{few_plan_includes, few_rules_include}
+use Rattle.sql_read.proofs.PlanKnown.{grammar_includes}
+use Rattle.sql_read.proofs.QueryKnown.{plan_includes}
+
+free_same : Same (language kind_of plan None query) queries
+free_same = record { there = grammar_includes None query; back = plan_includes None query }
+
+shallow_same : Same (language kind_of plan (Some most_levels) query) shallow_queries
+shallow_same = record { there = grammar_includes (Some most_levels) query; back = plan_includes (Some most_levels) query }
+
+few_there : (ts : List Lexeme) → (few_form (ref query)).front ts → few_queries.front ts
+unfolding few_form
+few_there ts f = (few_rules_include most_further (omega arith) None query).front ts f
+
+few_back : (ts : List Lexeme) → few_queries.front ts → (few_form (ref query)).front ts
+unfolding few_form
+few_back ts f = (few_plan_includes most_further (omega arith) None query).front ts f
+
+few_spelled : (ts : List Lexeme) (read : Built Query) → (few_form (ref query)).spells ts read → few_queries.spells ts read
+unfolding few_form
+few_spelled ts read s = (few_rules_include most_further (omega arith) None query).spells ts read s
+
+-- what is a front within the limits passes them nowhere
+is_shallow : (taken : List Lexeme) → shallow_queries.front taken → IsShallow taken
+is_shallow taken s x y t e d =
+    let f = name_fronts kind_of rules (Some most_levels) query in d.too_deep (f.shorter (x ++ t ∷ []) y (subst shallow_queries.front (e ∙ sym (append_assoc x (t ∷ []) y)) s))
+
+same_taken : (start rest x y : List Lexeme) → start ≡ x ++ rest → start ≡ y ++ rest → x ≡ y
+same_taken start rest x y e i = append_cancel_right x y rest (sym e ∙ i)
+
+pub read_whole : {before after : Cursor} {q : Query} → Gives (ref query) most_levels (λ read. read) before before q after → Extends before after → IsRead before q after
+read_whole {before} {after} g x =
+    let t = took_in _ _ _ _ free_same shallow_same before.tokens g.read after.tokens g.takes.took in
+    let few = g.takes.few tt in
+    record {
+      taken = t.taken;
+      whole = t.whole;
+      leading = took_longest kind_of rules query most_levels before.tokens after.tokens g.read t;
+      read = g.read;
+      spelled = (name_grows kind_of rules (Some most_levels) None tt query).spells t.taken g.read t.spelled;
+      built = g.builds.numbers;
+      copied = g.builds.copies;
+      shallow = is_shallow t.taken ((name_fronts kind_of rules (Some most_levels) query).spelled t.taken g.read t.spelled);
+      few = subst (λ z. few_queries.spells z g.read) (same_taken before.tokens after.tokens few.taken t.taken few.whole t.whole) (few_spelled few.taken g.read few.spelled);
+      fault = x.fault;
+      end = x.end;
+    }
+
+unfinished : {before after : Cursor} {fault : ReadFault} → Fails entries_too (ref query) (few_form (ref query)) most_levels before fault after → Extends before after → IsUnfinished before fault
+unfinished {before} {after} r x =
+    let t = failed_in _ _ _ _ free_same shallow_same before.tokens after.tokens r.failed in
+    let few = r.few tt in
+    record {
+      taken = t.taken;
+      rest = after.tokens;
+      whole = t.whole;
+      leading = failed_longest kind_of rules query most_levels before.tokens after.tokens t;
+      unspelled = t.unspelled;
+      shallow = is_shallow t.taken t.begun;
+      few = subst few_queries.front (same_taken before.tokens after.tokens few.taken t.taken few.whole t.whole) (few_there few.taken few.begun);
+      refused = r.refused ∙ ap (λ end. refusal_of end (next after.tokens after.fault)) x.end ∙ ap (λ f. refusal_of before.end (next after.tokens f)) x.fault;
+    }
+
+passes : (before : Cursor) (taken rest : List Lexeme) (at : ℕ) → before.tokens ≡ taken ++ rest → shallow_queries.front taken → Passes queries shallow_queries taken rest → few_queries.front taken → IsNextAt at rest
+    → PassesLimits before at
+passes before taken [] at e f p i n = absurd p
+passes before taken (t ∷ rest) at e f p i n = record {
+  taken = taken;
+  token = t;
+  rest = rest;
+  whole = e;
+  too_deep = record { goes_on = p.0; shallow_before = f; too_deep = p.1 };
+  few = i;
+  place = n;
+}
+
+passed : {before after : Cursor} {at : ℕ} → Exceeds entries_too (ref query) (few_form (ref query)) most_levels before at after → PassesLimits before at
+passed {before} {after} {at} r =
+    let t = exceeded_in _ _ _ _ free_same shallow_same before.tokens after.tokens r.exceeded in
+    let few = r.few tt in
+    passes before t.taken after.tokens at t.whole t.begun t.passes (subst few_queries.front (same_taken before.tokens after.tokens few.taken t.taken few.whole t.whole) (few_there few.taken few.begun)) r.place
+
+-- ---- an entry too many
+
+limited : (before after : Cursor) (what : LimitKind) → SaysLimit entries_too (ref query) (few_form (ref query)) most_levels before what after → IsLimited before what
+limited before after limit.Entries r = record {
+  taken = e.taken;
+  token = r.token;
+  rest = r.more;
+  whole = whole;
+  too_many = record { goes_on = free_same.there.front _ past.0; few_before = few_there e.taken e.begun; too_many = λ f. past.1 (few_back _ f) };
+  shallow = is_shallow _ (subst shallow_queries.front taken_on (shallow_same.there.front _ r.goes_on.begun));
+}
+  where
+    e : Exceeded (of_form None (ref query)) (few_form (ref query)) before.tokens after.tokens
+    e = r.few tt
+
+    whole : before.tokens ≡ e.taken ++ r.token ∷ r.more
+    whole = e.whole ∙ ap (λ z. e.taken ++ z) r.next
+
+    past : Passes (of_form None (ref query)) (few_form (ref query)) e.taken (r.token ∷ r.more)
+    past = subst (λ z. Passes (of_form None (ref query)) (few_form (ref query)) e.taken z) r.next e.passes
+
+    taken_on : r.goes_on.taken ≡ e.taken ++ r.token ∷ []
+    taken_on = same_taken before.tokens r.more r.goes_on.taken (e.taken ++ r.token ∷ []) r.goes_on.whole (whole ∙ sym (append_assoc e.taken (r.token ∷ []) r.more))
+limited before after limit.Columns r = tt
+limited before after limit.Relations r = tt
+limited before after limit.Copies r = tt
+
+pub refused_whole : {before after : Cursor} {fault : ReadFault} → Refuses (ref query) most_levels before fault after → Extends before after → IsRefused before fault
+refused_whole {fault = Lex fault} r x = unfinished r.says x
+refused_whole {fault = Unexpected at} r x = unfinished r.says x
+refused_whole {fault = LeftOut word at} r x = unfinished r.says x
+refused_whole {fault = TooDeep at} r x = passed r.says
+refused_whole {before} {after} {fault = Limit what} r x = limited before after what r.says
+refused_whole {fault = NoMemory} r x = tt
+
+pub keeps : {before after : Cursor} → Extends before after → Keeps before after
+keeps x = record { literals = x.literals; symbols = x.symbols; copies = x.copies }
+
+-- the cursor at the end of the text
+abbrev pub stopped_at : Cursor → Cursor
+stopped_at cursor = record cursor { tokens = []; fault = None }
+
+pub at_end : {before after end : Cursor} → end ≡ stopped_at after → Extends before after → IsAtEnd before end
+at_end {before} {after} e x = subst (λ z. IsAtEnd before z) (sym e) (record { tokens = refl; fault = refl; end = x.end })
+
+pub keeps_to_end : {before after end : Cursor} → end ≡ stopped_at after → Extends before after → Keeps before end
+keeps_to_end {before} {after} e x = subst (λ z. Keeps before z) (sym e) (record { literals = x.literals; symbols = x.symbols; copies = x.copies })

@@ -1,0 +1,47 @@
+use Rattle.std.proofs.Common.{refl, arith, []}
+use Rattle.sql_read.specs.Numbering.{plain}
+use Rattle.sql_read.specs.Kinds as k
+use Rattle.sql_read.specs.Kinds.{same, among}
+use Rattle.sql_read.proofs.Extending.{◌⨟◌, extends_itself, extends_misses, extends_overflows, extends_passes, extends_stays, extends_still, extends_within, shorter}
+use Rattle.sql_read.proofs.ReadBlocks.{alike_eats, extends_eats}
+use Rattle.sql_read.proofs.ReadPassing.{◌then◌, alike_passes, alike_stays, alike_within, built_from, built_until, handed_on, overflows_alone, reads_from, stays_alone, within_alone}
+use Rattle.sql_read.proofs.ReadSteps.{blocks, built_as, built_map, built_both, exits, first_part, gives, mapped, missed, eaten, plain_here, refuses, second, took_token, whole, before}
+use Rattle.sql_read.proofs.ReadEntries.{table_built}
+use Rattle.sql_read.proofs.reading.entry.table_entry.Goals as goal
+
+pub returns-in_err-table-clause-reads : goal.returns-in_err-table-clause-reads
+returns-in_err-table-clause-reads c = λ levels. exits c.from_residual.ensures.1 (refuses (first_part whole refl) (missed c.in_err-table.ensures))
+
+pub returns-in_err-table-clause-extends : goal.returns-in_err-table-clause-extends
+returns-in_err-table-clause-extends c = extends_misses c.in_err-table.ensures
+
+pub returns-in_err-alias-clause-reads : goal.returns-in_err-alias-clause-reads
+returns-in_err-alias-clause-reads c = λ levels.
+    exits c.from_residual-in_err-alias.ensures.1 (refuses (blocks (second whole refl (took_token levels c.in_ok-table.ensures))) (c.in_err-alias.ensures.reads levels).answers)
+
+pub returns-in_err-alias-clause-extends : goal.returns-in_err-alias-clause-extends
+returns-in_err-alias-clause-extends c = extends_passes c.in_ok-table.ensures ⨟ c.in_err-alias.ensures.extends
+
+pub returns-in_err-listed_table-in-Some-clause-extends : goal.returns-in_err-listed_table-in-Some-clause-extends
+returns-in_err-listed_table-in-Some-clause-extends c = extends_passes c.in_ok-table.ensures ⨟ c.in_ok-alias.ensures.extends
+
+pub returns-in_ok-listed_table-in-Some-clause-reads : goal.returns-in_ok-listed_table-in-Some-clause-reads
+returns-in_ok-listed_table-in-Some-clause-reads c = λ levels.
+    let x = rw c.in-Some.is at (c.in_ok-alias.ensures.reads levels) in
+    let table = c.in_ok-table.ensures in
+    record { answers = gives (second whole refl (took_token levels table)) x.answers.read x.answers.takes (built_as c.in_ok-listed_table-in-Some.ensures (table_built table x.answers.builds)) }
+
+pub returns-in_ok-listed_table-in-Some-clause-extends : goal.returns-in_ok-listed_table-in-Some-clause-extends
+returns-in_ok-listed_table-in-Some-clause-extends c = extends_passes c.in_ok-table.ensures ⨟ c.in_ok-alias.ensures.extends
+
+pub returns-in_err-listed_table-in-None-clause-extends : goal.returns-in_err-listed_table-in-None-clause-extends
+returns-in_err-listed_table-in-None-clause-extends c = extends_passes c.in_ok-table.ensures ⨟ c.in_ok-alias.ensures.extends
+
+pub returns-in_ok-listed_table-in-None-clause-reads : goal.returns-in_ok-listed_table-in-None-clause-reads
+returns-in_ok-listed_table-in-None-clause-reads c = λ levels.
+    let x = rw c.in-None.is at (c.in_ok-alias.ensures.reads levels) in
+    let table = c.in_ok-table.ensures in
+    record { answers = gives (second whole refl (took_token levels table)) x.answers.read x.answers.takes (built_as c.in_ok-listed_table-in-None.ensures (table_built table x.answers.builds)) }
+
+pub returns-in_ok-listed_table-in-None-clause-extends : goal.returns-in_ok-listed_table-in-None-clause-extends
+returns-in_ok-listed_table-in-None-clause-extends c = extends_passes c.in_ok-table.ensures ⨟ c.in_ok-alias.ensures.extends

@@ -1,0 +1,30 @@
+use Rattle.std.proofs.Common.{inl, refl, Some, None}
+use Rattle.sql_read.proofs.Extending.{◌⨟◌, extends_passes, extends_misses}
+use Rattle.sql_read.proofs.ReadSteps.{before, built_as, blocks, eaten, exits, gives, mapped, missed, none_taken, plain_here, plain_still, refuses, some_left, starts, took_token, whole}
+use Rattle.sql_read.proofs.reading.primary.column.Goals as goal
+
+pub returns-in_default-clause-reads : goal.returns-in_default-clause-reads
+returns-in_default-clause-reads c = λ levels. record {
+  answers =
+      gives whole None (none_taken levels refl refl c.in_default.ensures) (built_as c.in_ok-bare_column.ensures (plain_still c.in_default.ensures.still));
+}
+
+pub returns-in_err-name-clause-reads : goal.returns-in_err-name-clause-reads
+returns-in_err-name-clause-reads c = λ levels.
+    let dot = c.in-Some.ensures in
+    exits c.from_residual-in_err-name.ensures.1
+    (refuses (blocks (eaten (mapped (some_left whole refl dot (inl (starts dot)))) refl dot)) (missed c.in_err-name.ensures))
+
+pub returns-in_err-name-clause-extends : goal.returns-in_err-name-clause-extends
+returns-in_err-name-clause-extends c = extends_passes c.in-Some.ensures ⨟ extends_misses c.in_err-name.ensures
+
+pub returns-clause-reads : goal.returns-clause-reads
+returns-clause-reads c = λ levels.
+    let dot = c.in-Some.ensures in let name = c.in_ok-name.ensures in
+    record {
+      answers = gives (eaten (mapped (some_left whole refl dot (inl (starts dot)))) refl dot) _ (took_token levels name)
+          (built_as c.in_ok-qualified_column.ensures (before (before plain_here dot) name));
+    }
+
+pub returns-clause-extends : goal.returns-clause-extends
+returns-clause-extends c = extends_passes c.in-Some.ensures ⨟ extends_passes c.in_ok-name.ensures

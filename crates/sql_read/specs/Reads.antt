@@ -1,0 +1,169 @@
+-- What the reading functions do. Each takes the longest list of tokens that begins a form of the plan, and answers what it spells, or
+-- refuses the token at which it stops.
+use Rattle.std.specs.Prelude.{ℕ, ◌+◌, ◌≡◌, ◌<◌, ◌∷◌, Bool, true, length, List, Option, Some, None, Result, Ok, Err, false}
+use Rattle.grammar.specs.Form.{Room, form_language, language}
+use Rattle.grammar.specs.Language.{Language}
+use Rattle.grammar.specs.Lookahead.{lookahead}
+use Rattle.grammar.specs.Reading.{Took, Failed, Exceeded, Began}
+use Rattle.sql_lex.specs.declared.token.Token.{Token}
+use Rattle.sql_lex.specs.Lexemes.{Lexeme, lexeme_of}
+use Rattle.sql_lex.specs.declared.token.LexFault.{LexFault}
+use Rattle.sql_read.specs.declared.fault.ReadFault.{ReadFault}
+use Rattle.sql_read.specs.declared.fault.ReadFault.TheVariants.{Lex, Unexpected, LeftOut, TooDeep, Limit, NoMemory}
+use Rattle.sql_read.specs.declared.fault.LimitKind.{LimitKind}
+use Rattle.sql_read.specs.declared.fault.LimitKind.TheVariants as limit
+use Rattle.sql_read.specs.Cursor.{Cursor}
+use Rattle.sql_read.specs.Eating.{IsNextAt, Overflows, Stays, is_next}
+use Rattle.sql_read.specs.Kinds.{Kind, kind_of}
+use Rattle.sql_read.specs.Numbering.{Built}
+use Rattle.sql_read.specs.QueryGrammar.{The}
+use Rattle.sql_read.specs.QueryLookahead.{table}
+use Rattle.sql_read.specs.QueryEntries.{most_further}
+use Rattle.sql_read.specs.QueryPlan.{few_plan, plan}
+use Rattle.sql_read.specs.Refusals.{refusal}
+
+-- the language of a form of the plan
+abbrev pub of_form : {A : Type 0} → Room → The A → Language Lexeme A
+of_form room f = form_language kind_of (language kind_of plan) room f
+
+-- and where no block has too many entries
+unfoldable pub few_form : {A : Type 0} → The A → Language Lexeme A
+few_form f = form_language kind_of (language kind_of (few_plan most_further)) None f
+
+-- of which limits a reading tells: of that on depth and length alone, or of that on the entries of blocks too
+pub data Told : Type 0 where
+  depth_alone : Told
+  entries_too : Told
+
+abbrev pub TellsEntries : Told → Type 0
+TellsEntries depth_alone = ⊥
+TellsEntries entries_too = Unit {0}
+
+-- ---- what is built
+
+-- built from the numbers at the start it is this value, with the numbers at the end, and all that was copied on the way was copied in it
+pub record Builds {A : Type 0} (built : Built A) (start : Cursor) (value : A) (end : Cursor) : Type 0 where
+  pub numbers : built.build start.numbers ≡ (value, end.numbers)
+  pub copies : end.copies ≡ start.copies + built.copies
+
+-- a part of so many tokens that was built on the way from the start to here
+pub record IsBuilt {A : Type 0} (built : Built A) (count : ℕ) (start : Cursor) (value : A) (here : Cursor) : Type 0 where
+  pub builds : Builds built start value here
+  pub counted : here.passed ≡ start.passed + count
+
+-- ---- what is read
+
+-- In these B is what may be read of the form where no block has too many entries.
+
+-- the tokens up to the rest spell the value, and no more goes on
+pub record TakesWithin {V : Type 0} (told : Told) (f : The V) (B : Language Lexeme V) (levels : ℕ) (here : List Lexeme) (value : V) (rest : List Lexeme) : Type 0 where
+  pub took : Took (of_form None f) (of_form (Some levels) f) here value rest
+  pub few : TellsEntries told → Took (of_form None f) B here value rest
+
+abbrev pub Takes : {V : Type 0} → The V → ℕ → List Lexeme → V → List Lexeme → Type 0
+Takes f levels here value rest = TakesWithin entries_too f (few_form f) levels here value rest
+
+-- the longest front was read, and spells something that is built as h says
+pub record GivesWithin {V A : Type 0} (told : Told) (f : The V) (B : Language Lexeme V) (levels : ℕ) (h : V → Built A) (start before : Cursor) (value : A) (after : Cursor) : Type 0 where
+  pub read : V
+  pub takes : TakesWithin told f B levels before.tokens read after.tokens
+  pub builds : Builds (h read) start value after
+
+abbrev pub Gives : {V A : Type 0} → The V → ℕ → (V → Built A) → Cursor → Cursor → A → Cursor → Type 0
+Gives f levels h start before value after = GivesWithin entries_too f (few_form f) levels h start before value after
+
+-- the longest front was read, and spells nothing; what stands next is refused
+pub record Fails {V : Type 0} (told : Told) (f : The V) (B : Language Lexeme V) (levels : ℕ) (before : Cursor) (fault : ReadFault) (after : Cursor) : Type 0 where
+  pub failed : Failed (of_form None f) (of_form (Some levels) f) before.tokens after.tokens
+  pub few : TellsEntries told → Failed (of_form None f) B before.tokens after.tokens
+  pub refused : fault ≡ refusal after
+
+-- the next token goes on, but passes the limits on depth and length
+pub record Exceeds {V : Type 0} (told : Told) (f : The V) (B : Language Lexeme V) (levels : ℕ) (before : Cursor) (at : ℕ) (after : Cursor) : Type 0 where
+  pub exceeded : Exceeded (of_form None f) (of_form (Some levels) f) before.tokens after.tokens
+  pub few : TellsEntries told → Began B before.tokens after.tokens
+  pub place : IsNextAt at after.tokens
+
+-- the next token goes on within those limits, but begins an entry too many
+pub record Crowds {V : Type 0} (told : Told) (f : The V) (B : Language Lexeme V) (levels : ℕ) (before after : Cursor) : Type 0 where
+  pub token : Lexeme
+  pub more : List Lexeme
+  pub next : after.tokens ≡ token ∷ more
+  pub goes_on : Began (of_form (Some levels) f) before.tokens more
+  pub few : TellsEntries told → Exceeded (of_form None f) B before.tokens after.tokens
+
+-- what each limit on a count says; of the count of copies other clauses speak
+abbrev pub SaysLimit : {V : Type 0} → Told → The V → Language Lexeme V → ℕ → Cursor → LimitKind → Cursor → Type 0
+SaysLimit told f B levels before limit.Entries after = Crowds told f B levels before after
+SaysLimit told f B levels before other after = Unit {0}
+
+-- what each fault says; want of memory may come anywhere
+abbrev pub Says : {V : Type 0} → Told → The V → Language Lexeme V → ℕ → Cursor → ReadFault → Cursor → Type 0
+Says told f B levels before (Lex fault) after = Fails told f B levels before (Lex fault) after
+Says told f B levels before (Unexpected at) after = Fails told f B levels before (Unexpected at) after
+Says told f B levels before (LeftOut word at) after = Fails told f B levels before (LeftOut word at) after
+Says told f B levels before (TooDeep at) after = Exceeds told f B levels before at after
+Says told f B levels before (Limit what) after = SaysLimit told f B levels before what after
+Says told f B levels before NoMemory after = Unit {0}
+
+pub record RefusesWithin {V : Type 0} (told : Told) (f : The V) (B : Language Lexeme V) (levels : ℕ) (before : Cursor) (fault : ReadFault) (after : Cursor) : Type 0 where
+  pub says : Says told f B levels before fault after
+
+abbrev pub Refuses : {V : Type 0} → The V → ℕ → Cursor → ReadFault → Cursor → Type 0
+Refuses f levels before fault after = RefusesWithin entries_too f (few_form f) levels before fault after
+
+abbrev pub Answers : {V A : Type 0} → Told → The V → Language Lexeme V → ℕ → (V → Built A) → Cursor → Cursor → Result A ReadFault → Cursor → Type 0
+Answers told f B levels h start before (Ok value) after = GivesWithin told f B levels h start before value after
+Answers told f B levels h start before (Err fault) after = RefusesWithin told f B levels before fault after
+
+-- With so many levels left the form was read from `before` to `after`; what it gives is built from the start, which may lie further back.
+pub record ReadsWithin {V A : Type 0} (told : Told) (f : The V) (B : Language Lexeme V) (levels : ℕ) (h : V → Built A) (start before : Cursor) (result : Result A ReadFault) (after : Cursor) : Type 0 where
+  pub answers : Answers told f B levels h start before result after
+
+abbrev pub Reads : {V A : Type 0} → The V → ℕ → (V → Built A) → Cursor → Cursor → Result A ReadFault → Cursor → Type 0
+Reads f levels h start before result after = ReadsWithin entries_too f (few_form f) levels h start before result after
+
+-- none of the form stands next
+pub record Lacks {V : Type 0} (f : The V) (before after : Cursor) : Type 0 where
+  pub still : after ≡ before
+  pub not_next : is_next (lookahead table f).first before.tokens ≡ false
+
+abbrev pub AnswersNextWithin : {V A : Type 0} → The V → Language Lexeme V → ℕ → (V → Built A) → Cursor → Result (Option A) ReadFault → Cursor → Type 0
+AnswersNextWithin f B levels h before (Ok (Some value)) after = GivesWithin entries_too f B levels h before before value after
+AnswersNextWithin f B levels h before (Ok None) after = Lacks f before after
+AnswersNextWithin f B levels h before (Err fault) after = RefusesWithin entries_too f B levels before fault after
+
+abbrev pub AnswersNext : {V A : Type 0} → The V → ℕ → (V → Built A) → Cursor → Result (Option A) ReadFault → Cursor → Type 0
+AnswersNext f levels h before result after = AnswersNextWithin f (few_form f) levels h before result after
+
+-- the same, if the form stands next
+pub record ReadsNextWithin {V A : Type 0} (f : The V) (B : Language Lexeme V) (levels : ℕ) (h : V → Built A) (before : Cursor) (result : Result (Option A) ReadFault) (after : Cursor) : Type 0 where
+  pub answers : AnswersNextWithin f B levels h before result after
+
+abbrev pub ReadsNext : {V A : Type 0} → The V → ℕ → (V → Built A) → Cursor → Result (Option A) ReadFault → Cursor → Type 0
+ReadsNext f levels h before result after = ReadsNextWithin f (few_form f) levels h before result after
+
+-- A form that begins with one of these kinds was read, and there was room for it; nothing was numbered or copied in it.
+pub record ReadsWord {V : Type 0} (f : The V) (p : Kind → Bool) (room : ℕ) (before : Cursor) (value : V) (after : Cursor) : Type 0 where
+  pub takes : (levels : ℕ) → Takes f levels before.tokens value after.tokens
+  pub next : is_next p before.tokens ≡ true
+  pub room_left : 0 < room
+  pub fewer : length after.tokens < length before.tokens
+  pub numbers : after.numbers ≡ before.numbers
+  pub copies : after.copies ≡ before.copies
+
+-- the same, if it stands next; where there is no room for it, it is too deep
+abbrev pub ReadsWordNext : {V : Type 0} → The V → (Kind → Bool) → ℕ → Cursor → Result (Option V) ReadFault → Cursor → Type 0
+ReadsWordNext f p room before (Ok (Some value)) after = ReadsWord f p room before value after
+ReadsWordNext f p room before (Ok None) after = Stays p before after
+ReadsWordNext f p room before (Err fault) after = Overflows p room before fault after
+
+-- ---- tokens that are handed on, as contracts see them
+abbrev pub read_lexeme : Result Token ReadFault → Result Lexeme ReadFault
+read_lexeme (Ok token) = Ok (lexeme_of token)
+read_lexeme (Err fault) = Err fault
+
+abbrev pub read_lexeme_if_any : Result (Option Token) ReadFault → Result (Option Lexeme) ReadFault
+read_lexeme_if_any (Ok None) = Ok None
+read_lexeme_if_any (Ok (Some token)) = Ok (Some (lexeme_of token))
+read_lexeme_if_any (Err fault) = Err fault

@@ -1,0 +1,62 @@
+//! Entries of FROM, before it is known how they are joined.
+ghost use Rattle.std.specs.Prelude.{◌≡◌, ◌<◌, ◌^◌, IfOk};
+ghost use Rattle.sql_lex.specs.Lexemes.{lexeme_of};
+ghost use Rattle.sql_read.specs.QueryTrees.{entry_of, listed_query, listed_table};
+
+use crate::tokens::place;
+use crate::values::name_in;
+use plain_data::Boxed;
+use sql_lex::Token;
+use sql_model::{Entry, Expr, Name, NoMemory, Query, Source};
+use std::alloc::Global;
+
+/// What an entry takes its rows from, with the name that it has and the place of that name.
+#[derive(Drop)]
+pub struct Listed {
+    pub source: Source,
+    pub alias: Name,
+    pub at: u32,
+}
+
+/// The entry, behind a JOIN or not, with this condition.
+pub fn entry_of(listed: Listed, joined: bool, on: Option<Expr>) -> Entry
+    ensures { result ≡ entry_of joined on listed }
+{
+    Entry {
+        source: listed.source,
+        alias: listed.alias,
+        at: listed.at,
+        joined,
+        on,
+    }
+}
+
+/// A table under this name.
+pub fn listed_table(alloc: Global, table: &Token<'_>, alias: &Token<'_>) -> Result<Listed, NoMemory>
+    requires table { table.now.start < 2 ^ 32 }
+    requires alias { alias.now.start < 2 ^ 32 }
+    ensures { IfOk result (λ listed. listed ≡ listed_table (lexeme_of table.now) (lexeme_of alias.now)) }
+{
+    Ok(Listed {
+        source: Source::Named {
+            name: name_in(alloc, table)?,
+            at: place(table),
+        },
+        alias: name_in(alloc, alias)?,
+        at: place(alias),
+    })
+}
+
+/// A query under this name.
+pub fn listed_query(alloc: Global, query: Query, alias: &Token<'_>) -> Result<Listed, NoMemory>
+    requires { alias.now.start < 2 ^ 32 }
+    ensures { IfOk result (λ listed. listed ≡ listed_query (lexeme_of alias.now) query) }
+{
+    Ok(Listed {
+        source: Source::Query {
+            query: Boxed::new(alloc, query)?,
+        },
+        alias: name_in(alloc, alias)?,
+        at: place(alias),
+    })
+}

@@ -1,0 +1,62 @@
+//! The reader of queries: a function for each production of the plan, or for a part of one.
+ghost use Rattle.std.specs.Prelude.{IfErr, IfOk, OnErr};
+ghost use Rattle.grammar.specs.Form.{ref};
+ghost use Rattle.sql_read.specs.Eating.{Extends};
+ghost use Rattle.sql_read.specs.QueryGrammar as grammar;
+ghost use Rattle.sql_read.specs.Reads.{Reads};
+ghost use Rattle.sql_read.specs.ReadingQueries.{IsAtEnd, IsRead, IsRefused, Keeps};
+
+mod block;
+mod entry;
+mod expr;
+mod inside;
+mod item;
+mod primary;
+mod query;
+mod test;
+#[cfg(test)]
+mod tests;
+
+use crate::fault::ReadFault;
+use crate::tokens::Tokens;
+use query::query;
+use sql_model::Query;
+use std::alloc::Global;
+
+/// Operators of a chain of set operators, of `+ - ||` or of `* /`.
+const MOST_OPERATORS: u8 = 63;
+
+/// `AND`s, `OR`s or commas of a chain or a list.
+const MOST_SEPARATORS: u8 = 255;
+
+/// Levels that may be open at once.
+const MOST_LEVELS: u8 = 64;
+
+/// Reads the longest query that begins at the next token. A lexical fault that follows a whole query is left to the next call.
+/// After a refusal the tokens stand at the end of the text.
+pub fn read_query(alloc: Global, tokens: &mut Tokens<'_>) -> Result<Query, ReadFault>
+    ensures read { IfOk result (λ query. IsRead tokens.old query tokens.new) }
+    ensures refused { IfErr result (λ fault. IsRefused tokens.old fault) }
+    ensures stopped { OnErr result (IsAtEnd tokens.old tokens.new) }
+    ensures keeps { Keeps tokens.old tokens.new }
+{
+    match query(alloc, tokens, MOST_LEVELS) {
+        Ok(query) => Ok(query),
+        Err(fault) => {
+            tokens.stop();
+            Err(fault)
+        }
+    }
+}
+
+/// Reads the query of a view, where so many levels may be opened. After a refusal the tokens stand where it came.
+pub fn read_inner_query(
+    alloc: Global,
+    tokens: &mut Tokens<'_>,
+    levels: u8,
+) -> Result<Query, ReadFault>
+    ensures reads { Reads (ref grammar.query) levels (λ read. read) tokens.old tokens.old result tokens.new }
+    ensures extends { Extends tokens.old tokens.new }
+{
+    query(alloc, tokens, levels)
+}

@@ -1,0 +1,110 @@
+//! Blocks: `SELECT .. FROM .. WHERE .. GROUP BY .. HAVING ..`.
+ghost use Rattle.std.specs.Prelude.{IfOk, List, Option, length, ℕ, ◌≡◌};
+ghost use Rattle.grammar.specs.Form.{ref};
+ghost use Rattle.grammar.specs.Productions.{optional, skip_then};
+ghost use Rattle.sql_read.specs.Eating.{Extends};
+ghost use Rattle.sql_read.specs.Kinds.{same};
+ghost use Rattle.sql_read.specs.Numbering.{each, perhaps, plain};
+ghost use Rattle.sql_read.specs.QueryGrammar as grammar;
+ghost use Rattle.sql_read.specs.QueryGrammar.{a, group_by, listed};
+ghost use Rattle.sql_read.specs.QueryTrees.{all_of, columns_of};
+ghost use Rattle.sql_read.specs.Reads.{Reads};
+
+use super::MOST_SEPARATORS;
+use super::entry::entries;
+use super::expr::expr;
+use super::item::item;
+use super::primary::reference;
+use crate::fault::ReadFault;
+use crate::kinds::Kind;
+use crate::tokens::Tokens;
+use plain_data::{Boxed, List};
+use sql_model::{Block, Expr, Item, Query};
+use std::alloc::Global;
+
+#[cycle(read)]
+pub fn block(alloc: Global, tokens: &mut Tokens<'_>, levels: u8) -> Result<Query, ReadFault>
+    ensures reads { Reads (ref grammar.block) levels (λ read. read) tokens.old tokens.old result tokens.new }
+    ensures extends { Extends tokens.old tokens.new }
+{
+    tokens.expect(alloc, Kind::Select)?;
+    let distinct = tokens.eat(Kind::Distinct).is_some();
+    let items = items(alloc, tokens, levels)?;
+    tokens.expect(alloc, Kind::From)?;
+    let entries = entries(alloc, tokens, levels)?;
+    let cond = filter(alloc, tokens, levels)?;
+    let groups = group_by(alloc, tokens)?;
+    let having = having(alloc, tokens, levels)?;
+    let block = Block {
+        distinct,
+        items,
+        entries,
+        cond,
+        groups,
+        having,
+    };
+    Ok(Query::Block {
+        block: Boxed::new(alloc, block)?,
+    })
+}
+
+#[cycle(read)]
+fn items(alloc: Global, tokens: &mut Tokens<'_>, levels: u8) -> Result<List<Item>, ReadFault>
+    ensures reads { Reads (listed (ref grammar.item)) levels (λ items. each (all_of items)) tokens.old tokens.old result tokens.new }
+    ensures extends { Extends tokens.old tokens.new }
+{
+    let mut items = List::new(alloc);
+    let first = item(alloc, tokens, levels)?;
+    items.push(first)?;
+    let mut room = MOST_SEPARATORS;
+    'more: while let Some(_) = tokens.eat_within(&[Kind::Comma], room)? {
+        room -= 1;
+        let next = item(alloc, tokens, levels)?;
+        items.push(next)?;
+    }
+    Ok(items)
+}
+
+/// The condition of WHERE, if it stands next.
+#[cycle(read)]
+fn filter(alloc: Global, tokens: &mut Tokens<'_>, levels: u8) -> Result<Option<Expr>, ReadFault>
+    ensures reads { Reads (optional (skip_then (a Kind.Where) (ref grammar.expr))) levels perhaps tokens.old tokens.old result tokens.new }
+    ensures extends { Extends tokens.old tokens.new }
+{
+    match tokens.eat(Kind::Where) {
+        Some(_) => Ok(Some(expr(alloc, tokens, levels)?)),
+        None => Ok(None),
+    }
+}
+
+/// The condition of HAVING, if it stands next.
+#[cycle(read)]
+fn having(alloc: Global, tokens: &mut Tokens<'_>, levels: u8) -> Result<Option<Expr>, ReadFault>
+    ensures reads { Reads (optional (skip_then (a Kind.Having) (ref grammar.expr))) levels perhaps tokens.old tokens.old result tokens.new }
+    ensures extends { Extends tokens.old tokens.new }
+{
+    match tokens.eat(Kind::Having) {
+        Some(_) => Ok(Some(expr(alloc, tokens, levels)?)),
+        None => Ok(None),
+    }
+}
+
+fn group_by(alloc: Global, tokens: &mut Tokens<'_>) -> Result<Option<List<Expr>>, ReadFault>
+    ensures reads { (levels : ℕ) → Reads group_by levels (λ columns. plain (columns_of columns)) tokens.old tokens.old result tokens.new }
+    ensures extends { Extends tokens.old tokens.new }
+{
+    let Some(_) = tokens.eat(Kind::Group) else {
+        return Ok(None);
+    };
+    tokens.expect(alloc, Kind::By)?;
+    let mut columns = List::new(alloc);
+    let first = reference(alloc, tokens)?;
+    columns.push(first)?;
+    let mut room = MOST_SEPARATORS;
+    'more: while let Some(_) = tokens.eat_within(&[Kind::Comma], room)? {
+        room -= 1;
+        let next = reference(alloc, tokens)?;
+        columns.push(next)?;
+    }
+    Ok(Some(columns))
+}

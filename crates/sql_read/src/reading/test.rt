@@ -1,0 +1,225 @@
+//! Tests of values: comparisons, IN, BETWEEN and LIKE.
+ghost use Rattle.std.specs.Prelude.{IfErr, IfOk, List, None, Ok, OnOk, ℕ, ◌+◌, ◌<◌, ◌^◌, ◌≡◌, ◌≢◌};
+ghost use Rattle.grammar.specs.Form.{ref};
+ghost use Rattle.grammar.specs.Productions.{optional};
+ghost use Rattle.sql_read.specs.declared.fault.LimitKind.TheVariants as limit;
+ghost use Rattle.sql_read.specs.declared.fault.ReadFault.TheVariants.{Limit, NoMemory};
+ghost use Rattle.sql_read.specs.Cursor.{Cursor};
+ghost use Rattle.sql_read.specs.Eating.{Copies, Extends, IsBehind, IsMark};
+ghost use Rattle.sql_read.specs.Numbering.{Built};
+ghost use Rattle.sql_read.specs.QueryGrammar as grammar;
+ghost use Rattle.sql_read.specs.QueryPlan.{between_values, by_word};
+ghost use Rattle.sql_read.specs.QueryTrees as trees;
+ghost use Rattle.sql_read.specs.QueryTrees.{tested};
+ghost use Rattle.sql_read.specs.Reads.{Builds, IsBuilt, Reads};
+ghost use Rattle.sql_model.specs.declared.tree.Expr.{Expr};
+ghost use Rattle.sql_model.specs.declared.tree.Expr.TheVariants as an_expr;
+
+use super::MOST_SEPARATORS;
+use super::expr::{expr, value};
+use super::inside::in_inner;
+use super::query::query;
+use crate::fault::ReadFault;
+use crate::kinds::{Kind, kind_of};
+use crate::tokens::{Mark, Tokens, place};
+use crate::trees::{between, compared, equal, like, negated, place_of};
+use plain_data::{Boxed, List};
+use sql_model::Expr;
+use std::alloc::Global;
+
+/// The signs of comparisons.
+const COMPARISONS: [Kind; 6] = [
+    Kind::Equals,
+    Kind::Differs,
+    Kind::Less,
+    Kind::AtMost,
+    Kind::Greater,
+    Kind::AtLeast,
+];
+
+/// The kinds with which a test of a value begins.
+const TEST_KINDS: [Kind; 10] = [
+    Kind::Between,
+    Kind::In,
+    Kind::Like,
+    Kind::Not,
+    Kind::Equals,
+    Kind::Differs,
+    Kind::Less,
+    Kind::AtMost,
+    Kind::Greater,
+    Kind::AtLeast,
+];
+
+/// A value that IN seeks, with the weight of a copy of it and the place of the word.
+#[derive(Drop)]
+pub struct Sought {
+    pub value: Expr,
+    pub weight: u32,
+    pub in_at: u32,
+}
+
+#[cycle(read)]
+pub fn test(alloc: Global, tokens: &mut Tokens<'_>, levels: u8) -> Result<Expr, ReadFault>
+    ensures reads { Reads (ref grammar.test) levels (λ read. read) tokens.old tokens.old result tokens.new }
+    ensures extends { Extends tokens.old tokens.new }
+{
+    if let Some(word) = tokens.eat(Kind::Exists) {
+        tokens.expect_within(alloc, &[Kind::Open], levels)?;
+        let query = query(alloc, tokens, levels - 1)?;
+        tokens.expect(alloc, Kind::Close)?;
+        return Ok(Expr::Exists {
+            query: Boxed::new(alloc, query)?,
+            at: place(&word),
+        });
+    }
+    let start = tokens.mark();
+    let left = value(alloc, tokens, levels)?;
+    tested(alloc, tokens, levels, start, left)
+}
+
+/// The test of the value that began at the mark, if one follows.
+#[cycle(read)]
+pub fn tested(
+    alloc: Global,
+    tokens: &mut Tokens<'_>,
+    levels: u8,
+    start: Mark,
+    left: Expr,
+) -> Result<Expr, ReadFault>
+    requires { IsBehind start tokens.old }
+    ensures reads { (before : Built Expr) (count : ℕ) (began : Cursor) → IsMark start began → IsBuilt before count began left tokens.old
+        → Reads (optional (ref grammar.rest)) levels (λ rest. tested (before, count) rest) began tokens.old result tokens.new }
+    ensures extends { Extends tokens.old tokens.new }
+{
+    if !tokens.sees_any(&TEST_KINDS) {
+        return Ok(left);
+    }
+    let weight = tokens.weight_since(start);
+    rest(alloc, tokens, levels, weight, left)
+}
+
+/// The test of the value, a copy of which has this weight.
+#[cycle(read)]
+fn rest(
+    alloc: Global,
+    tokens: &mut Tokens<'_>,
+    levels: u8,
+    weight: u32,
+    left: Expr,
+) -> Result<Expr, ReadFault>
+    ensures reads { (before : Built Expr) (count : ℕ) (began : Cursor) → weight ≡ trees.weight (before, count) → Builds before began left tokens.old
+        → Reads (ref grammar.rest) levels (λ rest. rest (before, count)) began tokens.old result tokens.new }
+    ensures extends { Extends tokens.old tokens.new }
+{
+    if let Some(sign) = tokens.eat_any(&COMPARISONS) {
+        let right = value(alloc, tokens, levels)?;
+        return Ok(compared(alloc, kind_of(&sign), left, right)?);
+    }
+    let Some(_) = tokens.eat(Kind::Not) else {
+        return by_word(alloc, tokens, levels, weight, left);
+    };
+    let test = by_word(alloc, tokens, levels, weight, left)?;
+    Ok(negated(alloc, test)?)
+}
+
+/// IN, BETWEEN or LIKE.
+#[cycle(read)]
+fn by_word(
+    alloc: Global,
+    tokens: &mut Tokens<'_>,
+    levels: u8,
+    weight: u32,
+    left: Expr,
+) -> Result<Expr, ReadFault>
+    ensures reads { (before : Built Expr) (count : ℕ) (began : Cursor) → weight ≡ trees.weight (before, count) → Builds before began left tokens.old
+        → Reads by_word levels (λ read. read None (before, count)) began tokens.old result tokens.new }
+    ensures extends { Extends tokens.old tokens.new }
+{
+    if let Some(word) = tokens.eat(Kind::In) {
+        tokens.expect_within(alloc, &[Kind::Open], levels)?;
+        let value = Sought {
+            value: left,
+            weight,
+            in_at: place(&word),
+        };
+        let found = in_inner(alloc, tokens, levels - 1, value)?;
+        tokens.expect(alloc, Kind::Close)?;
+        return Ok(found);
+    }
+    if let Some(_) = tokens.eat(Kind::Between) {
+        return bounds(alloc, tokens, levels, weight, left);
+    }
+    tokens.expect(alloc, Kind::Like)?;
+    let pattern = value(alloc, tokens, levels)?;
+    Ok(like(alloc, left, pattern)?)
+}
+
+/// What follows BETWEEN; the value before it is copied.
+#[cycle(read)]
+fn bounds(
+    alloc: Global,
+    tokens: &mut Tokens<'_>,
+    levels: u8,
+    weight: u32,
+    left: Expr,
+) -> Result<Expr, ReadFault>
+    ensures reads { (before : Built Expr) (count : ℕ) (began : Cursor) → weight ≡ trees.weight (before, count) → Builds before began left tokens.old
+        → Reads between_values levels (λ read. trees.between None read.0 read.1 (before, count)) began tokens.old result tokens.new }
+    ensures extends { Extends tokens.old tokens.new }
+{
+    tokens.add_copy(weight)?;
+    let copy = left.copy(alloc)?;
+    let low = value(alloc, tokens, levels)?;
+    tokens.expect(alloc, Kind::And)?;
+    let high = value(alloc, tokens, levels)?;
+    Ok(between(alloc, left, copy, low, high)?)
+}
+
+/// The value compared with a member: a copy of the value, which is counted.
+fn compared_copy(
+    alloc: Global,
+    tokens: &mut Tokens<'_>,
+    sought: &Sought,
+    member: Expr,
+) -> Result<Expr, ReadFault>
+    ensures compared { IfOk result (λ equal. equal ≡ an_expr.Eq sought.now.value member (trees.place sought.now.value)) }
+    ensures counted { OnOk result (Copies sought.now.weight tokens.old (Ok tt) tokens.new) }
+    ensures refused { IfErr result (λ fault. (fault ≢ NoMemory) → fault ≡ Limit limit.Copies) }
+    ensures extends { Extends tokens.old tokens.new }
+{
+    tokens.add_copy(sought.weight)?;
+    let copy = sought.value.copy(alloc)?;
+    Ok(equal(alloc, copy, member)?)
+}
+
+/// The members of a list of IN behind the first; the value before the list is copied at each comma.
+#[cycle(read)]
+pub fn members(
+    alloc: Global,
+    tokens: &mut Tokens<'_>,
+    levels: u8,
+    sought: Sought,
+    first: Expr,
+) -> Result<Expr, ReadFault>
+    ensures reads { (before member : Built Expr) (count : ℕ) (began middle : Cursor) → sought.weight ≡ trees.weight (before, count)
+        → Builds before began sought.value middle → Builds member middle first tokens.old
+        → Reads grammar.commas levels (λ others. trees.in_list None (member, others) (before, count)) began tokens.old result tokens.new }
+    ensures extends { Extends tokens.old tokens.new }
+{
+    let at = place_of(&sought.value);
+    let mut parts = List::new(alloc);
+    let mut last = first;
+    let mut room = MOST_SEPARATORS;
+    'more: while let Some(_) = tokens.eat_within(&[Kind::Comma], room)? {
+        room -= 1;
+        parts.push(compared_copy(alloc, tokens, &sought, last)?)?;
+        last = expr(alloc, tokens, levels)?;
+    }
+    let last = equal(alloc, sought.value, last)?;
+    if parts.is_empty() {
+        return Ok(last);
+    }
+    parts.push(last)?;
+    Ok(Expr::Or { parts, at })
+}
