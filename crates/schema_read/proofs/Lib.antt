@@ -19,3 +19,10 @@ pub mod Unlimited
 pub mod StatementFronts
 pub mod StatementCounts
 pub mod StatementCopies
+pub mod Readings
+pub mod NameLists
+pub mod ColumnRules
+pub mod TableElements
+pub mod StatementParts
+pub mod StatementLists
+pub mod WholeStatements

@@ -19,3 +19,4 @@ pub mod StatementGrammar
 pub mod Statements
 pub mod StatementLookahead
 pub mod StatementLimits
+pub mod ReadingStatements

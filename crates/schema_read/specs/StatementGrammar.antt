@@ -65,16 +65,24 @@ column_rule =
 abbrev pub column : The Elements
 column = map (λ p. t.column p.0 p.1) (seq name (skip_then type (star None column_rule)))
 
+-- FOREIGN KEY names REFERENCES name [names]
+abbrev pub foreign_key : The TableRule
+foreign_key = map (λ p. t.foreign_key p.0 p.1) (skip_then (seq (a k.Foreign) (a k.Key)) (seq names references))
+
 -- PRIMARY KEY names | UNIQUE names | FOREIGN KEY names REFERENCES name [names]
 abbrev pub table_rule : The TableRule
 table_rule =
     alt (map (λ p. t.primary_key p.0 p.1) (seq primary_key names))
     (alt (map (λ p. t.unique_key p.0 p.1) (seq (a k.Unique) names))
-    (map (λ p. t.foreign_key p.0 p.1) (skip_then (seq (a k.Foreign) (a k.Key)) (seq names references))))
+    foreign_key)
+
+-- [CONSTRAINT name]
+abbrev pub constraint_name : The (Option (Lexeme × Lexeme))
+constraint_name = optional (seq (a k.Constraint) name)
 
 -- [CONSTRAINT name] tablerule
 abbrev pub constraint : The Elements
-constraint = map t.table_rule (skip_then (optional (seq (a k.Constraint) name)) table_rule)
+constraint = map t.table_rule (skip_then constraint_name table_rule)
 
 -- column | [CONSTRAINT name] tablerule
 abbrev pub element : The Elements

@@ -10,6 +10,7 @@ use Rattle.sql_lex.specs.Lexemes.{Lexeme}
 use Rattle.sql_read.specs.TokenValues.{name_of}
 use Rattle.sql_read.specs.Numbering.{Built, plain, mapped}
 use Rattle.sql_read.specs.QueryTrees.{is_given}
+pub use Rattle.schema_read.specs.declared.reading.elements.Elements.{Elements}
 
 -- ---- names
 
@@ -17,7 +18,7 @@ use Rattle.sql_read.specs.QueryTrees.{is_given}
 abbrev pub named : Lexeme → NameAt
 named token = record { name = name_of token; at = token.start }
 
-abbrev all_named : List Lexeme → List NameAt
+abbrev pub all_named : List Lexeme → List NameAt
 all_named [] = []
 all_named (token ∷ tokens) = named token ∷ all_named tokens
 
@@ -64,10 +65,6 @@ rules_of column (rule_of ∷ others) = before_rules (rule_of column) (rules_of c
 -- ---- tables
 
 -- what stands in the parentheses of a table: columns and rules, each in the order of the text
-pub record Elements : Type 0 where
-  pub columns : List NameAt
-  pub rules : List TableRule
-
 abbrev pub no_elements : Elements
 no_elements = record { columns = []; rules = [] }
 

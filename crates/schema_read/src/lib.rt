@@ -9,6 +9,7 @@ mod keys;
 pub mod laws;
 mod names;
 mod read;
+mod reading;
 mod relations;
 mod sets;
 pub mod statement_laws;
@@ -17,3 +18,4 @@ mod tests;
 
 pub use fault::{SchemaCode, SchemaFault};
 pub use read::read_schema;
+pub use reading::read_statements;

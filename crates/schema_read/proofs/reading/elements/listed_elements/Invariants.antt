@@ -1,0 +1,9 @@
+use Rattle.std.proofs.Common.{◌≤◌, length}
+use Rattle.schema_read.proofs.TableElements.{Listing}
+use Rattle.schema_read.proofs.reading.elements.listed_elements.Given as goal
+
+abbrev pub invariant-more : goal.invariant-more
+invariant-more l = record { listing : Listing l.fn.tokens l.tokens l.room l.elements; narrow : length l.elements.columns ≤ 32 }
+
+abbrev pub decreases-more : goal.decreases-more
+decreases-more l = length l.tokens.tokens

@@ -1,0 +1,85 @@
+-- What `read_statements` does with the tokens that are still to come.
+use Rattle.std.specs.Prelude.{ℕ, ◌+◌, ◌≡◌, ◌≤◌, ◌<◌, ◌^◌, List, [], ◌∷◌, ◌++◌, length}
+use Rattle.data_model.specs.Lists.{Each}
+use Rattle.grammar.specs.Reading.{IsLongestFront}
+use Rattle.sql_lex.specs.Lexemes.{Lexeme}
+use Rattle.sql_model.specs.declared.statement.Statement.{Statement}
+use Rattle.sql_read.specs.declared.fault.ReadFault.{ReadFault}
+use Rattle.sql_read.specs.declared.fault.ReadFault.TheVariants.{Lex, Unexpected, LeftOut, TooDeep, Limit, NoMemory}
+use Rattle.sql_read.specs.declared.fault.LimitKind.{LimitKind}
+use Rattle.sql_read.specs.declared.fault.LimitKind.TheVariants as limit
+use Rattle.sql_read.specs.Cursor.{Cursor, next}
+use Rattle.sql_read.specs.Numbering.{Built}
+use Rattle.sql_read.specs.QueryEntries.{most_further}
+use Rattle.sql_read.specs.Refusals.{refusal_of}
+use Rattle.schema_read.specs.Declarations.{IsSmall}
+use Rattle.schema_read.specs.StatementLimits.{IsEntryTooMany, few_entry_statements}
+use Rattle.schema_read.specs.Statements.{IsShallow, IsTooDeep, OfStatements, statements}
+
+-- the statements in whose views no block has too many entries
+abbrev pub few_statement_entries : OfStatements
+few_statement_entries = few_entry_statements most_further
+
+-- the longest list of tokens that begins statements was taken, and it spells these statements
+pub record IsRead (before : Cursor) (list : List Statement) (after : Cursor) : Type 0 where
+  pub taken : List Lexeme
+  pub whole : before.tokens ≡ taken ++ after.tokens
+  pub leading : IsLongestFront statements before.tokens taken
+  pub read : Built (List Statement)
+  pub spelled : statements.spells taken read
+  pub built : read.build before.numbers ≡ (list, after.numbers)
+  pub copied : after.copies ≡ before.copies + read.copies
+  pub shallow : IsShallow taken
+  -- no block of a view has too many entries
+  pub few_entries : few_statement_entries.spells taken read
+  pub fault : after.fault ≡ before.fault
+  pub end : after.end ≡ before.end
+  -- the statements are within the limits of a schema
+  pub few : length list ≤ 256
+  pub small : length before.tokens < 2 ^ 31 → Each IsSmall list
+
+-- the longest list of tokens that begins statements spells none, and what stands behind it is refused
+pub record IsUnfinished (before : Cursor) (fault : ReadFault) : Type 0 where
+  pub taken : List Lexeme
+  pub rest : List Lexeme
+  pub whole : before.tokens ≡ taken ++ rest
+  pub leading : IsLongestFront statements before.tokens taken
+  pub unspelled : (read : Built (List Statement)) → statements.spells taken read → ⊥
+  -- no limit was passed before
+  pub shallow : IsShallow taken
+  pub few_entries : few_statement_entries.front taken
+  pub refused : fault ≡ refusal_of before.end (next rest before.fault)
+
+-- behind tokens that begin statements within the limits the token at this place passes them
+pub record PassesLimits (before : Cursor) (at : ℕ) : Type 0 where
+  pub taken : List Lexeme
+  pub token : Lexeme
+  pub rest : List Lexeme
+  pub whole : before.tokens ≡ taken ++ token ∷ rest
+  pub too_deep : IsTooDeep taken token
+  -- no entry was too many before
+  pub few_entries : few_statement_entries.front taken
+  pub place : token.start ≡ at
+
+-- behind tokens that begin statements the next one begins an entry too many, and is not too deep
+pub record PassesEntries (before : Cursor) : Type 0 where
+  pub taken : List Lexeme
+  pub token : Lexeme
+  pub rest : List Lexeme
+  pub whole : before.tokens ≡ taken ++ token ∷ rest
+  pub too_many : IsEntryTooMany taken token
+  pub shallow : IsShallow (taken ++ token ∷ [])
+
+-- of the other counts other clauses speak
+abbrev pub IsLimited : Cursor → LimitKind → Type 0
+IsLimited before limit.Entries = PassesEntries before
+IsLimited before other = Unit {0}
+
+-- Where each refusal comes. Want of memory may come anywhere.
+abbrev pub IsRefused : Cursor → ReadFault → Type 0
+IsRefused before (Lex fault) = IsUnfinished before (Lex fault)
+IsRefused before (Unexpected at) = IsUnfinished before (Unexpected at)
+IsRefused before (LeftOut word at) = IsUnfinished before (LeftOut word at)
+IsRefused before (TooDeep at) = PassesLimits before at
+IsRefused before (Limit what) = IsLimited before what
+IsRefused before NoMemory = Unit {0}

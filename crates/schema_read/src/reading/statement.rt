@@ -1,0 +1,93 @@
+//! Statements.
+ghost use Rattle.std.specs.Prelude.{◌≤◌, ℕ, suc, length, IfOk};
+ghost use Rattle.data_model.specs.Lists.{Each};
+ghost use Rattle.sql_read.specs.Eating.{Extends};
+ghost use Rattle.sql_read.specs.Queries.{most_levels};
+ghost use Rattle.sql_read.specs.Reads.{Reads};
+ghost use Rattle.schema_read.specs.StatementGrammar as g;
+ghost use Rattle.schema_read.specs.StatementLimits.{column_count};
+
+use super::elements::{Elements, table_elements};
+use super::index::index;
+use super::names::name;
+use super::{MOST_LEVELS, MOST_RELATIONS};
+use plain_data::List;
+use sql_model::Statement;
+use sql_read::{Kind, LimitKind, ReadFault, Tokens, read_inner_query};
+use std::alloc::Global;
+
+/// `{statement ;}`
+pub fn statements(alloc: Global, tokens: &mut Tokens<'_>) -> Result<List<Statement>, ReadFault>
+    ensures reads { Reads g.statements most_levels (λ read. read) tokens.old tokens.old result tokens.new }
+    ensures few { IfOk result (λ statements. length statements ≤ 256) }
+    ensures narrow { IfOk result (λ statements. Each (λ statement. column_count statement ≤ 32) statements) }
+    ensures extends { Extends tokens.old tokens.new }
+{
+    let mut statements = List::new(alloc);
+    'more: while tokens.sees(Kind::Create) {
+        if statements.len() == MOST_RELATIONS {
+            return Err(ReadFault::Limit {
+                what: LimitKind::Relations,
+            });
+        }
+        let next = ended_statement(alloc, tokens)?;
+        statements.push(next)?;
+    }
+    Ok(statements)
+}
+
+/// `statement ;`
+fn ended_statement(alloc: Global, tokens: &mut Tokens<'_>) -> Result<Statement, ReadFault>
+    ensures reads { Reads (g.ended_with g.elements) most_levels (λ read. read) tokens.old tokens.old result tokens.new }
+    ensures narrow { IfOk result (λ statement. column_count statement ≤ 32) }
+    ensures extends { Extends tokens.old tokens.new }
+{
+    let statement = statement(alloc, tokens)?;
+    tokens.expect(alloc, Kind::Semicolon)?;
+    Ok(statement)
+}
+
+/// `CREATE`, and what is created.
+fn statement(alloc: Global, tokens: &mut Tokens<'_>) -> Result<Statement, ReadFault>
+    ensures reads { Reads g.statement most_levels (λ read. read) tokens.old tokens.old result tokens.new }
+    ensures narrow { IfOk result (λ statement. column_count statement ≤ 32) }
+    ensures extends { Extends tokens.old tokens.new }
+{
+    tokens.expect(alloc, Kind::Create)?;
+    if tokens.sees(Kind::Table) {
+        return table(alloc, tokens);
+    }
+    if tokens.sees(Kind::View) {
+        return view(alloc, tokens);
+    }
+    index(alloc, tokens)
+}
+
+/// `TABLE name ( column {, element} )`
+fn table(alloc: Global, tokens: &mut Tokens<'_>) -> Result<Statement, ReadFault>
+    ensures reads { (levels : ℕ) → Reads (g.table_with g.elements) (suc (suc levels)) (λ read. read) tokens.old tokens.old result tokens.new }
+    ensures narrow { IfOk result (λ statement. column_count statement ≤ 32) }
+    ensures extends { Extends tokens.old tokens.new }
+{
+    tokens.expect(alloc, Kind::Table)?;
+    let table = name(alloc, tokens)?;
+    let Elements { columns, rules } = table_elements(alloc, tokens)?;
+    Ok(Statement::Table {
+        name: table,
+        columns,
+        rules,
+    })
+}
+
+/// `VIEW name AS query`
+fn view(alloc: Global, tokens: &mut Tokens<'_>) -> Result<Statement, ReadFault>
+    ensures reads { Reads g.view most_levels (λ read. read) tokens.old tokens.old result tokens.new }
+    ensures narrow { IfOk result (λ statement. column_count statement ≤ 32) }
+    ensures extends { Extends tokens.old tokens.new }
+{
+    tokens.expect(alloc, Kind::View)?;
+    let view = name(alloc, tokens)?;
+    tokens.expect(alloc, Kind::As)?;
+    let query = read_inner_query(alloc, tokens, MOST_LEVELS)?;
+    Ok(Statement::View { name: view, query })
+}
