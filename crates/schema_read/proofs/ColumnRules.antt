@@ -5,12 +5,12 @@ use Rattle.grammar.specs.Form.{star}
 use Rattle.sql_model.specs.declared.statement.NameAt.{NameAt}
 use Rattle.sql_model.specs.declared.statement.TableRule.{TableRule}
 use Rattle.sql_read.specs.declared.fault.ReadFault.{ReadFault}
-use Rattle.sql_read.specs.declared.kinds.Kind.{Kind}
-use Rattle.sql_read.specs.declared.kinds.Kind.TheVariants as k
+use Rattle.sql_grammar.specs.declared.kinds.Kind.{Kind}
+use Rattle.sql_grammar.specs.declared.kinds.Kind.TheVariants as k
 use Rattle.sql_read.specs.Cursor.{Cursor}
 use Rattle.sql_read.specs.Eating.{Extends, is_next}
-use Rattle.sql_read.specs.Kinds.{among, same}
-use Rattle.sql_read.specs.Numbering.{plain}
+use Rattle.sql_grammar.specs.Kinds.{among, same}
+use Rattle.sql_grammar.specs.Numbering.{plain}
 use Rattle.sql_read.specs.Reads.{Gives, Reads, Refuses}
 use Rattle.sql_read.proofs.Extending.{◌⨟◌, extends_itself}
 use Rattle.sql_read.proofs.ReadBegins.{begins_among, begins_both}

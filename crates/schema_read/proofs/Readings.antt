@@ -6,14 +6,14 @@ use Rattle.grammar.proofs.Predictions.{ok, ahead}
 use Rattle.sql_lex.specs.declared.token.Token.{Token}
 use Rattle.sql_lex.specs.Lexemes.{Lexeme, lexeme_of}
 use Rattle.sql_read.specs.declared.fault.ReadFault.{ReadFault}
-use Rattle.sql_read.specs.declared.kinds.Kind.{Kind}
-use Rattle.sql_read.specs.declared.kinds.Kind.TheVariants as k
+use Rattle.sql_grammar.specs.declared.kinds.Kind.{Kind}
+use Rattle.sql_grammar.specs.declared.kinds.Kind.TheVariants as k
 use Rattle.sql_read.specs.Cursor.{Cursor}
 use Rattle.sql_read.specs.Eating.{EatsWithin, Passes, PassesWithin, Stays}
-use Rattle.sql_read.specs.Numbering.{Built, plain}
-use Rattle.sql_read.specs.QueryGrammar.{The, a, parens}
+use Rattle.sql_grammar.specs.Numbering.{Built, plain}
+use Rattle.sql_grammar.specs.QueryGrammar.{The, a, parens}
 use Rattle.sql_read.specs.Reads.{of_form, few_form, Builds, Gives, Reads, Takes, Refuses}
-use Rattle.sql_read.proofs.QueryTable.{planned}
+use Rattle.sql_grammar.proofs.QueryTable.{planned}
 use Rattle.sql_read.proofs.ReadPassing.{Alike}
 use Rattle.sql_read.proofs.ReadSteps.{absent_unless, begins_with, blocks, Blocks, built_as, built_plain, by_token, first_part, mapped, other, refuses, second, some_left, takes, whole}
 

@@ -6,9 +6,9 @@ use Rattle.grammar.specs.Productions.{skip_then}
 use Rattle.data_model.specs.Lists.{Each}
 use Rattle.sql_lex.specs.Lexemes.{Lexeme}
 use Rattle.sql_model.specs.declared.statement.Statement.{Statement}
-use Rattle.sql_read.specs.declared.kinds.Kind.TheVariants as k
-use Rattle.sql_read.specs.Numbering.{Numbers, Built, each}
-use Rattle.sql_read.specs.QueryGrammar.{The, a, parens}
+use Rattle.sql_grammar.specs.declared.kinds.Kind.TheVariants as k
+use Rattle.sql_grammar.specs.Numbering.{Numbers, Built, each}
+use Rattle.sql_grammar.specs.QueryGrammar.{The, a, parens}
 use Rattle.schema_read.specs.StatementTrees as t
 use Rattle.schema_read.specs.StatementTrees.{Elements, all_elements}
 use Rattle.schema_read.specs.StatementGrammar as g

@@ -9,17 +9,17 @@ use Rattle.grammar.proofs.Heights.{name_fronts}
 use Rattle.grammar.proofs.Prices.{Priced, summed, free_map, free_seq, free_optional, priced_skip_then, priced_then_skip}
 use Rattle.sql_lex.specs.Lexemes.{Lexeme}
 use Rattle.sql_model.specs.declared.statement.Statement.{Statement}
-use Rattle.sql_read.specs.declared.kinds.Kind.TheVariants as k
-use Rattle.sql_read.specs.declared.kinds.Kind.{Kind}
-use Rattle.sql_read.specs.Kinds.{kind_of, same, among}
-use Rattle.sql_read.specs.Numbering.{Built, each}
-use Rattle.sql_read.specs.PlanCopies.{copies_nothing}
-use Rattle.sql_read.specs.QueryCopies.{copies_in, so_far}
-use Rattle.sql_read.specs.QueryGrammar.{The, a, one_of, name, name_kinds, parens, query, rules}
-use Rattle.sql_read.proofs.Copies.{G, C, in_parts, copies_are_fronts, all_have_copied}
-use Rattle.sql_read.proofs.CopyForms.{all_cuts}
-use Rattle.sql_read.proofs.CopyFronts.{by_weight}
-use Rattle.sql_read.proofs.CopyPrices.{each_copies, priced_parens}
+use Rattle.sql_grammar.specs.declared.kinds.Kind.TheVariants as k
+use Rattle.sql_grammar.specs.declared.kinds.Kind.{Kind}
+use Rattle.sql_grammar.specs.Kinds.{kind_of, same, among}
+use Rattle.sql_grammar.specs.Numbering.{Built, each}
+use Rattle.sql_grammar.specs.PlanCopies.{copies_nothing}
+use Rattle.sql_grammar.specs.QueryCopies.{copies_in, so_far}
+use Rattle.sql_grammar.specs.QueryGrammar.{The, a, one_of, name, name_kinds, parens, query, rules}
+use Rattle.sql_grammar.proofs.Copies.{G, C, in_parts, copies_are_fronts, all_have_copied}
+use Rattle.sql_grammar.proofs.CopyForms.{all_cuts}
+use Rattle.sql_grammar.proofs.CopyFronts.{by_weight}
+use Rattle.sql_grammar.proofs.CopyPrices.{each_copies, priced_parens}
 use Rattle.schema_read.specs.StatementTrees as t
 use Rattle.schema_read.specs.StatementGrammar as g
 use Rattle.schema_read.specs.Statements.{Begins, statements}

@@ -8,12 +8,12 @@ use Rattle.sql_lex.specs.Lexemes.{Lexeme}
 use Rattle.sql_model.specs.declared.statement.NameAt.{NameAt}
 use Rattle.sql_model.specs.declared.statement.TableRule.{TableRule}
 use Rattle.sql_model.specs.declared.statement.Statement.{Statement}
-use Rattle.sql_read.specs.Kinds.{kind_of}
-use Rattle.sql_read.specs.Numbering.{Numbers, Built, each}
-use Rattle.sql_read.specs.Queries.{of_production}
-use Rattle.sql_read.specs.QueryEntries.{few_rules}
-use Rattle.sql_read.specs.QueryGrammar.{parens}
-use Rattle.sql_read.proofs.EntryTexts.{few_spell}
+use Rattle.sql_grammar.specs.Kinds.{kind_of}
+use Rattle.sql_grammar.specs.Numbering.{Numbers, Built, each}
+use Rattle.sql_grammar.specs.Queries.{of_production}
+use Rattle.sql_grammar.specs.QueryEntries.{few_rules}
+use Rattle.sql_grammar.specs.QueryGrammar.{parens}
+use Rattle.sql_grammar.proofs.EntryTexts.{few_spell}
 use Rattle.grammar.specs.Form.{language}
 use Rattle.schema_read.specs.StatementTrees as t
 use Rattle.schema_read.specs.StatementTrees.{Elements, all_elements}

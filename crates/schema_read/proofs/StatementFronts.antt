@@ -9,17 +9,17 @@ use Rattle.grammar.proofs.Forms.{includes_through, includes_itself, form_grows, 
 use Rattle.grammar.proofs.Heights.{name_fronts, name_grows, same_room}
 use Rattle.grammar.proofs.Plans.{map_in}
 use Rattle.sql_lex.specs.Lexemes.{Lexeme}
-use Rattle.sql_read.specs.declared.kinds.Kind.TheVariants as k
-use Rattle.sql_read.specs.Kinds.{kind_of}
-use Rattle.sql_read.specs.Numbering.{each}
-use Rattle.sql_read.specs.Queries.{of_production}
-use Rattle.sql_read.specs.QueryEntries.{few_rules, most_further}
-use Rattle.sql_read.specs.QueryGrammar.{Production, The, a, name, rules}
-use Rattle.sql_read.specs.QueryPlan.{plan, of_plan}
-use Rattle.sql_read.proofs.EntryLists.{few_included}
-use Rattle.sql_read.proofs.PlanKnown.{grammar_includes}
-use Rattle.sql_read.proofs.QueryKnown.{plan_includes}
-use Rattle.sql_read.proofs.QueryFronts.{beyond_once}
+use Rattle.sql_grammar.specs.declared.kinds.Kind.TheVariants as k
+use Rattle.sql_grammar.specs.Kinds.{kind_of}
+use Rattle.sql_grammar.specs.Numbering.{each}
+use Rattle.sql_grammar.specs.Queries.{of_production}
+use Rattle.sql_grammar.specs.QueryEntries.{few_rules, most_further}
+use Rattle.sql_grammar.specs.QueryGrammar.{Production, The, a, name, rules}
+use Rattle.sql_grammar.specs.QueryPlan.{plan, of_plan}
+use Rattle.sql_grammar.proofs.EntryLists.{few_included}
+use Rattle.sql_grammar.proofs.PlanKnown.{grammar_includes}
+use Rattle.sql_grammar.proofs.QueryKnown.{plan_includes}
+use Rattle.sql_grammar.proofs.QueryFronts.{beyond_once}
 use Rattle.schema_read.specs.StatementTrees as t
 use Rattle.schema_read.specs.StatementTrees.{Elements}
 use Rattle.schema_read.specs.StatementGrammar as g

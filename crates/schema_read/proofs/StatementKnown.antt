@@ -6,14 +6,14 @@ use Rattle.grammar.proofs.Known.{Known}
 use Rattle.grammar.proofs.Tables.{form_known, weaker}
 use Rattle.sql_lex.specs.Lexemes.{Lexeme}
 use Rattle.sql_model.specs.declared.statement.Statement.{Statement}
-use Rattle.sql_read.specs.declared.kinds.Kind.{Kind}
-use Rattle.sql_read.specs.Kinds.{kind_of, every_kind}
-use Rattle.sql_read.specs.Numbering.{Numbers}
-use Rattle.sql_read.specs.Queries.{of_production}
-use Rattle.sql_read.specs.QueryGrammar.{The}
-use Rattle.sql_read.specs.QueryLookahead.{table}
-use Rattle.sql_read.proofs.EveryKind.{every_kind_is_there}
-use Rattle.sql_read.proofs.QueryKnown.{production_known}
+use Rattle.sql_grammar.specs.declared.kinds.Kind.{Kind}
+use Rattle.sql_grammar.specs.Kinds.{kind_of, every_kind}
+use Rattle.sql_grammar.specs.Numbering.{Numbers}
+use Rattle.sql_grammar.specs.Queries.{of_production}
+use Rattle.sql_grammar.specs.QueryGrammar.{The}
+use Rattle.sql_grammar.specs.QueryLookahead.{table}
+use Rattle.sql_grammar.proofs.EveryKind.{every_kind_is_there}
+use Rattle.sql_grammar.proofs.QueryKnown.{production_known}
 use Rattle.schema_read.specs.StatementGrammar as g
 use Rattle.schema_read.specs.StatementLookahead.{of_statements}
 use Rattle.schema_read.specs.Statements.{Spells, of_form}

@@ -4,13 +4,13 @@ use Rattle.std.proofs.lemmas.List.{append-nil}
 use Rattle.grammar.specs.Form.{star}
 use Rattle.sql_model.specs.declared.statement.Statement.{Statement}
 use Rattle.sql_read.specs.declared.fault.ReadFault.{ReadFault}
-use Rattle.sql_read.specs.declared.kinds.Kind.TheVariants as k
+use Rattle.sql_grammar.specs.declared.kinds.Kind.TheVariants as k
 use Rattle.sql_read.specs.Cursor.{Cursor}
 use Rattle.sql_read.specs.Eating.{Extends, is_next}
-use Rattle.sql_read.specs.Kinds.{same}
-use Rattle.sql_read.specs.Numbering.{Built, each}
-use Rattle.sql_read.specs.Queries.{most_levels}
-use Rattle.sql_read.specs.QueryGrammar.{The}
+use Rattle.sql_grammar.specs.Kinds.{same}
+use Rattle.sql_grammar.specs.Numbering.{Built, each}
+use Rattle.sql_grammar.specs.Queries.{most_levels}
+use Rattle.sql_grammar.specs.QueryGrammar.{The}
 use Rattle.sql_read.specs.Reads.{Builds, Gives, Refuses}
 use Rattle.sql_read.proofs.Extending.{◌⨟◌, extends_itself}
 use Rattle.sql_read.proofs.ReadChains.{built_by, built_each}

@@ -4,11 +4,11 @@ use Rattle.grammar.specs.Form.{alt, ref, seq}
 use Rattle.grammar.specs.Productions.{skip_then}
 use Rattle.sql_lex.specs.Lexemes.{Lexeme}
 use Rattle.sql_model.specs.declared.statement.NameAt.{NameAt}
-use Rattle.sql_read.specs.declared.kinds.Kind.TheVariants as k
+use Rattle.sql_grammar.specs.declared.kinds.Kind.TheVariants as k
 use Rattle.sql_read.specs.Cursor.{Cursor}
 use Rattle.sql_read.specs.Eating.{Passes}
-use Rattle.sql_read.specs.Kinds.{same}
-use Rattle.sql_read.specs.QueryGrammar.{a, name, parens, query}
+use Rattle.sql_grammar.specs.Kinds.{same}
+use Rattle.sql_grammar.specs.QueryGrammar.{a, name, parens, query}
 use Rattle.sql_read.proofs.ReadLoops.{Begins}
 use Rattle.sql_read.proofs.ReadSteps.{Left, eaten, mapped, whole}
 use Rattle.schema_read.specs.StatementGrammar as g

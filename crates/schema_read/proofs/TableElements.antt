@@ -7,13 +7,13 @@ use Rattle.sql_lex.specs.Lexemes.{Lexeme}
 use Rattle.sql_model.specs.declared.statement.NameAt.{NameAt}
 use Rattle.sql_model.specs.declared.statement.TableRule.{TableRule}
 use Rattle.sql_read.specs.declared.fault.ReadFault.{ReadFault}
-use Rattle.sql_read.specs.declared.kinds.Kind.{Kind}
-use Rattle.sql_read.specs.declared.kinds.Kind.TheVariants as k
+use Rattle.sql_grammar.specs.declared.kinds.Kind.{Kind}
+use Rattle.sql_grammar.specs.declared.kinds.Kind.TheVariants as k
 use Rattle.sql_read.specs.Cursor.{Cursor}
 use Rattle.sql_read.specs.Eating.{Extends, Overflows, PassesWithin, Stays}
-use Rattle.sql_read.specs.Kinds.{same}
-use Rattle.sql_read.specs.Numbering.{plain}
-use Rattle.sql_read.specs.QueryGrammar.{The, a}
+use Rattle.sql_grammar.specs.Kinds.{same}
+use Rattle.sql_grammar.specs.Numbering.{plain}
+use Rattle.sql_grammar.specs.QueryGrammar.{The, a}
 use Rattle.sql_read.specs.Reads.{Gives, Reads, Refuses, Takes}
 use Rattle.sql_read.proofs.Extending.{◌⨟◌, extends_within}
 use Rattle.sql_read.proofs.ReadLoops.{begins_skip, none_more, one_begins, one_taken, one_too_many}

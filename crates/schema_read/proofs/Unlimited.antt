@@ -5,8 +5,8 @@ use Rattle.grammar.specs.Form.{seq, alt, star, nest, map}
 use Rattle.grammar.specs.Productions.{skip_then, then_skip}
 use Rattle.grammar.proofs.Forms.{includes_itself, star_grows}
 use Rattle.sql_lex.specs.Lexemes.{Lexeme}
-use Rattle.sql_read.specs.declared.kinds.Kind.TheVariants as k
-use Rattle.sql_read.specs.QueryGrammar.{The, a, parens}
+use Rattle.sql_grammar.specs.declared.kinds.Kind.TheVariants as k
+use Rattle.sql_grammar.specs.QueryGrammar.{The, a, parens}
 use Rattle.schema_read.specs.Statements.{of_form}
 
 abbrev pub gl : {A : Type 0} → The A → Language Lexeme A

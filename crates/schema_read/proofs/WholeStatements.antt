@@ -18,15 +18,15 @@ use Rattle.sql_read.specs.declared.fault.LimitKind.{LimitKind}
 use Rattle.sql_read.specs.declared.fault.LimitKind.TheVariants as limit
 use Rattle.sql_read.specs.Cursor.{Cursor, next}
 use Rattle.sql_read.specs.Eating.{Extends, IsNextAt}
-use Rattle.sql_read.specs.Numbering.{Built}
-use Rattle.sql_read.specs.Kinds.{kind_of}
-use Rattle.sql_read.specs.Queries.{most_levels}
-use Rattle.sql_read.specs.QueryEntries.{few_rules, most_further}
-use Rattle.sql_read.specs.QueryGrammar.{Production}
-use Rattle.sql_read.specs.QueryPlan.{few_plan}
+use Rattle.sql_grammar.specs.Numbering.{Built}
+use Rattle.sql_grammar.specs.Kinds.{kind_of}
+use Rattle.sql_grammar.specs.Queries.{most_levels}
+use Rattle.sql_grammar.specs.QueryEntries.{few_rules, most_further}
+use Rattle.sql_grammar.specs.QueryGrammar.{Production}
+use Rattle.sql_grammar.specs.QueryPlan.{few_plan}
 use Rattle.sql_read.specs.Reads.{Fails, Exceeds, Gives, Refuses, SaysLimit, entries_too, few_form}
 use Rattle.sql_read.specs.Refusals.{refusal_of}
-use Rattle.sql_read.proofs.FewPlan.{few_plan_includes, few_rules_include}
+use Rattle.sql_grammar.proofs.FewPlan.{few_plan_includes, few_rules_include}
 use Rattle.schema_read.specs.Declarations.{IsSmall}
 use Rattle.schema_read.specs.ReadingStatements.{IsLimited, IsRead, IsRefused, IsUnfinished, PassesLimits, few_statement_entries}
 use Rattle.schema_read.specs.StatementGrammar as g

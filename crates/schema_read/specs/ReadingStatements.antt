@@ -9,8 +9,8 @@ use Rattle.sql_read.specs.declared.fault.ReadFault.TheVariants.{Lex, Unexpected,
 use Rattle.sql_read.specs.declared.fault.LimitKind.{LimitKind}
 use Rattle.sql_read.specs.declared.fault.LimitKind.TheVariants as limit
 use Rattle.sql_read.specs.Cursor.{Cursor, next}
-use Rattle.sql_read.specs.Numbering.{Built}
-use Rattle.sql_read.specs.QueryEntries.{most_further}
+use Rattle.sql_grammar.specs.Numbering.{Built}
+use Rattle.sql_grammar.specs.QueryEntries.{most_further}
 use Rattle.sql_read.specs.Refusals.{refusal_of}
 use Rattle.schema_read.specs.Declarations.{IsSmall}
 use Rattle.schema_read.specs.StatementLimits.{IsEntryTooMany, few_entry_statements}

@@ -7,10 +7,10 @@ use Rattle.sql_model.specs.declared.statement.NameAt.{NameAt}
 use Rattle.sql_model.specs.declared.statement.TableRule.{TableRule}
 use Rattle.sql_model.specs.declared.statement.Statement.{Statement}
 use Rattle.sql_lex.specs.Lexemes.{Lexeme}
-use Rattle.sql_read.specs.declared.kinds.Kind.{Kind}
-use Rattle.sql_read.specs.declared.kinds.Kind.TheVariants as k
-use Rattle.sql_read.specs.Numbering.{Built, each}
-use Rattle.sql_read.specs.QueryGrammar.{The, a, one_of, name, parens, listed, query}
+use Rattle.sql_grammar.specs.declared.kinds.Kind.{Kind}
+use Rattle.sql_grammar.specs.declared.kinds.Kind.TheVariants as k
+use Rattle.sql_grammar.specs.Numbering.{Built, each}
+use Rattle.sql_grammar.specs.QueryGrammar.{The, a, one_of, name, parens, listed, query}
 use Rattle.schema_read.specs.StatementTrees as t
 use Rattle.schema_read.specs.StatementTrees.{Elements, Target}
 

@@ -7,13 +7,12 @@ use Rattle.grammar.specs.Productions.{skip_then}
 use Rattle.sql_lex.specs.Lexemes.{Lexeme}
 use Rattle.sql_model.specs.declared.statement.Statement.{Statement}
 use Rattle.sql_model.specs.declared.statement.Statement.TheVariants as statement
-use Rattle.sql_read.specs.declared.kinds.Kind.TheVariants as k
-use Rattle.sql_read.specs.Kinds.{kind_of}
-use Rattle.sql_read.specs.Numbering.{each}
-use Rattle.sql_read.specs.Cursor.{most_copies}
-use Rattle.sql_read.specs.QueryCopies.{copy_rules, so_far}
-use Rattle.sql_read.specs.QueryEntries.{few_rules, most_further}
-use Rattle.sql_read.specs.QueryGrammar.{The, a}
+use Rattle.sql_grammar.specs.declared.kinds.Kind.TheVariants as k
+use Rattle.sql_grammar.specs.Kinds.{kind_of}
+use Rattle.sql_grammar.specs.Numbering.{each}
+use Rattle.sql_grammar.specs.QueryCopies.{copy_rules, most_copies, so_far}
+use Rattle.sql_grammar.specs.QueryEntries.{few_rules, most_further}
+use Rattle.sql_grammar.specs.QueryGrammar.{The, a}
 use Rattle.schema_read.specs.StatementTrees.{Elements}
 use Rattle.schema_read.specs.StatementGrammar as g
 use Rattle.schema_read.specs.Statements.{OfStatements, IsFirstBeyond, of_form}

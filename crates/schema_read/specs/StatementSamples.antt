@@ -14,11 +14,11 @@ use Rattle.sql_model.specs.declared.tree.Query.TheVariants as query
 use Rattle.sql_model.specs.declared.tree.Source.TheVariants as source
 use Rattle.sql_model.specs.declared.tree.Block.{roll-Block}
 use Rattle.sql_model.specs.Compute.{everything}
-use Rattle.sql_read.specs.Kinds.{kind_of}
-use Rattle.sql_read.specs.Numbering.{first_numbers}
-use Rattle.sql_read.specs.QueryCopies.{copy_rules, so_far}
-use Rattle.sql_read.specs.QueryGrammar.{rules}
-use Rattle.sql_read.specs.QuerySamples.{tokens, is_any}
+use Rattle.sql_grammar.specs.Kinds.{kind_of}
+use Rattle.sql_grammar.specs.Numbering.{first_numbers}
+use Rattle.sql_grammar.specs.QueryCopies.{copy_rules, so_far}
+use Rattle.sql_grammar.specs.QueryGrammar.{rules}
+use Rattle.sql_grammar.specs.QuerySamples.{tokens, is_any}
 use Rattle.schema_read.specs.StatementGrammar as g
 use Rattle.schema_read.specs.StatementLimits.{few_columns}
 

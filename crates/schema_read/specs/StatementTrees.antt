@@ -7,9 +7,9 @@ use Rattle.sql_model.specs.declared.statement.Statement.{Statement}
 use Rattle.sql_model.specs.declared.statement.Statement.TheVariants as statement
 use Rattle.sql_model.specs.declared.tree.Query.{Query}
 use Rattle.sql_lex.specs.Lexemes.{Lexeme}
-use Rattle.sql_read.specs.TokenValues.{name_of}
-use Rattle.sql_read.specs.Numbering.{Built, plain, mapped}
-use Rattle.sql_read.specs.QueryTrees.{is_given}
+use Rattle.sql_grammar.specs.TokenValues.{name_of}
+use Rattle.sql_grammar.specs.Numbering.{Built, plain, mapped}
+use Rattle.sql_grammar.specs.QueryTrees.{is_given}
 pub use Rattle.schema_read.specs.declared.reading.elements.Elements.{Elements}
 
 -- ---- names

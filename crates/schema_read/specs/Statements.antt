@@ -4,11 +4,11 @@ use Rattle.grammar.specs.Form.{Room, form_language}
 use Rattle.grammar.specs.Language.{Language}
 use Rattle.sql_lex.specs.Lexemes.{Lexeme}
 use Rattle.sql_model.specs.declared.statement.Statement.{Statement}
-use Rattle.sql_read.specs.Kinds.{kind_of}
-use Rattle.sql_read.specs.Numbering.{Numbers, Built}
-use Rattle.sql_read.specs.Queries.{most_levels, of_production}
-use Rattle.sql_read.specs.QueryGrammar.{The}
-use Rattle.sql_read.specs.QueryPlan.{of_plan}
+use Rattle.sql_grammar.specs.Kinds.{kind_of}
+use Rattle.sql_grammar.specs.Numbering.{Numbers, Built}
+use Rattle.sql_grammar.specs.Queries.{most_levels, of_production}
+use Rattle.sql_grammar.specs.QueryGrammar.{The}
+use Rattle.sql_grammar.specs.QueryPlan.{of_plan}
 use Rattle.schema_read.specs.StatementGrammar as g
 
 -- where the names of queries have their languages

@@ -11,7 +11,8 @@ use Rattle.sql_lex.specs.Classes.{IsToken}
 use Rattle.sql_lex.specs.Tokens.{Lexes}
 use Rattle.sql_lex.proofs.WholeTexts.{slices}
 use Rattle.sql_lex.specs.Bytes.{folded_byte, point}
-use Rattle.sql_read.specs.Cursor.{IsSound, most_copies, most_tokens, to_come}
+use Rattle.sql_read.specs.Cursor.{IsSound, most_tokens, to_come}
+use Rattle.sql_grammar.specs.QueryCopies.{most_copies}
 use Rattle.sql_read.specs.Refusals.{IsLeftOut, is_left_out_word, refusal_at}
 
 -- what the lexer gave and what it still holds is what it held

@@ -5,7 +5,7 @@ use Rattle.sql_lex.specs.Lexemes.{Lexeme}
 use Rattle.sql_read.specs.declared.fault.ReadFault.{ReadFault}
 use Rattle.sql_read.specs.Cursor.{Cursor, behind_next}
 use Rattle.sql_read.specs.Eating.{Copies, Extends, GoesOn, Misses, Overflows, Passes, PassesWithin, Stays}
-use Rattle.sql_read.specs.Kinds.{Kind}
+use Rattle.sql_grammar.specs.declared.kinds.Kind.{Kind}
 
 goes_nowhere : {X : Type 0} (xs : List X) → GoesOn xs xs
 goes_nowhere xs = ([], sym (append-nil xs))

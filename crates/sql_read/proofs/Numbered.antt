@@ -13,7 +13,7 @@ use Rattle.sql_model.specs.contracts.symbols.LitPartialEq.TheImpl.{eq-value}
 use Rattle.sql_model.specs.Syntax.{Name}
 use Rattle.sql_read.specs.Cursor.{Cursor}
 use Rattle.sql_read.specs.Eating.{Extends, GoesOn, Numbers}
-use Rattle.sql_read.specs.Numbering.{Built, place_of, with_member, is_same_literal, literal_number, symbol_number}
+use Rattle.sql_grammar.specs.Numbering.{Built, place_of, with_member, is_same_literal, literal_number, symbol_number}
 
 -- ---- lists in which each member stands once
 module _ {X : Type 0} (test p : X → Bool) (same : (x : X) → test x ≡ p x) where

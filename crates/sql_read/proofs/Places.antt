@@ -4,7 +4,7 @@ use Rattle.sql_model.specs.declared.tree.Expr.{Expr}
 use Rattle.sql_model.specs.declared.tree.Expr.TheVariants as expr
 use Rattle.sql_model.specs.declared.tree.Query.{Query}
 use Rattle.sql_model.specs.Compute.{everything}
-use Rattle.sql_read.specs.QueryTrees.{place}
+use Rattle.sql_grammar.specs.QueryTrees.{place}
 
 pub place_sub : (q : Query) (at : ℕ) → place (expr.Sub q at) ≡ at
 unfolding everything

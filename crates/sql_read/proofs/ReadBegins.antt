@@ -6,15 +6,16 @@ use Rattle.grammar.specs.Productions.{optional}
 use Rattle.grammar.proofs.Predictions.{produced}
 use Rattle.sql_lex.specs.Lexemes.{Lexeme}
 use Rattle.sql_model.specs.declared.tree.Expr.{Expr}
-use Rattle.sql_read.specs.Kinds as k
-use Rattle.sql_read.specs.Kinds.{Kind, among, every_kind, kind_of, same}
-use Rattle.sql_read.specs.QueryGrammar.{Production, The, a, ands, expr_tail, intersect, intersects, next_and, next_intersect, next_or, next_product, next_sum, next_union, operand, ors, part, products, rest, set_tail, sums, union_or_except, unions}
-use Rattle.sql_read.specs.QueryPlan.{plan}
-use Rattle.sql_read.specs.Numbering.{Built}
-use Rattle.sql_read.specs.QueryTrees.{Left}
+use Rattle.sql_grammar.specs.declared.kinds.Kind.TheVariants as k
+use Rattle.sql_grammar.specs.declared.kinds.Kind.{Kind}
+use Rattle.sql_grammar.specs.Kinds.{among, every_kind, kind_of, same}
+use Rattle.sql_grammar.specs.QueryGrammar.{Production, The, a, ands, expr_tail, intersect, intersects, next_and, next_intersect, next_or, next_product, next_sum, next_union, operand, ors, part, products, rest, set_tail, sums, union_or_except, unions}
+use Rattle.sql_grammar.specs.QueryPlan.{plan}
+use Rattle.sql_grammar.specs.Numbering.{Built}
+use Rattle.sql_grammar.specs.QueryTrees.{Left}
 use Rattle.sql_read.specs.Reads.{of_form}
-use Rattle.sql_read.proofs.EveryKind.{every_kind_is_there}
-use Rattle.sql_read.proofs.QueryTable.{planned}
+use Rattle.sql_grammar.proofs.EveryKind.{every_kind_is_there}
+use Rattle.sql_grammar.proofs.QueryTable.{planned}
 use Rattle.sql_read.proofs.ReadLoops.{Begins}
 
 either : (b c : Bool) → (b || c) ≡ true → (b ≡ true) ⊎ (c ≡ true)

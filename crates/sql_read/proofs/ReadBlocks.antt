@@ -13,18 +13,19 @@ use Rattle.sql_model.specs.declared.tree.Entry.{Entry}
 use Rattle.sql_read.specs.declared.fault.ReadFault.{ReadFault}
 use Rattle.sql_read.specs.Cursor.{Cursor}
 use Rattle.sql_read.specs.Eating.{Eats, Extends, Misses, Overflows, Passes, PassesWithin, Stays}
-use Rattle.sql_read.specs.Kinds as k
-use Rattle.sql_read.specs.Kinds.{Kind, same}
-use Rattle.sql_read.specs.Numbering.{Built, Numbers, each, perhaps, plain}
-use Rattle.sql_read.specs.QueryGrammar as grammar
-use Rattle.sql_read.specs.QueryEntries.{few_froms, most_further}
-use Rattle.sql_read.specs.QueryGrammar.{The, Froms, group_by, listed}
-use Rattle.sql_read.specs.QueryPlan.{of_plan}
-use Rattle.sql_read.specs.QueryTrees.{all_entries, all_of, block_node, block_of, columns_of, is_given}
+use Rattle.sql_grammar.specs.declared.kinds.Kind.TheVariants as k
+use Rattle.sql_grammar.specs.declared.kinds.Kind.{Kind}
+use Rattle.sql_grammar.specs.Kinds.{same}
+use Rattle.sql_grammar.specs.Numbering.{Built, Numbers, each, perhaps, plain}
+use Rattle.sql_grammar.specs.QueryGrammar as grammar
+use Rattle.sql_grammar.specs.QueryEntries.{few_froms, most_further}
+use Rattle.sql_grammar.specs.QueryGrammar.{The, Froms, group_by, listed}
+use Rattle.sql_grammar.specs.QueryPlan.{of_plan}
+use Rattle.sql_grammar.specs.QueryTrees.{all_entries, all_of, block_node, block_of, columns_of, is_given}
 use Rattle.sql_read.specs.Reads.{Told, entries_too, few_form, Builds, Gives, Refuses, RefusesWithin, Takes, TakesWithin}
-use Rattle.sql_read.proofs.FewPlan.{list_planned}
-use Rattle.sql_read.proofs.QueryTable.{planned}
-use Rattle.sql_read.proofs.QueryWords.{Below, itself, below_map, below_seq}
+use Rattle.sql_grammar.proofs.FewPlan.{list_planned}
+use Rattle.sql_grammar.proofs.QueryTable.{planned}
+use Rattle.sql_grammar.proofs.QueryWords.{Below, itself, below_map, below_seq}
 use Rattle.sql_read.proofs.Extending.{extends_passes, extends_stays}
 use Rattle.sql_read.proofs.ReadLoops.{Begins, none_more, one_begins, one_taken, one_too_many, takes}
 use Rattle.sql_read.proofs.ReadPassing.{Alike, ◌then◌, alike_passes, alike_stays, alike_within}

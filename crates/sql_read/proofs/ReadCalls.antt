@@ -8,13 +8,13 @@ use Rattle.sql_model.specs.declared.tree.Expr.{Expr}
 use Rattle.sql_read.specs.declared.fault.ReadFault.{ReadFault}
 use Rattle.sql_read.specs.Cursor.{Cursor}
 use Rattle.sql_read.specs.Eating.{ExpectsWithin, Numbers, Passes, PassesWithin, Stays}
-use Rattle.sql_read.specs.Kinds as k
-use Rattle.sql_read.specs.Kinds.{among, same}
-use Rattle.sql_read.specs.Numbering.{Built}
-use Rattle.sql_read.specs.QueryGrammar.{The, a, parens}
-use Rattle.sql_read.specs.QueryPlan.{arguments, column_of, count_arguments, dot_name, dot_star_or_name, named_first, one_argument, other_aggregate, star_or_column, Starred, starred}
+use Rattle.sql_grammar.specs.declared.kinds.Kind.TheVariants as k
+use Rattle.sql_grammar.specs.Kinds.{among, same}
+use Rattle.sql_grammar.specs.Numbering.{Built}
+use Rattle.sql_grammar.specs.QueryGrammar.{The, a, parens}
+use Rattle.sql_grammar.specs.QueryPlan.{arguments, column_of, count_arguments, dot_name, dot_star_or_name, named_first, one_argument, other_aggregate, star_or_column, Starred, starred}
 use Rattle.sql_read.specs.Reads.{Refuses, Takes}
-use Rattle.sql_read.proofs.QueryTable.{planned}
+use Rattle.sql_grammar.proofs.QueryTable.{planned}
 use Rattle.sql_read.proofs.ReadSteps.{begins_with, blocks, by_token, eaten, Left, mapped, refuses, starts, whole}
 use Rattle.sql_read.proofs.ReadPassing.{opened, other_stays, unopened_alone, within_alone}
 

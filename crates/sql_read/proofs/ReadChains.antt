@@ -10,12 +10,13 @@ use Rattle.sql_model.specs.declared.tree.Expr.TheVariants as expr
 use Rattle.sql_read.specs.declared.fault.ReadFault.{ReadFault}
 use Rattle.sql_read.specs.Cursor.{Cursor}
 use Rattle.sql_read.specs.Eating.{is_next, Passes, Stays, Overflows, PassesWithin}
-use Rattle.sql_read.specs.Kinds.{Kind, kind_of}
-use Rattle.sql_read.specs.Numbering.{Built, Numbers, plain, mapped, both, each}
-use Rattle.sql_read.specs.QueryGrammar.{The}
-use Rattle.sql_read.specs.QueryTrees.{chained, operated, operator, place}
+use Rattle.sql_grammar.specs.declared.kinds.Kind.{Kind}
+use Rattle.sql_grammar.specs.Kinds.{kind_of}
+use Rattle.sql_grammar.specs.Numbering.{Built, Numbers, plain, mapped, both, each}
+use Rattle.sql_grammar.specs.QueryGrammar.{The}
+use Rattle.sql_grammar.specs.QueryTrees.{chained, operated, operator, place}
 use Rattle.sql_read.specs.Reads.{of_form, Builds, Takes, Gives, Refuses}
-use Rattle.sql_read.proofs.QueryTable.{planned}
+use Rattle.sql_grammar.proofs.QueryTable.{planned}
 use Rattle.sql_read.proofs.ReadSteps.{Left, Blocks, begins_with, whole, eaten, blocks, refuses, behind, built_map, built_both}
 use Rattle.sql_read.proofs.ReadSteps as steps
 use Rattle.sql_read.proofs.ReadLoops.{begins_seq, begins_skip, takes, none_more, one_taken, one_begins, one_too_many}

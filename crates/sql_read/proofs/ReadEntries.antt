@@ -21,21 +21,23 @@ use Rattle.sql_model.specs.declared.tree.Entry.{Entry}
 use Rattle.sql_read.specs.declared.fault.ReadFault.{ReadFault}
 use Rattle.sql_read.specs.Cursor.{Cursor}
 use Rattle.sql_read.specs.Eating.{Eats, Extends, Misses, Overflows, Passes, PassesWithin, Stays, allowed_entry, is_next, most_entries}
-use Rattle.sql_read.specs.Kinds as k
-use Rattle.sql_read.specs.Kinds.{Kind, among, kind_of, name_kinds, same}
-use Rattle.sql_read.specs.Numbering.{Built, Numbers, each, plain}
-use Rattle.sql_read.specs.QueryGrammar as grammar
-use Rattle.sql_read.specs.QueryGrammar.{The, cross_join, from, join_on, listed, parens}
-use Rattle.sql_read.specs.QueryLookahead.{table}
-use Rattle.sql_read.specs.QueryTrees as t
-use Rattle.sql_read.specs.QueryTrees.{Listed, all_entries, appended, concatenated, entry_of}
+use Rattle.sql_grammar.specs.declared.kinds.Kind.TheVariants as k
+use Rattle.sql_grammar.specs.declared.kinds.Kind.{Kind}
+use Rattle.sql_grammar.specs.Kinds.{among, kind_of, name_kinds, same}
+use Rattle.sql_grammar.specs.Numbering.{Built, Numbers, each, plain}
+use Rattle.sql_grammar.specs.QueryGrammar as grammar
+use Rattle.sql_grammar.specs.QueryGrammar.{The, cross_join, from, join_on, listed, parens}
+use Rattle.sql_grammar.specs.QueryLookahead.{table}
+use Rattle.sql_grammar.specs.QueryTrees as t
+use Rattle.sql_grammar.specs.declared.listed.Listed.{Listed}
+use Rattle.sql_grammar.specs.QueryTrees.{all_entries, appended, concatenated, entry_of}
 use Rattle.sql_read.specs.ReadingEntries.{entry_behind, fits, joins_behind}
 use Rattle.sql_read.specs.Reads.{depth_alone, entries_too, of_form, few_form, Builds, GivesWithin, Lacks, ReadsNextWithin, Refuses, RefusesWithin, Takes, TakesWithin}
-use Rattle.sql_read.proofs.QueryTable.{planned}
+use Rattle.sql_grammar.proofs.QueryTable.{planned}
 use Rattle.sql_read.proofs.ReadBlocks.{token_if_any}
 use Rattle.sql_read.proofs.ReadEntryLists.{behind_on_within, cross_part, entry_within, joins, on_part}
 use Rattle.sql_read.proofs.ReadTold.{refused_alone, taken_alone}
-use Rattle.sql_read.proofs.EveryKind.{every_kind_is_there}
+use Rattle.sql_grammar.proofs.EveryKind.{every_kind_is_there}
 use Rattle.sql_read.proofs.ReadPassing.{alike_passes, built_until, opened, overflows, overflows_alone, within_alone}
 use Rattle.sql_read.proofs.ReadChains.{built_by, built_to, each_more, each_more_copies}
 use Rattle.sql_read.proofs.ReadLoops.{Begins, first_there, none_more, one_begins, one_taken, one_too_many, repeated_begins, repeated_end, repeated_next, takes}

@@ -19,17 +19,18 @@ use Rattle.grammar.proofs.Steps.{IsWithin, map_within, token_took}
 use Rattle.sql_lex.specs.Lexemes.{Lexeme}
 use Rattle.sql_model.specs.declared.tree.Entry.{Entry}
 use Rattle.sql_read.specs.Eating.{is_next, most_entries}
-use Rattle.sql_read.specs.Kinds as k
-use Rattle.sql_read.specs.Kinds.{Kind, kind_of, same}
-use Rattle.sql_read.specs.Numbering.{Built}
-use Rattle.sql_read.specs.QueryEntries.{Further, before_entry, further_entries, most_further, next_entry}
-use Rattle.sql_read.specs.QueryGrammar as grammar
-use Rattle.sql_read.specs.QueryGrammar.{The, cross_join, entry, join_on}
-use Rattle.sql_read.specs.QueryTrees as t
-use Rattle.sql_read.specs.QueryTrees.{Listed}
+use Rattle.sql_grammar.specs.declared.kinds.Kind.TheVariants as k
+use Rattle.sql_grammar.specs.declared.kinds.Kind.{Kind}
+use Rattle.sql_grammar.specs.Kinds.{kind_of, same}
+use Rattle.sql_grammar.specs.Numbering.{Built}
+use Rattle.sql_grammar.specs.QueryEntries.{Further, before_entry, further_entries, most_further, next_entry}
+use Rattle.sql_grammar.specs.QueryGrammar as grammar
+use Rattle.sql_grammar.specs.QueryGrammar.{The, cross_join, entry, join_on}
+use Rattle.sql_grammar.specs.QueryTrees as t
+use Rattle.sql_grammar.specs.declared.listed.Listed.{Listed}
 use Rattle.sql_read.specs.ReadingEntries.{EntryAwaited, FurtherLeft, at_start, behind_comma, entry_behind, entry_if, few_list, fits, joins_behind, joins_if, one_list}
 use Rattle.sql_read.specs.Reads.{few_form, of_form}
-use Rattle.sql_read.proofs.QueryTable.{planned}
+use Rattle.sql_grammar.proofs.QueryTable.{planned}
 use Rattle.sql_read.proofs.ReadSteps.{Halts, entries_within}
 
 abbrev pub joins : The (Built Entry)

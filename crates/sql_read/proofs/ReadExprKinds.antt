@@ -7,12 +7,13 @@ use Rattle.sql_model.specs.declared.tree.Expr.{Expr}
 use Rattle.sql_read.specs.declared.fault.ReadFault.{ReadFault}
 use Rattle.sql_read.specs.Cursor.{Cursor}
 use Rattle.sql_read.specs.Eating.{is_next, Stays}
-use Rattle.sql_read.specs.Kinds as k
-use Rattle.sql_read.specs.Kinds.{Kind, among, same}
-use Rattle.sql_read.specs.QueryGrammar.{The, ands, conj, expr, listed, neg, ors, primary, products, sums, term, test, unary, value}
-use Rattle.sql_read.specs.Numbering.{Built, each}
-use Rattle.sql_read.specs.QueryPlan.{plan}
-use Rattle.sql_read.specs.QueryTrees.{all_of, listed_or_none}
+use Rattle.sql_grammar.specs.declared.kinds.Kind.TheVariants as k
+use Rattle.sql_grammar.specs.declared.kinds.Kind.{Kind}
+use Rattle.sql_grammar.specs.Kinds.{among, same}
+use Rattle.sql_grammar.specs.QueryGrammar.{The, ands, conj, expr, listed, neg, ors, primary, products, sums, term, test, unary, value}
+use Rattle.sql_grammar.specs.Numbering.{Built, each}
+use Rattle.sql_grammar.specs.QueryPlan.{plan}
+use Rattle.sql_grammar.specs.QueryTrees.{all_of, listed_or_none}
 use Rattle.sql_read.specs.Reads.{Gives, Refuses}
 use Rattle.sql_read.proofs.ReadBegins.{begins_among, begins_both, begins_first, begins_name}
 use Rattle.sql_read.proofs.ReadGoingOn.{gives_on}

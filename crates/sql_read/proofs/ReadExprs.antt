@@ -8,10 +8,10 @@ use Rattle.sql_read.specs.declared.fault.ReadFault.{ReadFault}
 use Rattle.sql_read.specs.declared.tokens.counting.Mark.{Mark}
 use Rattle.sql_read.specs.Cursor.{Cursor}
 use Rattle.sql_read.specs.Eating.{Extends, IsBehind}
-use Rattle.sql_read.specs.Numbering.{Built}
-use Rattle.sql_read.specs.QueryGrammar as grammar
-use Rattle.sql_read.specs.QueryGrammar.{The, ands, ors, products, sums}
-use Rattle.sql_read.specs.QueryTrees.{continued}
+use Rattle.sql_grammar.specs.Numbering.{Built}
+use Rattle.sql_grammar.specs.QueryGrammar as grammar
+use Rattle.sql_grammar.specs.QueryGrammar.{The, ands, ors, products, sums}
+use Rattle.sql_grammar.specs.QueryTrees.{continued}
 use Rattle.sql_read.specs.Reads.{Builds, IsBuilt, Refuses, Takes}
 use Rattle.sql_read.proofs.ReadSteps.{Left, first_part, mapped, production, refuses, second, whole}
 use Rattle.sql_read.proofs.ReadPassing.{took_counted}

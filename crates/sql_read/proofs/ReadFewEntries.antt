@@ -24,19 +24,21 @@ use Rattle.sql_read.specs.declared.fault.ReadFault.{ReadFault}
 use Rattle.sql_read.specs.declared.fault.ReadFault.TheVariants.{Lex, Unexpected, LeftOut, TooDeep, Limit, NoMemory}
 use Rattle.sql_read.specs.Cursor.{Cursor}
 use Rattle.sql_read.specs.Eating.{Overflows, Passes, PassesWithin, Stays, allowed_entry, is_next, most_entries}
-use Rattle.sql_read.specs.Kinds as k
-use Rattle.sql_read.specs.Kinds.{Kind, among, kind_of, name_kinds, same}
-use Rattle.sql_read.specs.Numbering.{Built}
-use Rattle.sql_read.specs.QueryEntries.{Further, few_froms, items_of, most_further, next_entry}
-use Rattle.sql_read.specs.QueryGrammar.{The, Froms, entry, from, listed}
-use Rattle.sql_read.specs.QueryLookahead.{table}
-use Rattle.sql_read.specs.QueryPlan.{of_plan, plan}
-use Rattle.sql_read.specs.QueryTrees.{Listed, all_entries}
+use Rattle.sql_grammar.specs.declared.kinds.Kind.TheVariants as k
+use Rattle.sql_grammar.specs.declared.kinds.Kind.{Kind}
+use Rattle.sql_grammar.specs.Kinds.{among, kind_of, name_kinds, same}
+use Rattle.sql_grammar.specs.Numbering.{Built}
+use Rattle.sql_grammar.specs.QueryEntries.{Further, few_froms, items_of, most_further, next_entry}
+use Rattle.sql_grammar.specs.QueryGrammar.{The, Froms, entry, from, listed}
+use Rattle.sql_grammar.specs.QueryLookahead.{table}
+use Rattle.sql_grammar.specs.QueryPlan.{of_plan, plan}
+use Rattle.sql_grammar.specs.declared.listed.Listed.{Listed}
+use Rattle.sql_grammar.specs.QueryTrees.{all_entries}
 use Rattle.sql_read.specs.ReadingEntries.{EntryAwaited, FurtherLeft, ListLimit, ListRead, ListRefused, ReadsList, at_start, behind_comma, entry_behind, entry_if, few_list, fits, joins_behind, one_list}
 use Rattle.sql_read.specs.Reads.{depth_alone, entries_too, few_form, of_form, Crowds, GivesWithin, Lacks, Refuses, RefusesWithin, Reads, ReadsWithin, SaysLimit, TakesWithin}
-use Rattle.sql_read.proofs.EveryKind.{every_kind_is_there}
-use Rattle.sql_read.proofs.FewPlan.{list_planned}
-use Rattle.sql_read.proofs.QueryTable.{planned}
+use Rattle.sql_grammar.proofs.EveryKind.{every_kind_is_there}
+use Rattle.sql_grammar.proofs.FewPlan.{list_planned}
+use Rattle.sql_grammar.proofs.QueryTable.{planned}
 use Rattle.sql_read.proofs.ReadEntryLists.{comma_entry, list_begins, entry_halts, entry_read, join_halts, join_read, joins, list_ended}
 use Rattle.sql_read.proofs.ReadEntries.{join_begins, join_kinds}
 use Rattle.sql_read.proofs.ReadLoops.{IsFirst, first_there}

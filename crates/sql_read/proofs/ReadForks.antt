@@ -10,13 +10,13 @@ use Rattle.sql_model.specs.declared.tree.Expr.{Expr}
 use Rattle.sql_model.specs.declared.tree.Item.{Item}
 use Rattle.sql_read.specs.declared.reading.item.Starred.TheVariants as read_starred
 use Rattle.sql_read.specs.Cursor.{Cursor}
-use Rattle.sql_read.specs.Numbering.{Built, mapped}
+use Rattle.sql_grammar.specs.Numbering.{Built, mapped}
 use Rattle.sql_read.specs.Parts.{built_starred}
-use Rattle.sql_read.specs.QueryGrammar.{The}
-use Rattle.sql_read.specs.QueryPlan.{Starred}
-use Rattle.sql_read.specs.QueryTrees as t
+use Rattle.sql_grammar.specs.QueryGrammar.{The}
+use Rattle.sql_grammar.specs.QueryPlan.{Starred}
+use Rattle.sql_grammar.specs.QueryTrees as t
 use Rattle.sql_read.specs.Reads.{Told, of_form, few_form, Builds, Gives, Takes, TakesWithin}
-use Rattle.sql_read.proofs.QueryTable.{planned}
+use Rattle.sql_grammar.proofs.QueryTable.{planned}
 use Rattle.sql_read.proofs.ReadSteps.{BlocksOf, LeftOf, deep_within, entries_within}
 
 -- ---- what goes by the first's value

@@ -14,18 +14,19 @@ use Rattle.sql_read.specs.declared.tokens.counting.Mark.{Mark}
 use Rattle.sql_read.specs.declared.fault.ReadFault.{ReadFault}
 use Rattle.sql_read.specs.Cursor.{Cursor}
 use Rattle.sql_read.specs.Eating.{Extends, is_next, IsBehind, IsMark, Numbers, PassesWithin, Stays}
-use Rattle.sql_read.specs.Kinds as k
-use Rattle.sql_read.specs.Kinds.{Kind, among, same}
-use Rattle.sql_read.specs.Numbering.{Built, each, plain, symbol_number}
+use Rattle.sql_grammar.specs.declared.kinds.Kind.TheVariants as k
+use Rattle.sql_grammar.specs.declared.kinds.Kind.{Kind}
+use Rattle.sql_grammar.specs.Kinds.{among, name_kinds, same}
+use Rattle.sql_grammar.specs.Numbering.{Built, each, plain, symbol_number}
 use Rattle.sql_read.specs.Parts.{built_starred}
-use Rattle.sql_read.specs.QueryGrammar.{a, alias, and_tail, exists, expr_tail, listed, not_neg, The}
-use Rattle.sql_read.specs.QueryGrammar as grammar
-use Rattle.sql_read.specs.QueryPlan.{arguments, going_on, going_on_by_and, item_value, named_item, star_or_left, starred}
-use Rattle.sql_read.specs.QueryTrees as t
-use Rattle.sql_read.specs.QueryTrees.{listed_or_none, name_of_alias}
+use Rattle.sql_grammar.specs.QueryGrammar.{a, alias, and_tail, exists, expr_tail, listed, not_neg, The}
+use Rattle.sql_grammar.specs.QueryGrammar as grammar
+use Rattle.sql_grammar.specs.QueryPlan.{arguments, going_on, going_on_by_and, item_value, named_item, star_or_left, starred}
+use Rattle.sql_grammar.specs.QueryTrees as t
+use Rattle.sql_grammar.specs.QueryTrees.{listed_or_none, name_of_alias}
 use Rattle.sql_read.specs.Reads.{Builds, Gives, IsBuilt, Reads, Refuses}
-use Rattle.sql_read.specs.TokenValues.{name_of}
-use Rattle.sql_read.proofs.QueryTable.{planned}
+use Rattle.sql_grammar.specs.TokenValues.{name_of}
+use Rattle.sql_grammar.proofs.QueryTable.{planned}
 use Rattle.sql_read.proofs.ReadCalls.{left_there, parens_opened, tokens_numbered}
 use Rattle.sql_read.proofs.ReadForks.{first_read, forks, IsFirst, of_first, of_other, star_read, takes_mapped}
 use Rattle.sql_read.proofs.ReadInsides.{takes_nothing}
@@ -120,11 +121,11 @@ module _ {d : ℕ} {m n : Cursor} where
         named_item_read u = gives (second tail_left refl tail_given.takes) u.read u.takes (built_value u.read tail_given.builds u.builds)
 
 module _ {d : ℕ} {m n : Cursor} (s : Stays (same k.Star) m n) where
-  pub item_left : is_next (among k.name_kinds) n.tokens ≡ false → Left (seq item_value (optional alias)) d n.tokens (ref grammar.item) d m.tokens (λ p. t.value_item p.0 p.1)
-  item_left i = mapped (other_unless (among k.name_kinds) (other_stays (production grammar.item whole) refl refl s) refl refl i)
+  pub item_left : is_next (among name_kinds) n.tokens ≡ false → Left (seq item_value (optional alias)) d n.tokens (ref grammar.item) d m.tokens (λ p. t.value_item p.0 p.1)
+  item_left i = mapped (other_unless (among name_kinds) (other_stays (production grammar.item whole) refl refl s) refl refl i)
 
-  pub item_named : is_next (among k.name_kinds) n.tokens ≡ true → Left named_item d n.tokens (ref grammar.item) d m.tokens (λ v. v)
-  item_named i = first_where (among k.name_kinds) (other_stays (production grammar.item whole) refl refl s) refl refl i
+  pub item_named : is_next (among name_kinds) n.tokens ≡ true → Left named_item d n.tokens (ref grammar.item) d m.tokens (λ v. v)
+  item_named i = first_where (among name_kinds) (other_stays (production grammar.item whole) refl refl s) refl refl i
 
 -- ---- calls
 

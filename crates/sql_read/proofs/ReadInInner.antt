@@ -8,13 +8,13 @@ use Rattle.sql_model.specs.declared.tree.Query.{Query}
 use Rattle.sql_read.specs.declared.fault.ReadFault.{ReadFault}
 use Rattle.sql_read.specs.Cursor.{Cursor}
 use Rattle.sql_read.specs.Eating.{is_next, Stays}
-use Rattle.sql_read.specs.Kinds as k
-use Rattle.sql_read.specs.Kinds.{same}
-use Rattle.sql_read.specs.Numbering.{Built}
-use Rattle.sql_read.specs.QueryGrammar.{The, block, commas, expr_tail, in_inner, in_parentheses, inner, set_tail}
-use Rattle.sql_read.specs.QueryPlan.{after_expression, after_query, no_parenthesis}
-use Rattle.sql_read.specs.QueryTrees as t
-use Rattle.sql_read.specs.QueryTrees.{Enclosed, Inside, Left as Part}
+use Rattle.sql_grammar.specs.declared.kinds.Kind.TheVariants as k
+use Rattle.sql_grammar.specs.Kinds.{same}
+use Rattle.sql_grammar.specs.Numbering.{Built}
+use Rattle.sql_grammar.specs.QueryGrammar.{The, block, commas, expr_tail, in_inner, in_parentheses, inner, set_tail}
+use Rattle.sql_grammar.specs.QueryPlan.{after_expression, after_query, no_parenthesis}
+use Rattle.sql_grammar.specs.QueryTrees as t
+use Rattle.sql_grammar.specs.QueryTrees.{Enclosed, Inside, Left as Part}
 use Rattle.sql_read.specs.Reads.{of_form, Builds, Gives, Reads, Refuses, Takes}
 use Rattle.sql_read.proofs.ReadBegins.{expr_tail_begins, set_kinds, set_tail_begins, tail_kinds}
 use Rattle.sql_read.proofs.ReadForks.{forks, of_first, of_other}

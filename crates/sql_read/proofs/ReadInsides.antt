@@ -13,13 +13,13 @@ use Rattle.sql_read.specs.declared.reading.inside.Grouped.{Grouped}
 use Rattle.sql_read.specs.declared.reading.inside.Grouped.TheVariants as read_grouped
 use Rattle.sql_read.specs.Cursor.{Cursor}
 use Rattle.sql_read.specs.Eating.{Extends, is_next}
-use Rattle.sql_read.specs.Kinds.{Kind}
-use Rattle.sql_read.specs.Numbering.{Built, mapped}
+use Rattle.sql_grammar.specs.declared.kinds.Kind.{Kind}
+use Rattle.sql_grammar.specs.Numbering.{Built, mapped}
 use Rattle.sql_read.specs.Parts.{built_grouped, built_inside, grouped_of}
-use Rattle.sql_read.specs.QueryGrammar.{The, in_parentheses, inner}
-use Rattle.sql_read.specs.QueryPlan.{sort}
-use Rattle.sql_read.specs.QueryTrees as t
-use Rattle.sql_read.specs.QueryTrees.{Enclosed, Inside, Left as Part}
+use Rattle.sql_grammar.specs.QueryGrammar.{The, in_parentheses, inner}
+use Rattle.sql_grammar.specs.QueryPlan.{sort}
+use Rattle.sql_grammar.specs.QueryTrees as t
+use Rattle.sql_grammar.specs.QueryTrees.{Enclosed, Inside, Left as Part}
 use Rattle.sql_read.specs.Reads.{of_form, few_form, Builds, Gives, IsBuilt, Takes}
 use Rattle.sql_read.proofs.ReadForks.{takes_mapped, unmapped, not_both}
 use Rattle.sql_read.proofs.ReadLoops.{Begins, first_there}

@@ -14,13 +14,13 @@ use Rattle.sql_read.specs.declared.fault.ReadFault.TheVariants.{Lex, Unexpected,
 use Rattle.sql_read.specs.declared.fault.LimitKind.TheVariants as limit
 use Rattle.sql_read.specs.Cursor.{Cursor}
 use Rattle.sql_read.specs.Eating.{Copies, Extends, Stays, Overflows, PassesWithin}
-use Rattle.sql_read.specs.Kinds.{Kind}
-use Rattle.sql_read.specs.Numbering.{Built, Numbers, both, each, copying, mapped}
-use Rattle.sql_read.specs.QueryGrammar.{The}
-use Rattle.sql_read.specs.QueryTrees as trees
-use Rattle.sql_read.specs.QueryTrees.{equals_each, in_list, member, place}
+use Rattle.sql_grammar.specs.declared.kinds.Kind.{Kind}
+use Rattle.sql_grammar.specs.Numbering.{Built, Numbers, both, each, copying, mapped}
+use Rattle.sql_grammar.specs.QueryGrammar.{The}
+use Rattle.sql_grammar.specs.QueryTrees as trees
+use Rattle.sql_grammar.specs.QueryTrees.{equals_each, in_list, member, place}
 use Rattle.sql_read.specs.Reads.{of_form, Builds, Gives, Reads, Refuses, Takes}
-use Rattle.sql_read.proofs.QueryTable.{planned}
+use Rattle.sql_grammar.proofs.QueryTable.{planned}
 use Rattle.sql_read.proofs.Extending.{extends_itself}
 use Rattle.sql_read.proofs.ReadSteps.{Left, Blocks, begins_with, whole, eaten, blocks, refuses, built_map, built_both}
 use Rattle.sql_read.proofs.ReadSteps as steps

@@ -15,10 +15,11 @@ use Rattle.sql_read.specs.declared.fault.ReadFault.{ReadFault}
 use Rattle.sql_read.specs.declared.fault.ReadFault.TheVariants.{Lex, Unexpected, LeftOut, TooDeep, Limit, NoMemory}
 use Rattle.sql_read.specs.Cursor.{Cursor}
 use Rattle.sql_read.specs.Eating.{ExpectsWithin, Extends, is_next, IsNextAt, Passes, Stays, Overflows, PassesWithin}
-use Rattle.sql_read.specs.Kinds.{Kind, kind_of}
-use Rattle.sql_read.specs.QueryGrammar.{The}
+use Rattle.sql_grammar.specs.declared.kinds.Kind.{Kind}
+use Rattle.sql_grammar.specs.Kinds.{kind_of}
+use Rattle.sql_grammar.specs.QueryGrammar.{The}
 use Rattle.sql_read.specs.Reads.{Told, TellsEntries, of_form, few_form, TakesWithin, RefusesWithin}
-use Rattle.sql_read.proofs.QueryTable.{planned}
+use Rattle.sql_grammar.proofs.QueryTable.{planned}
 use Rattle.sql_read.proofs.Extending.{extends_misses, extends_overflows}
 pub use Rattle.sql_read.proofs.ReadSteps.{takes}
 use Rattle.sql_read.proofs.ReadSteps.{LeftOf, BlocksOf, absent_unless, begins_with, deep_within, entries_within}

@@ -12,16 +12,18 @@ use Rattle.sql_model.specs.Syntax.{Name}
 use Rattle.sql_read.specs.declared.fault.ReadFault.{ReadFault}
 use Rattle.sql_read.specs.Cursor.{Cursor}
 use Rattle.sql_read.specs.Eating.{Eats, Expects, Extends, is_next, Misses, Numbers, Passes, Stays}
-use Rattle.sql_read.specs.Kinds as k
-use Rattle.sql_read.specs.Kinds.{Kind, among, kind_of, same}
-use Rattle.sql_read.specs.Numbering.{Built, literal_number, plain}
-use Rattle.sql_read.specs.QueryGrammar.{a, alias, name, name_kinds, reference}
+use Rattle.sql_grammar.specs.declared.kinds.Kind.TheVariants as k
+use Rattle.sql_grammar.specs.declared.kinds.Kind.{Kind}
+use Rattle.sql_grammar.specs.Kinds.{among, kind_of, same}
+use Rattle.sql_grammar.specs.Numbering.{Built, literal_number, plain}
+use Rattle.sql_grammar.specs.Kinds.{name_kinds}
+use Rattle.sql_grammar.specs.QueryGrammar.{a, alias, name, reference}
 use Rattle.grammar.specs.Form.{alt, map, ref}
-use Rattle.sql_read.specs.QueryPlan.{column_of, dot_name, dot_star_or_name, literal}
-use Rattle.sql_read.specs.QueryTrees.{literal_at, name_of_alias, number_of, text_of}
+use Rattle.sql_grammar.specs.QueryPlan.{column_of, dot_name, dot_star_or_name, literal}
+use Rattle.sql_grammar.specs.QueryTrees.{literal_at, name_of_alias, number_of, text_of}
 use Rattle.sql_read.specs.Reads.{Builds, Gives, Reads, ReadsNext, read_lexeme, read_lexeme_if_any, Refuses, Takes}
 use Rattle.sql_read.proofs.ReadSteps.{before, blocks, built_as, built_map, by_token, eaten, gives, Left, mapped, missed, none_taken, plain_here, plain_still, production, refuses, second, some_left, starts, took_token, whole}
-use Rattle.sql_read.specs.TokenValues.{name_of}
+use Rattle.sql_grammar.specs.TokenValues.{name_of}
 use Rattle.sql_read.proofs.Extending.{◌⨟◌, extends_misses, extends_passes}
 use Rattle.sql_read.proofs.ReadBlocks.{extends_eats}
 use Rattle.sql_read.proofs.ReadCalls.{takes_there, tokens_numbered}

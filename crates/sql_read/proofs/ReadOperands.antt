@@ -6,12 +6,12 @@ use Rattle.sql_lex.specs.Lexemes.{Lexeme}
 use Rattle.sql_read.specs.declared.fault.ReadFault.{ReadFault}
 use Rattle.sql_read.specs.Cursor.{Cursor}
 use Rattle.sql_read.specs.Eating.{is_next, Overflows, PassesWithin, Stays}
-use Rattle.sql_read.specs.Kinds as k
-use Rattle.sql_read.specs.Kinds.{among, same}
-use Rattle.sql_read.specs.QueryGrammar.{block, operand, parens, query}
-use Rattle.sql_read.specs.QueryGrammar as grammar
+use Rattle.sql_grammar.specs.declared.kinds.Kind.TheVariants as k
+use Rattle.sql_grammar.specs.Kinds.{among, same}
+use Rattle.sql_grammar.specs.QueryGrammar.{block, operand, parens, query}
+use Rattle.sql_grammar.specs.QueryGrammar as grammar
 use Rattle.sql_read.specs.Reads.{Refuses}
-use Rattle.sql_read.proofs.QueryTable.{planned}
+use Rattle.sql_grammar.proofs.QueryTable.{planned}
 use Rattle.sql_read.proofs.ReadPassing.{opened, overflows, overflows_alone, stays_alone, within_alone}
 use Rattle.sql_read.proofs.ReadSteps.{Left, absent_unless, absent_where, blocks, first, mapped, next_there, other, production, refuses, whole}
 

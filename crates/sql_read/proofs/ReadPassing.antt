@@ -13,11 +13,12 @@ use Rattle.sql_read.specs.declared.fault.ReadFault.{ReadFault}
 use Rattle.sql_read.specs.declared.fault.ReadFault.TheVariants.{Lex, Unexpected, LeftOut, TooDeep, Limit, NoMemory}
 use Rattle.sql_read.specs.Cursor.{Cursor}
 use Rattle.sql_read.specs.Eating.{ExpectsWithin, Extends, is_next, Misses, Numbers, Overflows, Passes, PassesWithin, Stays}
-use Rattle.sql_read.specs.Kinds.{Kind, among, kind_of, same}
-use Rattle.sql_read.specs.Numbering.{Built}
-use Rattle.sql_read.specs.QueryGrammar.{The}
+use Rattle.sql_grammar.specs.declared.kinds.Kind.{Kind}
+use Rattle.sql_grammar.specs.Kinds.{among, kind_of, same}
+use Rattle.sql_grammar.specs.Numbering.{Built}
+use Rattle.sql_grammar.specs.QueryGrammar.{The}
 use Rattle.sql_read.specs.Reads.{Told, TellsEntries, of_form, few_form, Builds, IsBuilt, ReadsWithin, Refuses, RefusesWithin, Takes}
-use Rattle.sql_read.proofs.QueryTable.{planned}
+use Rattle.sql_grammar.proofs.QueryTable.{planned}
 use Rattle.sql_read.proofs.ReadSteps.{absent_unless, begins_with, blocks, by_next, deep_within, eaten, entries_within, ExceededForm, fails, first, gives, LeftOf, LeftWithin, nested, other, refuses}
 
 -- ---- sets of one kind

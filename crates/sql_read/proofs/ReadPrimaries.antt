@@ -7,14 +7,15 @@ use Rattle.sql_model.specs.declared.tree.Expr.{Expr}
 use Rattle.sql_read.specs.Cursor.{Cursor}
 use Rattle.sql_read.specs.declared.fault.ReadFault.{ReadFault}
 use Rattle.sql_read.specs.Eating.{Eats, is_next, Overflows, Passes, PassesWithin, Stays}
-use Rattle.sql_read.specs.Kinds as k
-use Rattle.sql_read.specs.Kinds.{Kind, among, kind_of, same}
-use Rattle.sql_read.specs.Numbering.{Built}
-use Rattle.sql_read.specs.QueryGrammar.{a, exists, minus, neg, not_neg, parens, primary, query, The}
-use Rattle.sql_read.specs.QueryGrammar as grammar
-use Rattle.sql_read.specs.QueryTrees.{aggregated, count_rows, not_of}
-use Rattle.sql_read.specs.QueryTrees as trees
-use Rattle.sql_read.specs.QueryPlan.{enclosed_first, going_on, going_on_by_and, item_value, literal, named_first, no_parenthesis, one_argument}
+use Rattle.sql_grammar.specs.declared.kinds.Kind.TheVariants as k
+use Rattle.sql_grammar.specs.declared.kinds.Kind.{Kind}
+use Rattle.sql_grammar.specs.Kinds.{among, kind_of, same}
+use Rattle.sql_grammar.specs.Numbering.{Built}
+use Rattle.sql_grammar.specs.QueryGrammar.{a, exists, minus, neg, not_neg, parens, primary, query, The}
+use Rattle.sql_grammar.specs.QueryGrammar as grammar
+use Rattle.sql_grammar.specs.QueryTrees.{aggregated, count_rows, not_of}
+use Rattle.sql_grammar.specs.QueryTrees as trees
+use Rattle.sql_grammar.specs.QueryPlan.{enclosed_first, going_on, going_on_by_and, item_value, literal, named_first, no_parenthesis, one_argument}
 use Rattle.sql_read.specs.Reads.{of_form, Lacks, Refuses, Takes}
 use Rattle.sql_read.proofs.ReadBlocks.{seen, token_if_any}
 use Rattle.sql_read.proofs.ReadCalls.{parens_opened}

@@ -11,14 +11,15 @@ use Rattle.sql_read.specs.declared.fault.ReadFault.{ReadFault}
 use Rattle.sql_read.specs.Cursor.{Cursor}
 use Rattle.sql_read.specs.Eating.{is_next, Overflows, Passes, PassesWithin, Stays}
 use Rattle.sql_model.specs.Syntax.{Except, Intersect, Union, UnionAll}
-use Rattle.sql_read.specs.Kinds as k
-use Rattle.sql_read.specs.Kinds.{Kind, among, kind_of, same}
-use Rattle.sql_read.specs.Numbering.{Built, both, each, mapped}
-use Rattle.sql_read.specs.QueryGrammar as grammar
-use Rattle.sql_read.specs.QueryGrammar.{The, intersect, next_intersect, next_union, union_or_except}
-use Rattle.sql_read.specs.QueryTrees.{SetWord, all_of, sets, union_word}
+use Rattle.sql_grammar.specs.declared.kinds.Kind.TheVariants as k
+use Rattle.sql_grammar.specs.declared.kinds.Kind.{Kind}
+use Rattle.sql_grammar.specs.Kinds.{among, kind_of, same}
+use Rattle.sql_grammar.specs.Numbering.{Built, both, each, mapped}
+use Rattle.sql_grammar.specs.QueryGrammar as grammar
+use Rattle.sql_grammar.specs.QueryGrammar.{The, intersect, next_intersect, next_union, union_or_except}
+use Rattle.sql_grammar.specs.QueryTrees.{SetWord, all_of, sets, union_word}
 use Rattle.sql_read.specs.Reads.{Builds, Gives, ReadsWord, Refuses, Takes, of_form}
-use Rattle.sql_read.proofs.QueryTable.{planned}
+use Rattle.sql_grammar.proofs.QueryTable.{planned}
 use Rattle.sql_read.proofs.Extending.{passes_shorter}
 use Rattle.sql_read.proofs.ReadChains.{built_by, built_each, built_to}
 use Rattle.sql_read.proofs.ReadLoops.{Begins, IsFirst, first_there, none_more, one_begins, one_taken, one_too_many, takes, repeated_begins}

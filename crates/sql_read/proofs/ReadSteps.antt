@@ -23,18 +23,19 @@ use Rattle.sql_read.specs.declared.fault.LimitKind.{LimitKind}
 use Rattle.sql_read.specs.declared.fault.LimitKind.TheVariants as limit
 use Rattle.sql_read.specs.Cursor.{Cursor, behind_next, next_of}
 use Rattle.sql_read.specs.Eating.{is_next, IsNextAt, Passes, Stays, Misses, Overflows, PassesWithin}
-use Rattle.sql_read.specs.Kinds.{Kind, kind_of, every_kind}
-use Rattle.sql_read.specs.Numbering.{Built, both, plain, mapped as mapped_built}
-use Rattle.sql_read.specs.QueryGrammar.{Production, Read, The}
-use Rattle.sql_read.specs.QueryEntries.{most_further}
-use Rattle.sql_read.specs.QueryPlan.{few_plan, of_plan, plan}
+use Rattle.sql_grammar.specs.declared.kinds.Kind.{Kind}
+use Rattle.sql_grammar.specs.Kinds.{kind_of, every_kind}
+use Rattle.sql_grammar.specs.Numbering.{Built, both, plain, mapped as mapped_built}
+use Rattle.sql_grammar.specs.QueryGrammar.{Production, Read, The}
+use Rattle.sql_grammar.specs.QueryEntries.{most_further}
+use Rattle.sql_grammar.specs.QueryPlan.{few_plan, of_plan, plan}
 use Rattle.sql_read.specs.Reads.{Told, depth_alone, entries_too, TellsEntries, of_form, few_form, Builds, TakesWithin, GivesWithin, Says, SaysLimit, RefusesWithin, ReadsWithin}
 use Rattle.sql_lex.specs.Bytes.{folded_byte}
 use Rattle.sql_read.specs.Refusals.{is_left_out_word, refusal, refusal_of}
-use Rattle.sql_read.proofs.EveryKind.{every_kind_is_there}
-use Rattle.sql_read.proofs.FewPlan.{few_within}
-use Rattle.sql_read.proofs.QueryTable.{planned}
-use Rattle.sql_read.proofs.QueryWords.{Below, itself}
+use Rattle.sql_grammar.proofs.EveryKind.{every_kind_is_there}
+use Rattle.sql_grammar.proofs.FewPlan.{few_within}
+use Rattle.sql_grammar.proofs.QueryTable.{planned}
+use Rattle.sql_grammar.proofs.QueryWords.{Below, itself}
 
 abbrev pub FailedForm : {C : Type 0} → The C → ℕ → List Lexeme → List Lexeme → Type 0
 FailedForm f d here rest = Failed (of_form None f) (of_form (Some d) f) here rest

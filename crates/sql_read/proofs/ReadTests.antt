@@ -8,15 +8,16 @@ use Rattle.sql_model.specs.declared.tree.Expr.TheVariants as expr
 use Rattle.sql_read.specs.declared.tokens.counting.Mark.{Mark}
 use Rattle.sql_read.specs.Cursor.{Cursor}
 use Rattle.sql_read.specs.Eating.{Copies, IsMark, is_next, Passes, Stays}
-use Rattle.sql_read.specs.Kinds as k
-use Rattle.sql_read.specs.Kinds.{Kind, among, same}
-use Rattle.sql_read.specs.Numbering.{Built, both, copying, mapped as mapped_built}
-use Rattle.sql_read.specs.QueryGrammar as grammar
-use Rattle.sql_read.specs.QueryPlan.{by_word, plan_of_rest}
-use Rattle.sql_read.specs.QueryTrees as trees
-use Rattle.sql_read.specs.QueryTrees.{bounds, Inside}
+use Rattle.sql_grammar.specs.declared.kinds.Kind.TheVariants as k
+use Rattle.sql_grammar.specs.declared.kinds.Kind.{Kind}
+use Rattle.sql_grammar.specs.Kinds.{among, same}
+use Rattle.sql_grammar.specs.Numbering.{Built, both, copying, mapped as mapped_built}
+use Rattle.sql_grammar.specs.QueryGrammar as grammar
+use Rattle.sql_grammar.specs.QueryPlan.{by_word, plan_of_rest}
+use Rattle.sql_grammar.specs.QueryTrees as trees
+use Rattle.sql_grammar.specs.QueryTrees.{bounds, Inside}
 use Rattle.sql_read.specs.Reads.{of_form, Builds, IsBuilt, Takes}
-use Rattle.sql_read.proofs.QueryTable.{planned}
+use Rattle.sql_grammar.proofs.QueryTable.{planned}
 use Rattle.sql_read.proofs.ReadSteps.{behind, built_both, built_map}
 use Rattle.sql_read.proofs.ReadLoops.{Begins}
 use Rattle.sql_read.proofs.ReadChains.{built_by}

@@ -7,7 +7,7 @@ use Rattle.sql_read.specs.declared.fault.LimitKind.TheVariants as limit
 use Rattle.sql_read.specs.declared.fault.ReadFault.{ReadFault}
 use Rattle.sql_read.specs.declared.fault.ReadFault.TheVariants.{Lex, Unexpected, LeftOut, TooDeep, Limit, NoMemory}
 use Rattle.sql_read.specs.Cursor.{Cursor}
-use Rattle.sql_read.specs.QueryGrammar.{The}
+use Rattle.sql_grammar.specs.QueryGrammar.{The}
 use Rattle.sql_read.specs.Reads.{Told, depth_alone, RefusesWithin, SaysLimit, TakesWithin}
 
 limit_alone : {A : Type 0} (told : Told) (f : The A) (B C : Language Lexeme A) (d : ℕ) (a b : Cursor) (what : LimitKind) → SaysLimit told f B d a what b → SaysLimit depth_alone f C d a what b

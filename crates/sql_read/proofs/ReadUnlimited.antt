@@ -4,10 +4,10 @@ use Rattle.grammar.specs.Form.{star}
 use Rattle.grammar.proofs.Predictions.{ok, ahead, known, bounded_within}
 use Rattle.sql_lex.specs.Lexemes.{Lexeme}
 use Rattle.sql_read.specs.Eating.{is_next}
-use Rattle.sql_read.specs.Kinds.{Kind}
-use Rattle.sql_read.specs.QueryGrammar.{The}
+use Rattle.sql_grammar.specs.declared.kinds.Kind.{Kind}
+use Rattle.sql_grammar.specs.QueryGrammar.{The}
 use Rattle.sql_read.specs.Reads.{of_form, Takes}
-use Rattle.sql_read.proofs.QueryTable.{planned}
+use Rattle.sql_grammar.proofs.QueryTable.{planned}
 use Rattle.sql_read.proofs.ReadLoops.{Begins, first_there, repeated_begins, repeated_end, repeated_next}
 use Rattle.sql_read.proofs.ReadSteps.{Left, Blocks, absent_unless, begins_with}
 

@@ -14,18 +14,18 @@ use Rattle.sql_read.specs.declared.fault.LimitKind.{LimitKind}
 use Rattle.sql_read.specs.declared.fault.LimitKind.TheVariants as limit
 use Rattle.sql_read.specs.Cursor.{Cursor, next}
 use Rattle.sql_read.specs.Eating.{Extends, IsNextAt}
-use Rattle.sql_read.specs.Kinds.{kind_of}
-use Rattle.sql_read.specs.Numbering.{Built}
-use Rattle.sql_read.specs.Queries.{IsShallow, IsTooDeep, most_levels, queries, shallow_queries}
-use Rattle.sql_read.specs.QueryGrammar.{query, rules}
-use Rattle.sql_read.specs.QueryPlan.{plan}
-use Rattle.sql_read.specs.QueryEntries.{few_queries, most_further}
+use Rattle.sql_grammar.specs.Kinds.{kind_of}
+use Rattle.sql_grammar.specs.Numbering.{Built}
+use Rattle.sql_grammar.specs.Queries.{IsShallow, IsTooDeep, most_levels, queries, shallow_queries}
+use Rattle.sql_grammar.specs.QueryGrammar.{query, rules}
+use Rattle.sql_grammar.specs.QueryPlan.{plan}
+use Rattle.sql_grammar.specs.QueryEntries.{few_queries, most_further}
 use Rattle.sql_read.specs.ReadingQueries.{IsAtEnd, IsLimited, IsRead, IsRefused, IsUnfinished, Keeps, PassesLimits}
 use Rattle.sql_read.specs.Reads.{entries_too, few_form, of_form, Fails, Exceeds, Gives, Refuses, SaysLimit}
 use Rattle.sql_read.specs.Refusals.{refusal_of}
-use Rattle.sql_read.proofs.FewPlan.{few_plan_includes, few_rules_include}
-use Rattle.sql_read.proofs.PlanKnown.{grammar_includes}
-use Rattle.sql_read.proofs.QueryKnown.{plan_includes}
+use Rattle.sql_grammar.proofs.FewPlan.{few_plan_includes, few_rules_include}
+use Rattle.sql_grammar.proofs.PlanKnown.{grammar_includes}
+use Rattle.sql_grammar.proofs.QueryKnown.{plan_includes}
 
 free_same : Same (language kind_of plan None query) queries
 free_same = record { there = grammar_includes None query; back = plan_includes None query }

@@ -2,7 +2,7 @@
 use Rattle.std.proofs.Common.{◌≡◌, ◌≢◌, ℕ, ◌+◌, ◌-◌, ◌≤◌, ◌==◌, List, [], ◌∷◌, ◌++◌, length, take, get_or, refl, sym, ◌∙◌, ap, arith, inl, inr}
 use Rattle.std.proofs.lemmas.Bool.{cases_Bool, eqb-true}
 use Rattle.std.proofs.lemmas.List.{take_all, take_more}
-use Rattle.sql_read.specs.TokenValues.{without_trailing_zeros}
+use Rattle.sql_grammar.specs.TokenValues.{without_trailing_zeros}
 
 snoc_zero : (ys : List ℕ) → without_trailing_zeros (ys ++ 48 ∷ []) ≡ without_trailing_zeros ys
 snoc_zero [] = refl

@@ -4,7 +4,8 @@ use Rattle.sql_model.specs.declared.symbols.Symbols.{Symbols}
 use Rattle.sql_lex.specs.declared.token.Token.{Token}
 use Rattle.sql_lex.specs.declared.token.LexFault.{LexFault}
 use Rattle.sql_lex.specs.Lexemes.{Lexeme, Lexed, lexeme_of, nothing, with_first, fault_alone}
-use Rattle.sql_read.specs.Numbering.{Numbers}
+use Rattle.sql_grammar.specs.Numbering.{Numbers}
+use Rattle.sql_grammar.specs.QueryCopies.{most_copies}
 
 abbrev pub numbers_of : Symbols → Numbers
 numbers_of symbols = record { literals = symbols.lits.keys; symbols = symbols.syms.keys }
@@ -52,10 +53,6 @@ to_come (Some (Err fault)) lexer = fault_alone fault
 -- a text has no more bytes, so no more tokens
 abbrev pub most_tokens : ℕ
 most_tokens = 1048576
-
--- the weight that a case may copy
-abbrev pub most_copies : ℕ
-most_copies = 1000000
 
 -- what is true of the fields: places fit their type, and so do the counts
 pub record IsSound (next : Option (Result Token LexFault)) (lexer : Lexed) (copies passed : ℕ) : Type 0 where

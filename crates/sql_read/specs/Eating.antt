@@ -7,11 +7,13 @@ use Rattle.sql_lex.specs.Lexemes.{Lexeme, lexeme_of}
 use Rattle.sql_read.specs.declared.fault.ReadFault.{ReadFault}
 use Rattle.sql_read.specs.declared.fault.ReadFault.TheVariants.{Limit, NoMemory, TooDeep}
 use Rattle.sql_read.specs.declared.fault.LimitKind.TheVariants as limit
-use Rattle.sql_read.specs.Cursor.{Cursor, behind_next, most_copies}
-use Rattle.sql_read.specs.Kinds as k
-use Rattle.sql_read.specs.Kinds.{Kind, kind_of, among, name_kinds, same}
+use Rattle.sql_read.specs.Cursor.{Cursor, behind_next}
+use Rattle.sql_grammar.specs.QueryCopies.{most_copies}
+use Rattle.sql_grammar.specs.declared.kinds.Kind.TheVariants as k
+use Rattle.sql_grammar.specs.declared.kinds.Kind.{Kind}
+use Rattle.sql_grammar.specs.Kinds.{kind_of, among, name_kinds, same}
 use Rattle.sql_read.specs.declared.tokens.counting.Mark.{Mark}
-use Rattle.sql_read.specs.Numbering.{Built}
+use Rattle.sql_grammar.specs.Numbering.{Built}
 use Rattle.sql_read.specs.Refusals.{refusal}
 
 -- whether a token of these kinds stands next

@@ -10,10 +10,10 @@ use Rattle.sql_read.specs.declared.reading.inside.Inside.{Inside as ReadInside}
 use Rattle.sql_read.specs.declared.reading.inside.Inside.TheVariants as inside
 use Rattle.sql_read.specs.declared.reading.inside.Grouped.{Grouped}
 use Rattle.sql_read.specs.declared.reading.inside.Grouped.TheVariants as grouped
-use Rattle.sql_read.specs.Numbering.{Built, plain, mapped}
-use Rattle.sql_read.specs.QueryPlan.{Starred}
-use Rattle.sql_read.specs.QueryTrees.{Inside}
-use Rattle.sql_read.specs.TokenValues.{name_of}
+use Rattle.sql_grammar.specs.Numbering.{Built, plain, mapped}
+use Rattle.sql_grammar.specs.QueryPlan.{Starred}
+use Rattle.sql_grammar.specs.QueryTrees.{Inside}
+use Rattle.sql_grammar.specs.TokenValues.{name_of}
 
 abbrev pub built_starred : Starred → Built ReadStarred
 built_starred (inl qual) = plain (starred.All (item.AliasStar (name_of qual) qual.start))

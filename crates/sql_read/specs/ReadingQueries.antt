@@ -9,9 +9,9 @@ use Rattle.sql_read.specs.declared.fault.LimitKind.{LimitKind}
 use Rattle.sql_read.specs.declared.fault.LimitKind.TheVariants as limit
 use Rattle.sql_read.specs.Cursor.{Cursor, next}
 use Rattle.sql_read.specs.Eating.{GoesOn}
-use Rattle.sql_read.specs.Numbering.{Built}
-use Rattle.sql_read.specs.Queries.{IsShallow, IsTooDeep, Spells, queries}
-use Rattle.sql_read.specs.QueryEntries.{IsEntryTooMany, few_queries}
+use Rattle.sql_grammar.specs.Numbering.{Built}
+use Rattle.sql_grammar.specs.Queries.{IsShallow, IsTooDeep, Spells, queries}
+use Rattle.sql_grammar.specs.QueryEntries.{IsEntryTooMany, few_queries}
 use Rattle.sql_read.specs.Refusals.{refusal_of}
 
 -- the longest list of tokens that begins a query was taken, and it spells this query

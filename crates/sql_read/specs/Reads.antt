@@ -14,12 +14,13 @@ use Rattle.sql_read.specs.declared.fault.LimitKind.{LimitKind}
 use Rattle.sql_read.specs.declared.fault.LimitKind.TheVariants as limit
 use Rattle.sql_read.specs.Cursor.{Cursor}
 use Rattle.sql_read.specs.Eating.{IsNextAt, Overflows, Stays, is_next}
-use Rattle.sql_read.specs.Kinds.{Kind, kind_of}
-use Rattle.sql_read.specs.Numbering.{Built}
-use Rattle.sql_read.specs.QueryGrammar.{The}
-use Rattle.sql_read.specs.QueryLookahead.{table}
-use Rattle.sql_read.specs.QueryEntries.{most_further}
-use Rattle.sql_read.specs.QueryPlan.{few_plan, plan}
+use Rattle.sql_grammar.specs.declared.kinds.Kind.{Kind}
+use Rattle.sql_grammar.specs.Kinds.{kind_of}
+use Rattle.sql_grammar.specs.Numbering.{Built}
+use Rattle.sql_grammar.specs.QueryGrammar.{The}
+use Rattle.sql_grammar.specs.QueryLookahead.{table}
+use Rattle.sql_grammar.specs.QueryEntries.{most_further}
+use Rattle.sql_grammar.specs.QueryPlan.{few_plan, plan}
 use Rattle.sql_read.specs.Refusals.{refusal}
 
 -- the language of a form of the plan

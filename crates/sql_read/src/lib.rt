@@ -2,18 +2,15 @@
 #![tactic(auto)]
 
 mod fault;
-mod kinds;
 pub mod laws;
 mod listed;
 mod names;
-pub mod query_laws;
 mod reading;
 mod tokens;
 mod trees;
 mod values;
 
 pub use fault::{LimitKind, ReadFault};
-pub use kinds::Kind;
 pub use names::{is_word, name_of};
 pub use reading::{read_inner_query, read_query};
 pub use tokens::{Tokens, place};

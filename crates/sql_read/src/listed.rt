@@ -1,22 +1,15 @@
 //! Entries of FROM, before it is known how they are joined.
 ghost use Rattle.std.specs.Prelude.{◌≡◌, ◌<◌, ◌^◌, IfOk};
 ghost use Rattle.sql_lex.specs.Lexemes.{lexeme_of};
-ghost use Rattle.sql_read.specs.QueryTrees.{entry_of, listed_query, listed_table};
+ghost use Rattle.sql_grammar.specs.QueryTrees.{entry_of, listed_query, listed_table};
 
 use crate::tokens::place;
 use crate::values::name_in;
 use plain_data::Boxed;
+use sql_grammar::Listed;
 use sql_lex::Token;
 use sql_model::{Entry, Expr, Name, NoMemory, Query, Source};
 use std::alloc::Global;
-
-/// What an entry takes its rows from, with the name that it has and the place of that name.
-#[derive(Drop)]
-pub struct Listed {
-    pub source: Source,
-    pub alias: Name,
-    pub at: u32,
-}
 
 /// The entry, behind a JOIN or not, with this condition.
 pub fn entry_of(listed: Listed, joined: bool, on: Option<Expr>) -> Entry

@@ -51,7 +51,7 @@ impl<'a> Model for Tokens<'a> {
 impl<'a> Tokens<'a> {
     ghost use Rattle.sql_lex.specs.Tokens.{Lexes};
     ghost use Rattle.sql_read.specs.Cursor.{behind_next, lent, next_of, numbers_of};
-    ghost use Rattle.sql_read.specs.Numbering.{first_numbers};
+    ghost use Rattle.sql_grammar.specs.Numbering.{first_numbers};
     ghost use Rattle.sql_read.specs.Refusals.{refusal};
 
     /// Before the first token of the text.

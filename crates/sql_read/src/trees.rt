@@ -3,12 +3,12 @@ ghost use Rattle.std.specs.Prelude.{◌≡◌, ◌<◌, ◌^◌, [], ◌∷◌, 
 ghost use Rattle.sql_lex.specs.Lexemes.{lexeme_of};
 ghost use Rattle.sql_model.specs.declared.tree.Query.TheVariants as a_query;
 ghost use Rattle.sql_model.specs.declared.tree.Expr.TheVariants as an_expr;
-ghost use Rattle.sql_read.specs.QueryTrees.{bounds, column, compared, operator, place};
+ghost use Rattle.sql_grammar.specs.QueryTrees.{bounds, column, compared, operator, place};
 
-use crate::kinds::Kind;
 use crate::tokens::place;
 use crate::values::name_in;
 use plain_data::{Boxed, List};
+use sql_grammar::Kind;
 use sql_lex::Token;
 use sql_model::{Expr, NoMemory, Query, SetOp};
 use std::alloc::Global;

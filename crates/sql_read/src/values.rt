@@ -1,8 +1,8 @@
 //! What single tokens stand for: names, numbers and texts.
 ghost use Rattle.std.specs.Prelude.{◌≡◌, ◌++◌, IfOk};
 ghost use Rattle.sql_lex.specs.Lexemes.{lexeme_of};
-ghost use Rattle.sql_read.specs.QueryTrees.{number_of, text_of};
-ghost use Rattle.sql_read.specs.TokenValues.{after_point, before_point, inside, name_of, normalised, undoubled, with_fraction, without_leading_zeros, without_trailing_zeros};
+ghost use Rattle.sql_grammar.specs.QueryTrees.{number_of, text_of};
+ghost use Rattle.sql_grammar.specs.TokenValues.{after_point, before_point, inside, name_of, normalised, undoubled, with_fraction, without_leading_zeros, without_trailing_zeros};
 
 use crate::names::folded_name;
 use sql_lex::{Token, TokenKind};

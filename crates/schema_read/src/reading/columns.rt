@@ -3,15 +3,16 @@ ghost use Rattle.std.specs.Prelude.{◌≡◌, ◌++◌, ◌∷◌, [], ℕ, suc
 ghost use Rattle.grammar.specs.Form.{star};
 ghost use Rattle.grammar.specs.Productions.{optional};
 ghost use Rattle.sql_read.specs.Eating.{Extends};
-ghost use Rattle.sql_read.specs.Numbering.{plain};
+ghost use Rattle.sql_grammar.specs.Numbering.{plain};
 ghost use Rattle.sql_read.specs.Reads.{Reads};
 ghost use Rattle.schema_read.specs.StatementGrammar as g;
 ghost use Rattle.schema_read.specs.StatementTrees as t;
 
 use super::names::{name, names, names_behind};
 use plain_data::List;
+use sql_grammar::Kind;
 use sql_model::{NameAt, NoMemory, TableRule};
-use sql_read::{Kind, ReadFault, Tokens, place};
+use sql_read::{ReadFault, Tokens, place};
 use std::alloc::Global;
 
 /// What a rule behind a column begins with.

@@ -2,8 +2,8 @@
 ghost use Rattle.std.specs.Prelude.{◌≡◌, ◌≤◌, ◌+◌, ℕ, suc, length, IfOk};
 ghost use Rattle.grammar.specs.Form.{seq};
 ghost use Rattle.sql_read.specs.Eating.{Extends};
-ghost use Rattle.sql_read.specs.Numbering.{plain};
-ghost use Rattle.sql_read.specs.QueryGrammar.{parens};
+ghost use Rattle.sql_grammar.specs.Numbering.{plain};
+ghost use Rattle.sql_grammar.specs.QueryGrammar.{parens};
 ghost use Rattle.sql_read.specs.Reads.{Reads, Refuses};
 ghost use Rattle.schema_read.specs.StatementGrammar as g;
 ghost use Rattle.schema_read.specs.StatementTrees as t;
@@ -13,8 +13,9 @@ use super::names::{NAME_KINDS, name, type_name};
 use super::rules::constraint;
 use super::{MOST_COLUMNS, MOST_SEPARATORS};
 use plain_data::List;
+use sql_grammar::Kind;
 use sql_model::{NameAt, TableRule};
-use sql_read::{Kind, LimitKind, ReadFault, Tokens};
+use sql_read::{LimitKind, ReadFault, Tokens};
 use std::alloc::Global;
 
 /// What a rule of a table begins with, where it is no column.

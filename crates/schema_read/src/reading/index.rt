@@ -1,18 +1,19 @@
 //! Indexes.
 ghost use Rattle.std.specs.Prelude.{◌≤◌, ℕ, suc, IfOk};
 ghost use Rattle.grammar.specs.Productions.{optional};
-ghost use Rattle.sql_read.specs.declared.kinds.Kind.TheVariants as k;
+ghost use Rattle.sql_grammar.specs.declared.kinds.Kind.TheVariants as k;
 ghost use Rattle.sql_read.specs.Eating.{Extends};
-ghost use Rattle.sql_read.specs.Numbering.{plain};
-ghost use Rattle.sql_read.specs.QueryGrammar as query;
-ghost use Rattle.sql_read.specs.QueryTrees.{is_given};
+ghost use Rattle.sql_grammar.specs.Numbering.{plain};
+ghost use Rattle.sql_grammar.specs.QueryGrammar as query;
+ghost use Rattle.sql_grammar.specs.QueryTrees.{is_given};
 ghost use Rattle.sql_read.specs.Reads.{Gives, Reads};
 ghost use Rattle.schema_read.specs.StatementGrammar as g;
 ghost use Rattle.schema_read.specs.StatementLimits.{column_count};
 
 use super::names::{name, names};
+use sql_grammar::Kind;
 use sql_model::Statement;
-use sql_read::{Kind, ReadFault, Tokens};
+use sql_read::{ReadFault, Tokens};
 use std::alloc::Global;
 
 /// `[UNIQUE]`

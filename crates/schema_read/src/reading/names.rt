@@ -2,19 +2,20 @@
 ghost use Rattle.std.specs.Prelude.{◌≡◌, ◌<◌, ◌^◌, ℕ, suc, IfOk};
 ghost use Rattle.sql_lex.specs.Lexemes.{lexeme_of};
 ghost use Rattle.grammar.specs.Productions.{then_skip};
-ghost use Rattle.sql_read.specs.declared.kinds.Kind.TheVariants as k;
+ghost use Rattle.sql_grammar.specs.declared.kinds.Kind.TheVariants as k;
 ghost use Rattle.sql_read.specs.Eating.{Extends};
-ghost use Rattle.sql_read.specs.Numbering.{plain};
-ghost use Rattle.sql_read.specs.QueryGrammar as query;
+ghost use Rattle.sql_grammar.specs.Numbering.{plain};
+ghost use Rattle.sql_grammar.specs.QueryGrammar as query;
 ghost use Rattle.sql_read.specs.Reads.{Gives, Reads};
 ghost use Rattle.schema_read.specs.StatementGrammar as g;
 ghost use Rattle.schema_read.specs.StatementTrees as t;
 
 use super::MOST_SEPARATORS;
 use plain_data::List;
+use sql_grammar::Kind;
 use sql_lex::Token;
 use sql_model::{NameAt, NoMemory};
-use sql_read::{Kind, ReadFault, Tokens, name_in, place};
+use sql_read::{ReadFault, Tokens, name_in, place};
 use std::alloc::Global;
 
 /// Unreserved words and quoted names.

@@ -2,14 +2,15 @@
 ghost use Rattle.std.specs.Prelude.{ℕ, suc};
 ghost use Rattle.grammar.specs.Productions.{skip_then};
 ghost use Rattle.sql_read.specs.Eating.{Extends};
-ghost use Rattle.sql_read.specs.Numbering.{plain};
+ghost use Rattle.sql_grammar.specs.Numbering.{plain};
 ghost use Rattle.sql_read.specs.Reads.{Reads};
 ghost use Rattle.schema_read.specs.StatementGrammar as g;
 
 use super::columns::{key, references};
 use super::names::{name, names};
+use sql_grammar::Kind;
 use sql_model::TableRule;
-use sql_read::{Kind, ReadFault, Tokens, place};
+use sql_read::{ReadFault, Tokens, place};
 use std::alloc::Global;
 
 /// `[CONSTRAINT name] tablerule`

@@ -2,7 +2,7 @@
 ghost use Rattle.std.specs.Prelude.{◌≤◌, ℕ, suc, length, IfOk};
 ghost use Rattle.data_model.specs.Lists.{Each};
 ghost use Rattle.sql_read.specs.Eating.{Extends};
-ghost use Rattle.sql_read.specs.Queries.{most_levels};
+ghost use Rattle.sql_grammar.specs.Queries.{most_levels};
 ghost use Rattle.sql_read.specs.Reads.{Reads};
 ghost use Rattle.schema_read.specs.StatementGrammar as g;
 ghost use Rattle.schema_read.specs.StatementLimits.{column_count};
@@ -12,8 +12,9 @@ use super::index::index;
 use super::names::name;
 use super::{MOST_LEVELS, MOST_RELATIONS};
 use plain_data::List;
+use sql_grammar::Kind;
 use sql_model::Statement;
-use sql_read::{Kind, LimitKind, ReadFault, Tokens, read_inner_query};
+use sql_read::{LimitKind, ReadFault, Tokens, read_inner_query};
 use std::alloc::Global;
 
 /// `{statement ;}`

@@ -3,11 +3,11 @@ ghost use Rattle.std.specs.Prelude.{IfOk, List, Option, length, ℕ, ◌≡◌};
 ghost use Rattle.grammar.specs.Form.{ref};
 ghost use Rattle.grammar.specs.Productions.{optional, skip_then};
 ghost use Rattle.sql_read.specs.Eating.{Extends};
-ghost use Rattle.sql_read.specs.Kinds.{same};
-ghost use Rattle.sql_read.specs.Numbering.{each, perhaps, plain};
-ghost use Rattle.sql_read.specs.QueryGrammar as grammar;
-ghost use Rattle.sql_read.specs.QueryGrammar.{a, group_by, listed};
-ghost use Rattle.sql_read.specs.QueryTrees.{all_of, columns_of};
+ghost use Rattle.sql_grammar.specs.Kinds.{same};
+ghost use Rattle.sql_grammar.specs.Numbering.{each, perhaps, plain};
+ghost use Rattle.sql_grammar.specs.QueryGrammar as grammar;
+ghost use Rattle.sql_grammar.specs.QueryGrammar.{a, group_by, listed};
+ghost use Rattle.sql_grammar.specs.QueryTrees.{all_of, columns_of};
 ghost use Rattle.sql_read.specs.Reads.{Reads};
 
 use super::MOST_SEPARATORS;
@@ -16,9 +16,9 @@ use super::expr::expr;
 use super::item::item;
 use super::primary::reference;
 use crate::fault::ReadFault;
-use crate::kinds::Kind;
 use crate::tokens::Tokens;
 use plain_data::{Boxed, List};
+use sql_grammar::Kind;
 use sql_model::{Block, Expr, Item, Query};
 use std::alloc::Global;
 

@@ -3,20 +3,20 @@ ghost use Rattle.std.specs.Prelude.{List, ℕ, ◌+◌, ◌≡◌};
 ghost use Rattle.grammar.specs.Form.{ref};
 ghost use Rattle.sql_read.specs.Cursor.{Cursor};
 ghost use Rattle.sql_read.specs.Eating.{Extends, IsBehind, IsMark};
-ghost use Rattle.sql_read.specs.Numbering.{Built};
-ghost use Rattle.sql_read.specs.QueryGrammar as grammar;
-ghost use Rattle.sql_read.specs.QueryGrammar.{ands, minus, ors, products, sums};
-ghost use Rattle.sql_read.specs.QueryTrees.{and_node, chained, operated, or_node};
+ghost use Rattle.sql_grammar.specs.Numbering.{Built};
+ghost use Rattle.sql_grammar.specs.QueryGrammar as grammar;
+ghost use Rattle.sql_grammar.specs.QueryGrammar.{ands, minus, ors, products, sums};
+ghost use Rattle.sql_grammar.specs.QueryTrees.{and_node, chained, operated, or_node};
 ghost use Rattle.sql_read.specs.Reads.{Builds, IsBuilt, Reads};
 
 use super::primary::primary;
 use super::test::{test, tested};
 use super::{MOST_OPERATORS, MOST_SEPARATORS};
 use crate::fault::ReadFault;
-use crate::kinds::{Kind, kind_of};
 use crate::tokens::{Mark, Tokens, place};
 use crate::trees::{minus, not_at, operated, place_of};
 use plain_data::List;
+use sql_grammar::kinds::{Kind, kind_of};
 use sql_model::Expr;
 use std::alloc::Global;
 

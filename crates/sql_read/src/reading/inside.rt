@@ -6,11 +6,11 @@ ghost use Rattle.sql_model.specs.declared.tree.Expr.{Expr};
 ghost use Rattle.sql_model.specs.declared.tree.Query.{Query};
 ghost use Rattle.sql_read.specs.Cursor.{Cursor};
 ghost use Rattle.sql_read.specs.Eating.{Extends, IsBehind, IsMark};
-ghost use Rattle.sql_read.specs.Numbering.{Built};
-ghost use Rattle.sql_read.specs.QueryGrammar as grammar;
-ghost use Rattle.sql_read.specs.QueryGrammar.{commas, in_parentheses};
-ghost use Rattle.sql_read.specs.QueryPlan.{after_query, enclosed_first, no_parenthesis};
-ghost use Rattle.sql_read.specs.QueryTrees as trees;
+ghost use Rattle.sql_grammar.specs.Numbering.{Built};
+ghost use Rattle.sql_grammar.specs.QueryGrammar as grammar;
+ghost use Rattle.sql_grammar.specs.QueryGrammar.{commas, in_parentheses};
+ghost use Rattle.sql_grammar.specs.QueryPlan.{after_query, enclosed_first, no_parenthesis};
+ghost use Rattle.sql_grammar.specs.QueryTrees as trees;
 ghost use Rattle.sql_read.specs.Parts.{built_grouped, built_inside, grouped_of};
 ghost use Rattle.sql_read.specs.Reads.{Builds, IsBuilt, Reads};
 
@@ -20,9 +20,9 @@ use super::primary::{literal, named_first, not_or_exists};
 use super::query::set_tail;
 use super::test::{Sought, members};
 use crate::fault::ReadFault;
-use crate::kinds::Kind;
 use crate::tokens::{Mark, Tokens, place};
 use crate::trees::{in_query, subquery};
+use sql_grammar::Kind;
 use sql_model::{Expr, Query};
 use std::alloc::Global;
 

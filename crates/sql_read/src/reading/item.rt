@@ -3,11 +3,11 @@ ghost use Rattle.std.specs.Prelude.{IfOk, IfSome, ℕ, ◌<◌, ◌^◌, ◌≡�
 ghost use Rattle.grammar.specs.Form.{ref};
 ghost use Rattle.grammar.specs.Productions.{optional};
 ghost use Rattle.sql_read.specs.Eating.{Extends};
-ghost use Rattle.sql_read.specs.Numbering.{plain};
-ghost use Rattle.sql_read.specs.QueryGrammar as grammar;
+ghost use Rattle.sql_grammar.specs.Numbering.{plain};
+ghost use Rattle.sql_grammar.specs.QueryGrammar as grammar;
 ghost use Rattle.sql_lex.specs.Lexemes.{lexeme_of};
-ghost use Rattle.sql_read.specs.QueryPlan.{dot_star_or_name, item_value, named_item, star_or_column, starred};
-ghost use Rattle.sql_read.specs.QueryTrees.{name_of_alias};
+ghost use Rattle.sql_grammar.specs.QueryPlan.{dot_star_or_name, item_value, named_item, star_or_column, starred};
+ghost use Rattle.sql_grammar.specs.QueryTrees.{name_of_alias};
 ghost use Rattle.sql_read.specs.Reads.{Reads, read_lexeme, read_lexeme_if_any};
 ghost use Rattle.sql_read.specs.Parts.{built_starred};
 
@@ -15,10 +15,10 @@ use super::expr::{and_tail, expr_tail, negative};
 use super::inside::enclosed;
 use super::primary::{aggregate, arguments, count_arguments, literal, not_or_exists};
 use crate::fault::ReadFault;
-use crate::kinds::Kind;
 use crate::tokens::{Tokens, place};
 use crate::trees::{bare_column, qualified_column};
 use crate::values::name_in;
+use sql_grammar::Kind;
 use sql_lex::Token;
 use sql_model::{Expr, Item, Name};
 use std::alloc::Global;

@@ -4,19 +4,19 @@ ghost use Rattle.grammar.specs.Form.{ref};
 ghost use Rattle.sql_model.specs.declared.tree.Query.{Query};
 ghost use Rattle.sql_read.specs.Cursor.{Cursor};
 ghost use Rattle.sql_read.specs.Eating.{Extends};
-ghost use Rattle.sql_read.specs.Numbering.{Built};
-ghost use Rattle.sql_read.specs.QueryGrammar as grammar;
-ghost use Rattle.sql_read.specs.Kinds.{among};
-ghost use Rattle.sql_read.specs.QueryGrammar.{intersects, union_or_except, unions};
-ghost use Rattle.sql_read.specs.QueryTrees.{combined, sets};
+ghost use Rattle.sql_grammar.specs.Numbering.{Built};
+ghost use Rattle.sql_grammar.specs.QueryGrammar as grammar;
+ghost use Rattle.sql_grammar.specs.Kinds.{among};
+ghost use Rattle.sql_grammar.specs.QueryGrammar.{intersects, union_or_except, unions};
+ghost use Rattle.sql_grammar.specs.QueryTrees.{combined, sets};
 ghost use Rattle.sql_read.specs.Reads.{Builds, Reads, ReadsWordNext};
 
 use super::MOST_OPERATORS;
 use super::block::block;
 use crate::fault::ReadFault;
-use crate::kinds::Kind;
 use crate::tokens::{Tokens, place};
 use crate::trees::set_query;
+use sql_grammar::Kind;
 use sql_model::{Query, SetOp};
 use std::alloc::Global;
 

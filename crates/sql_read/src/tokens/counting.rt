@@ -1,7 +1,7 @@
 //! The numbers of literals and called names, and the weight of what is copied.
 ghost use Rattle.std.specs.Prelude.{◌≡◌, ◌+◌, ◌≤◌, IfOk};
 ghost use Rattle.sql_read.specs.Eating.{Copies, Extends, Numbers};
-ghost use Rattle.sql_read.specs.Numbering.{literal_number, symbol_number};
+ghost use Rattle.sql_grammar.specs.Numbering.{literal_number, symbol_number};
 
 use super::Tokens;
 use crate::fault::{LimitKind, ReadFault};

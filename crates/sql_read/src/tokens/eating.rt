@@ -1,11 +1,11 @@
 //! Single tokens, taken by their kinds.
 ghost use Rattle.std.specs.Prelude.{◌≡◌, ◌<◌, ◌^◌};
 ghost use Rattle.sql_read.specs.Eating.{Eats, EatsWithin, Expects, ExpectsWithin, is_next};
-ghost use Rattle.sql_read.specs.Kinds.{among, same};
+ghost use Rattle.sql_grammar.specs.Kinds.{among, same};
 
 use super::Tokens;
 use crate::fault::ReadFault;
-use crate::kinds::{Kind, is_among, is_same, kind_of};
+use sql_grammar::kinds::{Kind, is_among, is_same, kind_of};
 use sql_lex::Token;
 use std::alloc::Global;
 

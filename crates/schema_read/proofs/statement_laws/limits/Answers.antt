@@ -1,5 +1,5 @@
 use Rattle.std.proofs.Common.{Some, None}
-use Rattle.sql_read.specs.Queries.{most_levels}
+use Rattle.sql_grammar.specs.Queries.{most_levels}
 use Rattle.schema_read.specs.StatementGrammar as g
 use Rattle.schema_read.proofs.StatementFronts.{few_entries_included, few_statements_included, narrow_included, roomier}
 use Rattle.schema_read.proofs.statement_laws.limits.Goals as goal

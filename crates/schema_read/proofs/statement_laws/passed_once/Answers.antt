@@ -1,6 +1,6 @@
 use Rattle.std.proofs.Common.{Some, None}
-use Rattle.sql_read.specs.Queries.{most_levels}
-use Rattle.sql_read.specs.QueryEntries.{most_further}
+use Rattle.sql_grammar.specs.Queries.{most_levels}
+use Rattle.sql_grammar.specs.QueryEntries.{most_further}
 use Rattle.schema_read.specs.StatementGrammar as g
 use Rattle.schema_read.specs.StatementLimits.{few_columns, few_entry_statements, few_statements, most_further_columns, most_relations, narrow_statements}
 use Rattle.schema_read.specs.Statements.{shallow_statements}

@@ -1,13 +1,13 @@
 use Rattle.std.proofs.Common.{refl, arith, Some, None, ap, ◌∙◌, ◌+◌, ◌-◌, ◌<◌, [], ◌∷◌, ◌++◌, inl, inr, sym, ◌≡◌, ◌*◌, ◌≤◌, ℕ, true, false, List, length, Ok, Err}
-use Rattle.sql_read.specs.QueryGrammar.{query, part, set_tail, item}
+use Rattle.sql_grammar.specs.QueryGrammar.{query, part, set_tail, item}
 use Rattle.sql_read.proofs.Extending.{◌⨟◌, extends_itself, extends_misses, extends_overflows, extends_passes, extends_shorter, extends_stays, extends_within, shorter, extends_still, passes_shorter}
 use Rattle.sql_read.specs.Eating.{IsBehind}
 use Rattle.sql_read.proofs.ReadOperands.{operand_block, operand_opened, operand_too_deep}
 use Rattle.sql_read.proofs.ReadPassing.{alike_stays, alike_within, built_from, handed_on, reads_from, ◌then◌, alike_passes, overflows_alone, stays_alone, within_alone, first_next, opened, other_stays, other_unless, overflows, unopened_alone, first_unless, misses, other_next, built_counted, built_until, took_counted}
 use Rattle.sql_read.proofs.ReadSets.{begins_intersect, begins_union, combined_end, combining, intersect_read, one_combined, operand_refused, word_refused, collected, collecting, comma_refused, first_refused, member_refused, one_collected}
 use Rattle.sql_read.proofs.ReadSteps.{before, blocks, exits, first_part, gives, mapped, missed, production, refuses, second, took_token, whole, built_as, built_map, none_taken, plain_still, behind, exits_for_memory, next_there, by_token, eaten, plain_here, starts, built_both}
-use Rattle.sql_read.specs.QueryTrees.{block_node, and_node, chained, operated, operator, or_node, place, aggregate, is_given, compared, entry_of}
-use Rattle.sql_read.specs.Kinds.{same, kind_of, among}
+use Rattle.sql_grammar.specs.QueryTrees.{block_node, and_node, chained, operated, operator, or_node, place, aggregate, is_given, compared, entry_of}
+use Rattle.sql_grammar.specs.Kinds.{same, kind_of, among}
 use Rattle.sql_read.proofs.ReadBlocks.{alike_columns, alike_eats, block_built, block_left, built_columns, extends_eats, from_missed, froms_part, froms_refused, froms_taken, items_part, seen, seen_given, select_missed, token_if_any, condition_refused, condition_taken}
 use Rattle.grammar.specs.Form.{ref}
 use Rattle.sql_lex.specs.Lexemes.{lexeme_of}
@@ -24,15 +24,15 @@ use Rattle.sql_read.proofs.ReadInsides.{built_enclosed, built_group, expr_read, 
 use Rattle.sql_read.proofs.ReadInInner.{built_in_query, commas_follow, in_expr, in_expr_left, in_query_left, in_refused, in_select, in_set_follows, in_tail_follows, more_listed, no_commas}
 use Rattle.sql_read.proofs.ReadLists.{extends_copied, extends_uncopied, gives_as, listed_alone, listed_several, listing, listing_as, one_listed, refused_by, refused_copy, tokens_copied, too_many_copies}
 use Rattle.sql_read.proofs.ReadTests.{built_between, built_negated, rest_begins, stays_here, test_kinds, weight_of}
-use Rattle.sql_read.specs.Numbering.{plain}
+use Rattle.sql_grammar.specs.Numbering.{plain}
 use Rattle.sql_read.proofs.ReadEntryLists.{entry_halts}
 use Rattle.sql_read.proofs.ReadFewEntries.{awaited_at, behind_others, comma_awaited, entry_taken, first_awaited, further_at, joined_taken, joining_halts, list_done, list_exits, list_given, list_longer, list_refused, list_so_far, list_stopped, not_allowed, too_many_commas}
 use Rattle.sql_read.proofs.ReadEntries.{cross_begins, cross_missed, crossed, entry_close_missed, entry_closed, entry_query_refused, entry_refused, entry_table, entry_too_deep, exits_next, first_item_refused, item_refused, item_too_many, join_missed, join_refused, joined_end, joined_first, joined_second, joining, listed_end, listing_items, no_join, on_begins, one_item_listed, one_joined, query_built, shorter_behind}
 use Rattle.std.proofs.lemmas.Result.{err_from_is_err_and}
 use Rattle.sql_model.specs.declared.tree.Query.TheVariants as a_query
-use Rattle.sql_read.specs.Kinds as k
+use Rattle.sql_grammar.specs.declared.kinds.Kind.TheVariants as k
 use Rattle.sql_model.specs.declared.tree.Expr.TheVariants as expr
-use Rattle.sql_read.specs.QueryGrammar as grammar
+use Rattle.sql_grammar.specs.QueryGrammar as grammar
 use Rattle.sql_read.specs.declared.reading.item.Starred.TheVariants as read_starred
 use Rattle.sql_read.specs.declared.reading.inside.Inside.TheVariants as read_inside
 use Rattle.sql_read.proofs.ReadSteps as steps

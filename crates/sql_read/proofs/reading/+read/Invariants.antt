@@ -5,16 +5,16 @@ use Rattle.sql_model.specs.declared.tree.Entry.{Entry}
 use Rattle.sql_model.specs.declared.tree.Query.{Query}
 use Rattle.sql_read.specs.Cursor.{Cursor}
 use Rattle.sql_read.specs.Eating.{Extends}
-use Rattle.sql_read.specs.Numbering.{Built}
-use Rattle.sql_read.specs.Kinds as k
-use Rattle.sql_read.specs.Kinds.{same}
-use Rattle.sql_read.specs.QueryGrammar.{item, next_intersect, next_union, next_and, next_or, next_product, next_sum, next_comma}
+use Rattle.sql_grammar.specs.Numbering.{Built}
+use Rattle.sql_grammar.specs.declared.kinds.Kind.TheVariants as k
+use Rattle.sql_grammar.specs.Kinds.{same}
+use Rattle.sql_grammar.specs.QueryGrammar.{item, next_intersect, next_union, next_and, next_or, next_product, next_sum, next_comma}
 use Rattle.sql_read.specs.Reads.{Builds}
 use Rattle.sql_read.proofs.ReadEntries.{Joining, ListingItems}
 use Rattle.sql_read.proofs.ReadSets.{Collecting, Combining}
 use Rattle.sql_model.specs.declared.tree.Expr.{Expr}
 use Rattle.sql_read.proofs.ReadChains.{Chaining, Operating}
-use Rattle.sql_read.specs.QueryGrammar as grammar
+use Rattle.sql_grammar.specs.QueryGrammar as grammar
 use Rattle.sql_read.proofs.ReadLists.{Listing}
 use Rattle.sql_read.proofs.reading.+read.Given as goal
 use Rattle.sql_lex.specs.Lexemes.{Lexeme}

@@ -1,5 +1,5 @@
 use Rattle.std.proofs.Common.{sym, ap, ◌∙◌}
-use Rattle.sql_read.specs.QueryTrees.{place}
+use Rattle.sql_grammar.specs.QueryTrees.{place}
 use Rattle.sql_read.proofs.Places.{place_sub, place_eq, place_not, place_exists, place_in}
 use Rattle.sql_read.proofs.trees.place_of.Goals as goal
 

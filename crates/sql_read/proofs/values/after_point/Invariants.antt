@@ -1,5 +1,5 @@
 use Rattle.std.proofs.Common.{◌≡◌, length}
-use Rattle.sql_read.specs.TokenValues.{after_point}
+use Rattle.sql_grammar.specs.TokenValues.{after_point}
 use Rattle.sql_read.proofs.values.after_point.Given as goal
 
 abbrev pub invariant-bytes : goal.invariant-bytes

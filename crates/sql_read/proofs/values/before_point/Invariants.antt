@@ -1,5 +1,5 @@
 use Rattle.std.proofs.Common.{◌≡◌, ◌++◌, take, drop}
-use Rattle.sql_read.specs.TokenValues.{before_point}
+use Rattle.sql_grammar.specs.TokenValues.{before_point}
 use Rattle.sql_read.proofs.values.before_point.Given as goal
 
 abbrev pub invariant-loop-at : goal.invariant-loop-at

@@ -1,5 +1,5 @@
 use Rattle.std.proofs.Common.{◌≡◌, ◌++◌, length}
-use Rattle.sql_read.specs.TokenValues.{undoubled}
+use Rattle.sql_grammar.specs.TokenValues.{undoubled}
 use Rattle.sql_read.proofs.values.undoubled.Given as goal
 
 abbrev pub invariant-bytes : goal.invariant-bytes

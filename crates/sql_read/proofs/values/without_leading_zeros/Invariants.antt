@@ -1,5 +1,5 @@
 use Rattle.std.proofs.Common.{◌≡◌, length}
-use Rattle.sql_read.specs.TokenValues.{without_leading_zeros}
+use Rattle.sql_grammar.specs.TokenValues.{without_leading_zeros}
 use Rattle.sql_read.proofs.values.without_leading_zeros.Given as goal
 
 abbrev pub invariant-zeros : goal.invariant-zeros

@@ -1,5 +1,5 @@
 use Rattle.std.proofs.Common.{refl, sym, ◌∙◌}
-use Rattle.sql_read.specs.Kinds.{among}
+use Rattle.sql_grammar.specs.Kinds.{among}
 use Rattle.sql_read.proofs.ReadGoingOn.{other_where}
 use Rattle.sql_read.proofs.ReadPassing.{first_unless, handed_on}
 use Rattle.sql_read.proofs.ReadSteps.{blocks, refuses, whole}

@@ -1,5 +1,5 @@
 use Rattle.std.proofs.Common.{ap, length, refl, arith}
-use Rattle.sql_read.specs.declared.kinds.Kind.TheVariants as k
+use Rattle.sql_grammar.specs.declared.kinds.Kind.TheVariants as k
 use Rattle.sql_read.proofs.ReadPassing.{overflows_alone, stays_alone, within_alone}
 use Rattle.sql_read.proofs.ReadSteps.{exits}
 use Rattle.schema_read.proofs.TableElements.{listed_elements, listing, next_refused, one_more, too_many_elements}

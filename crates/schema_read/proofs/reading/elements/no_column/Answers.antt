@@ -1,5 +1,5 @@
 use Rattle.std.proofs.Common.{refl, sym, ◌∙◌}
-use Rattle.sql_read.specs.Kinds.{among, name_kinds}
+use Rattle.sql_grammar.specs.Kinds.{among, name_kinds}
 use Rattle.sql_read.proofs.ReadPassing.{misses}
 use Rattle.schema_read.proofs.reading.elements.no_column.Goals as goal
 

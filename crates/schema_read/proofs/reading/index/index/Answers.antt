@@ -1,6 +1,6 @@
 use Rattle.std.proofs.Common.{◌∙◌, ap, refl, suc}
 use Rattle.sql_model.specs.declared.statement.Statement.TheVariants as statement
-use Rattle.sql_read.specs.QueryTrees.{is_given}
+use Rattle.sql_grammar.specs.QueryTrees.{is_given}
 use Rattle.sql_read.proofs.ReadPassing.{alike_passes, ◌then◌}
 use Rattle.sql_read.proofs.ReadSteps.{exits, missed, took_token}
 use Rattle.schema_read.specs.StatementTrees as t

@@ -1,5 +1,5 @@
 use Rattle.std.proofs.Common.{◌-◌, [], ◌∷◌, ◌++◌, ◌∙◌, ap, refl, subst, sym}
-use Rattle.sql_read.specs.declared.kinds.Kind.TheVariants as k
+use Rattle.sql_grammar.specs.declared.kinds.Kind.TheVariants as k
 use Rattle.sql_read.proofs.ReadPassing.{overflows_alone, stays_alone, within_alone}
 use Rattle.sql_read.proofs.ReadSteps.{exits}
 use Rattle.schema_read.proofs.NameLists.{Listing, listed_names, listing, next_name_refused, one_more_name, too_many_names}

@@ -1,6 +1,6 @@
 use Rattle.std.proofs.Common.{inl, refl, suc, Some, None}
 use Rattle.sql_read.specs.Eating.{Passes}
-use Rattle.sql_read.specs.Kinds.{among}
+use Rattle.sql_grammar.specs.Kinds.{among}
 use Rattle.sql_read.proofs.ReadBlocks.{alike_eats, seen, token_if_any}
 use Rattle.sql_read.proofs.ReadPassing.{alike_passes, alike_stays, ◌then◌}
 use Rattle.sql_read.proofs.ReadSteps.{none_taken, starts, took_token}

@@ -1,5 +1,5 @@
 use Rattle.std.proofs.Common.{refl}
-use Rattle.sql_read.specs.Queries.{most_levels}
+use Rattle.sql_grammar.specs.Queries.{most_levels}
 use Rattle.sql_read.proofs.ReadSteps.{before, blocks, exits, first_part, gives, mapped, missed, refuses, second, took_token, whole}
 use Rattle.schema_read.proofs.reading.statement.ended_statement.Goals as goal
 

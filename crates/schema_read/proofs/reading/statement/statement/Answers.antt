@@ -1,6 +1,6 @@
 use Rattle.std.proofs.Common.{refl, sym, ◌∙◌}
-use Rattle.sql_read.specs.declared.kinds.Kind.TheVariants as k
-use Rattle.sql_read.specs.Kinds.{same}
+use Rattle.sql_grammar.specs.declared.kinds.Kind.TheVariants as k
+use Rattle.sql_grammar.specs.Kinds.{same}
 use Rattle.sql_read.proofs.ReadPassing.{alike_passes, first_next, handed_on, other_unless, reads_from}
 use Rattle.sql_read.proofs.ReadSteps.{exits, first_part, mapped, missed, refuses, whole}
 use Rattle.schema_read.proofs.StatementParts.{created, table_begins, view_begins}

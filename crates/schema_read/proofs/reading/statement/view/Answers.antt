@@ -1,6 +1,6 @@
 use Rattle.std.proofs.Common.{ap, refl}
 use Rattle.sql_model.specs.declared.statement.Statement.TheVariants as statement
-use Rattle.sql_read.specs.Queries.{most_levels}
+use Rattle.sql_grammar.specs.Queries.{most_levels}
 use Rattle.sql_read.proofs.ReadPassing.{alike_passes, built_from, ◌then◌}
 use Rattle.sql_read.proofs.ReadSteps.{blocks, built_as, built_map, eaten, exits, first_part, gives, mapped, missed, refuses, second, whole}
 use Rattle.schema_read.specs.StatementTrees as t

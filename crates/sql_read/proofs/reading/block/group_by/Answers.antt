@@ -1,5 +1,5 @@
 use Rattle.std.proofs.Common.{refl, arith, None}
-use Rattle.sql_read.specs.Kinds as k
+use Rattle.sql_grammar.specs.declared.kinds.Kind.TheVariants as k
 use Rattle.sql_read.proofs.Extending.{◌⨟◌, extends_misses, extends_overflows, extends_passes, extends_stays, extends_within, shorter}
 use Rattle.sql_read.proofs.ReadBlocks.{by_missed, column_refused, column_too_many, gathered, gathering, grouped_left, one_gathered}
 use Rattle.sql_read.proofs.ReadPassing.{overflows_alone, stays_alone, within_alone}

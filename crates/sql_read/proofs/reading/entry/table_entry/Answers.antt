@@ -1,7 +1,7 @@
 use Rattle.std.proofs.Common.{refl, arith, []}
-use Rattle.sql_read.specs.Numbering.{plain}
-use Rattle.sql_read.specs.Kinds as k
-use Rattle.sql_read.specs.Kinds.{same, among}
+use Rattle.sql_grammar.specs.Numbering.{plain}
+use Rattle.sql_grammar.specs.declared.kinds.Kind.TheVariants as k
+use Rattle.sql_grammar.specs.Kinds.{same, among}
 use Rattle.sql_read.proofs.Extending.{◌⨟◌, extends_itself, extends_misses, extends_overflows, extends_passes, extends_stays, extends_still, extends_within, shorter}
 use Rattle.sql_read.proofs.ReadBlocks.{alike_eats, extends_eats}
 use Rattle.sql_read.proofs.ReadPassing.{◌then◌, alike_passes, alike_stays, alike_within, built_from, built_until, handed_on, overflows_alone, reads_from, stays_alone, within_alone}

@@ -1,5 +1,5 @@
 use Rattle.std.proofs.Common.{refl}
-use Rattle.sql_read.specs.QueryGrammar.{reference}
+use Rattle.sql_grammar.specs.QueryGrammar.{reference}
 use Rattle.sql_read.proofs.Extending.{◌⨟◌, extends_passes, extends_misses}
 use Rattle.sql_read.proofs.ReadNames.{reference_read}
 use Rattle.sql_read.proofs.ReadPassing.{misses}

@@ -1,10 +1,10 @@
 use Rattle.std.proofs.Common.{◌≡◌, ◌+◌, ◌-◌, ◌*◌, ◌<◌, ◌≤◌, ℕ, true, false, List, [], ◌∷◌, ◌++◌, length, Some, None, Ok, Err, inl, inr, refl, sym, ◌∙◌, ap, arith}
 use Rattle.sql_lex.specs.Lexemes.{lexeme_of}
 use Rattle.sql_model.specs.declared.tree.Expr.TheVariants as expr
-use Rattle.sql_read.specs.Kinds as k
-use Rattle.sql_read.specs.Kinds.{kind_of, same}
-use Rattle.sql_read.specs.QueryGrammar as grammar
-use Rattle.sql_read.specs.QueryTrees.{compared, place}
+use Rattle.sql_grammar.specs.declared.kinds.Kind.TheVariants as k
+use Rattle.sql_grammar.specs.Kinds.{kind_of, same}
+use Rattle.sql_grammar.specs.QueryGrammar as grammar
+use Rattle.sql_grammar.specs.QueryTrees.{compared, place}
 use Rattle.sql_read.proofs.Extending.{◌⨟◌, extends_itself, extends_misses, extends_overflows, extends_passes, extends_stays, extends_within, shorter}
 use Rattle.sql_read.proofs.ReadSteps.{before, behind, blocks, built_as, built_both, built_map, by_token, eaten, exits, exits_for_memory, first_part, gives, mapped, missed, none_taken, production, refuses, second, starts, took_token, whole}
 use Rattle.sql_read.proofs.ReadSteps as steps

@@ -1,0 +1,55 @@
+-- The grammar is included in the plan, so one token tells of it what the table says.
+use Rattle.grammar.specs.Language.{Includes}
+use Rattle.grammar.specs.Form.{Room, empty, language}
+use Rattle.grammar.proofs.Forms.{includes_through}
+use Rattle.grammar.proofs.Heights.{name_fronts}
+use Rattle.grammar.proofs.Known.{Known, narrowed}
+use Rattle.grammar.proofs.Plans.{plan_included}
+use Rattle.sql_grammar.specs.Kinds.{kind_of}
+use Rattle.sql_grammar.specs.QueryGrammar.{Production, rules, rules_with, query, part, operand, block, item, from, entry, reference, expr, conj, neg, test, rest, value, term, unary, primary, agg, set_tail, and_tail, expr_tail, inner, in_inner, commas}
+use Rattle.sql_grammar.specs.QueryPlan.{plan_with}
+use Rattle.sql_grammar.specs.QueryLookahead.{table}
+use Rattle.sql_grammar.proofs.QueryInside.{P, fl, closes}
+use Rattle.sql_grammar.proofs.QueryInsides.{insides_included}
+use Rattle.sql_grammar.proofs.QueryWords.{Below, itself}
+use Rattle.sql_grammar.proofs.QueryFirsts.{reference_below, agg_below, primary_below}
+use Rattle.sql_grammar.proofs.QueryRests.{rest_below}
+use Rattle.sql_grammar.proofs.QueryItems.{item_below}
+use Rattle.sql_grammar.proofs.Variants.{Variant}
+
+module _ (variant : Variant) where
+  rules_below : (p : Production) → Below (P variant) (rules_with variant.froms p) (plan_with variant.froms p)
+  rules_below item = item_below variant
+  rules_below reference = reference_below variant
+  rules_below rest = rest_below variant
+  rules_below primary = primary_below variant
+  rules_below agg = agg_below variant
+  rules_below inner = record { holds = insides_included variant empty }
+  rules_below in_inner = record { holds = insides_included variant commas }
+  rules_below query = itself (rules query)
+  rules_below part = itself (rules part)
+  rules_below operand = itself (rules operand)
+  rules_below block = itself (rules_with variant.froms block)
+  rules_below from = itself (rules from)
+  rules_below entry = itself (rules entry)
+  rules_below expr = itself (rules expr)
+  rules_below conj = itself (rules conj)
+  rules_below neg = itself (rules neg)
+  rules_below test = itself (rules test)
+  rules_below value = itself (rules value)
+  rules_below term = itself (rules term)
+  rules_below unary = itself (rules unary)
+  rules_below set_tail = itself (rules set_tail)
+  rules_below and_tail = itself (rules and_tail)
+  rules_below expr_tail = itself (rules expr_tail)
+
+  closed : (room : Room) (p : Production) → Includes (P variant room p) (fl variant room (rules_with variant.froms p))
+  closed room p = includes_through (fl variant room (rules_with variant.froms p)) (fl variant room (plan_with variant.froms p)) (P variant room p) ((rules_below p).holds room) (closes variant room p)
+
+  -- what the grammar spells and begins, the plan does
+  pub plan_above : (room : Room) (p : Production) → Includes (P variant room p) (language kind_of (rules_with variant.froms) room p)
+  plan_above = plan_included kind_of (rules_with variant.froms) (plan_with variant.froms) closed
+
+  pub known_of : (room : Room) (p : Production) → Known kind_of (language kind_of (rules_with variant.froms) room p) (table p)
+  known_of room p =
+      narrowed kind_of (language kind_of (rules_with variant.froms) room p) (P variant room p) (table p) (plan_above room p) (name_fronts kind_of (rules_with variant.froms) room p) (variant.known room p)

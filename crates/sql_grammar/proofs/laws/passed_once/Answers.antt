@@ -1,0 +1,5 @@
+use Rattle.sql_grammar.proofs.QueryFronts.{too_deep_once}
+use Rattle.sql_grammar.proofs.laws.passed_once.Goals as goal
+
+pub returns : goal.returns
+returns c = too_deep_once

@@ -1,0 +1,5 @@
+use Rattle.sql_grammar.proofs.QueryFronts.{too_many_once}
+use Rattle.sql_grammar.proofs.laws.too_many_once.Goals as goal
+
+pub returns : goal.returns
+returns c = too_many_once

@@ -1,0 +1,12 @@
+pub mod Kinds
+pub mod TokenValues
+pub mod Numbering
+pub mod QueryTrees
+pub mod QueryGrammar
+pub mod Queries
+pub mod QueryEntries
+pub mod QueryCopies
+pub mod QuerySamples
+pub mod QueryPlan
+pub mod PlanCopies
+pub mod QueryLookahead

@@ -1,0 +1,41 @@
+-- What a list of tokens spells as a query, and where it passes the limits on depth and length.
+use Rattle.std.specs.Prelude.{ℕ, ◌≡◌, List, [], ◌∷◌, ◌++◌, Some, None}
+use Rattle.grammar.specs.Form.{Room, language}
+use Rattle.grammar.specs.Language.{Language}
+use Rattle.sql_lex.specs.Lexemes.{Lexeme}
+use Rattle.sql_model.specs.declared.tree.Query.{Query}
+use Rattle.sql_grammar.specs.Kinds.{kind_of}
+use Rattle.sql_grammar.specs.Numbering.{Numbers, Built}
+use Rattle.sql_grammar.specs.QueryGrammar.{Production, Read, rules}
+use Rattle.sql_grammar.specs.QueryGrammar as g
+
+-- levels that may be open at once
+abbrev pub most_levels : ℕ
+most_levels = 64
+
+abbrev pub of_production : Room → (p : Production) → Language Lexeme (Read p)
+of_production room p = language kind_of rules room p
+
+abbrev pub queries : Language Lexeme (Built Query)
+queries = of_production None g.query
+
+abbrev pub shallow_queries : Language Lexeme (Built Query)
+shallow_queries = of_production (Some most_levels) g.query
+
+-- The tokens spell the query, where literals and called names had these numbers before them, and then those.
+abbrev pub Spells : Numbers → List Lexeme → Query → Numbers → Type 0
+Spells before ts q after = (read : Built Query) × queries.spells ts read × (read.build before ≡ (q, after))
+
+-- a text may go on after these tokens
+abbrev pub Begins : List Lexeme → Type 0
+Begins ts = queries.front ts
+
+-- Behind these tokens this one goes on, and is the first that opens too many levels or makes a chain too long.
+pub record IsTooDeep (before : List Lexeme) (token : Lexeme) : Type 0 where
+  pub goes_on : Begins (before ++ token ∷ [])
+  pub shallow_before : shallow_queries.front before
+  pub too_deep : shallow_queries.front (before ++ token ∷ []) → ⊥
+
+-- none of the tokens at which a text goes on is too deep
+abbrev pub IsShallow : List Lexeme → Type 0
+IsShallow ts = (before after : List Lexeme) (token : Lexeme) → ts ≡ before ++ token ∷ after → IsTooDeep before token → ⊥

@@ -1,0 +1,308 @@
+-- The grammar of queries, with the trees that it spells. `optional f` is [f], `star most f` is {f} and `listed f` is f {, f}. Each `(`,
+-- prefix NOT and prefix minus opens a level; within the limits a chain of set operators, of `+ - ||` or of `* /` has at most 63 of them,
+-- and one of AND or OR and a list at most 255.
+use Rattle.std.specs.Prelude.{List, [], ◌∷◌, Option, Some, None}
+use Rattle.std.proofs.Common.{inl, inr}
+use Rattle.grammar.specs.Form.{Form, Rules, empty, token, seq, alt, star, nest, map, only, nonempty, counted, ref}
+use Rattle.grammar.specs.Productions.{skip_then, then_skip, optional, separated}
+use Rattle.sql_model.specs.declared.tree.Expr.{Expr}
+use Rattle.sql_model.specs.declared.tree.Item.{Item}
+use Rattle.sql_model.specs.declared.tree.Entry.{Entry}
+use Rattle.sql_model.specs.declared.tree.Query.{Query}
+use Rattle.sql_model.specs.Syntax.{Except, Intersect}
+use Rattle.sql_lex.specs.Lexemes.{Lexeme}
+use Rattle.sql_grammar.specs.Kinds as k
+use Rattle.sql_grammar.specs.Kinds.{Kind, same, among}
+pub use Rattle.sql_grammar.specs.Kinds.{name_kinds}
+use Rattle.sql_grammar.specs.Numbering.{Built, plain}
+use Rattle.sql_grammar.specs.QueryTrees as t
+use Rattle.sql_grammar.specs.QueryTrees.{Left, Listed, SetWord, Inside, not_sub}
+
+pub data Production : Type 0 where
+  query : Production
+  part : Production
+  operand : Production
+  block : Production
+  item : Production
+  from : Production
+  entry : Production
+  reference : Production
+  expr : Production
+  conj : Production
+  neg : Production
+  test : Production
+  rest : Production
+  value : Production
+  term : Production
+  unary : Production
+  primary : Production
+  agg : Production
+  -- of these the grammar has no need: they are what one token of lookahead can read
+  set_tail : Production
+  and_tail : Production
+  expr_tail : Production
+  inner : Production
+  in_inner : Production
+
+-- what is read of each
+abbrev pub Read : Production → Type 0
+Read query = Built Query
+Read part = Built Query
+Read operand = Built Query
+Read block = Built Query
+Read item = Built Item
+Read from = Built (List Entry)
+Read entry = Built Listed
+Read reference = Expr
+Read expr = Built Expr
+Read conj = Built Expr
+Read neg = Built Expr
+Read test = Built Expr
+Read rest = Left → Built Expr
+Read value = Built Expr
+Read term = Built Expr
+Read unary = Built Expr
+Read primary = Built Expr
+Read agg = Built Expr
+Read set_tail = Built Query → Built Query
+Read and_tail = Built Expr → Built Expr
+Read expr_tail = Left → Built Expr
+Read inner = Inside (Unit {0})
+Read in_inner = Inside (List (Built Expr))
+
+abbrev pub The : Type 0 → Type 1
+The A = Form Lexeme Kind Production Read A
+
+-- ---- tokens
+
+abbrev pub a : Kind → The Lexeme
+a kind = token (same kind)
+
+abbrev pub one_of : List Kind → The Lexeme
+one_of kinds = token (among kinds)
+
+-- a name of something: an unreserved word or a quoted name
+abbrev pub name : The Lexeme
+name = one_of name_kinds
+
+-- an unreserved word that names no aggregate
+abbrev pub called_word : The Lexeme
+called_word = one_of (k.Word ∷ k.Key ∷ k.View ∷ k.Index ∷ [])
+
+abbrev pub aggregate_word : The Lexeme
+aggregate_word = one_of (k.Count ∷ k.Sum ∷ k.Avg ∷ k.Min ∷ k.Max ∷ [])
+
+-- ---- ways to write productions
+
+-- ( f ), with the parenthesis
+abbrev pub in_parentheses : {A : Type 0} → The A → The (Lexeme × A)
+in_parentheses f = nest (seq (a k.Open) (then_skip f (a k.Close)))
+
+-- ( f )
+abbrev pub parens : {A : Type 0} → The A → The A
+parens f = map (λ p. p.1) (in_parentheses f)
+
+-- f {, f}
+abbrev pub listed : {A : Type 0} → The A → The (A × List A)
+listed f = separated (Some 255) (a k.Comma) f
+
+-- [AS] name
+abbrev pub alias : The Lexeme
+alias = skip_then (optional (a k.As)) name
+
+-- ---- the productions
+
+-- (UNION [ALL] | EXCEPT)
+abbrev pub union_or_except : The SetWord
+union_or_except =
+    alt (map (λ p. t.union_word p.0 p.1) (seq (a k.Union) (optional (a k.All))))
+    (map (λ word. (Except, word.start)) (a k.Except))
+
+abbrev pub intersect : The SetWord
+intersect = map (λ word. (Intersect, word.start)) (a k.Intersect)
+
+-- [INNER] JOIN entry ON expr
+abbrev pub join_on : The (Built Entry)
+join_on =
+    map (λ p. t.joined_on p.0 p.1)
+    (skip_then (seq (optional (a k.Inner)) (a k.Join)) (seq (ref entry) (skip_then (a k.On) (ref expr))))
+
+-- CROSS JOIN entry
+abbrev pub cross_join : The (Built Entry)
+cross_join = map t.cross_joined (skip_then (seq (a k.Cross) (a k.Join)) (ref entry))
+
+-- [GROUP BY ref {, ref}]
+abbrev pub group_by : The (Option (Expr × List Expr))
+group_by = optional (skip_then (seq (a k.Group) (a k.By)) (listed (ref reference)))
+
+-- (= | <> | < | <= | > | >=) value
+abbrev pub comparison : The (Left → Built Expr)
+comparison =
+    map (λ p left. t.comparison p.0 p.1 left)
+    (seq (one_of (k.Equals ∷ k.Differs ∷ k.Less ∷ k.AtMost ∷ k.Greater ∷ k.AtLeast ∷ [])) (ref value))
+
+-- [NOT] IN ( query )
+abbrev pub in_query : The (Left → Built Expr)
+in_query = map (λ p left. t.in_query p.0 p.1.0 p.1.1 left) (seq (optional (a k.Not)) (seq (a k.In) (parens (ref query))))
+
+-- [NOT] IN ( expr {, expr} ), but for one subquery
+abbrev pub in_list : The (Left → Built Expr)
+in_list =
+    map (λ p left. t.in_list p.0 p.1 left)
+    (seq (optional (a k.Not)) (skip_then (a k.In) (parens (only t.is_no_query (listed (ref expr))))))
+
+-- [NOT] BETWEEN value AND value
+abbrev pub between : The (Left → Built Expr)
+between =
+    map (λ p left. t.between p.0 p.1.0 p.1.1 left)
+    (seq (optional (a k.Not)) (skip_then (a k.Between) (seq (ref value) (skip_then (a k.And) (ref value)))))
+
+-- [NOT] LIKE value
+abbrev pub like : The (Left → Built Expr)
+like = map (λ p left. t.like p.0 p.1 left) (seq (optional (a k.Not)) (skip_then (a k.Like) (ref value)))
+
+-- word ( [expr {, expr}] )
+abbrev pub call : The (Built Expr)
+call = map (λ p. t.call p.0 p.1) (seq called_word (parens (optional (listed (ref expr)))))
+
+-- INTERSECT operand
+abbrev pub next_intersect : The (SetWord × Built Query)
+next_intersect = seq intersect (ref operand)
+
+-- {INTERSECT operand}
+abbrev pub intersects : The (List (SetWord × Built Query))
+intersects = star (Some 63) next_intersect
+
+-- (UNION [ALL] | EXCEPT) part
+abbrev pub next_union : The (SetWord × Built Query)
+next_union = seq union_or_except (ref part)
+
+-- {(UNION [ALL] | EXCEPT) part}
+abbrev pub unions : The (List (SetWord × Built Query))
+unions = star (Some 63) next_union
+
+-- (* | /) unary
+abbrev pub next_product : The (Lexeme × Built Expr)
+next_product = seq (one_of (k.Star ∷ k.Slash ∷ [])) (ref unary)
+
+-- {(* | /) unary}
+abbrev pub products : The (List (Lexeme × Built Expr))
+products = star (Some 63) next_product
+
+-- (+ | - | ||) term
+abbrev pub next_sum : The (Lexeme × Built Expr)
+next_sum = seq (one_of (k.Plus ∷ k.Minus ∷ k.Concat ∷ [])) (ref term)
+
+-- {(+ | - | ||) term}
+abbrev pub sums : The (List (Lexeme × Built Expr))
+sums = star (Some 63) next_sum
+
+-- AND neg
+abbrev pub next_and : The (Built Expr)
+next_and = skip_then (a k.And) (ref neg)
+
+-- {AND neg}
+abbrev pub ands : The (List (Built Expr))
+ands = star (Some 255) next_and
+
+-- OR conj
+abbrev pub next_or : The (Built Expr)
+next_or = skip_then (a k.Or) (ref conj)
+
+-- {OR conj}
+abbrev pub ors : The (List (Built Expr))
+ors = star (Some 255) next_or
+
+-- NOT neg
+abbrev pub not_neg : The (Built Expr)
+not_neg = map t.not_of (nest (seq (a k.Not) (ref neg)))
+
+-- EXISTS ( query )
+abbrev pub exists : The (Built Expr)
+exists = map t.exists (seq (a k.Exists) (parens (ref query)))
+
+-- - unary
+abbrev pub minus : The (Built Expr)
+minus = map t.minus (nest (seq (a k.Minus) (ref unary)))
+
+-- ( query )
+abbrev pub subquery : The (Built Expr)
+subquery = map t.sub (in_parentheses (ref query))
+
+-- a query that begins with a parenthesis, and goes on behind it
+abbrev pub longer_query : The (Built Query)
+longer_query = map (λ p. p.1 p.0) (seq (parens (ref query)) (nonempty (ref set_tail)))
+
+-- , expr
+abbrev pub next_comma : The (Built Expr)
+next_comma = skip_then (a k.Comma) (ref expr)
+
+-- {, expr}
+abbrev pub commas : The (List (Built Expr))
+commas = star (Some 255) next_comma
+
+-- what may stand behind a parenthesis, with what may follow an expression there
+abbrev pub insides : {M : Type 0} → The M → The (Inside M)
+insides more =
+    alt (map (λ q. inl q) (alt (map (λ p. p.1 p.0) (seq (ref block) (ref set_tail))) longer_query))
+    (alt (map (λ p. inr (inl p)) (seq (in_parentheses (ref query)) more))
+    (map (λ p. inr (inr p)) (seq (only not_sub (ref expr)) more)))
+
+-- the items of FROM, each with its entries
+abbrev pub Froms : Type 0
+Froms = Built (List Entry) × List (Built (List Entry))
+
+-- SELECT [DISTINCT] item {, item} FROM froms [WHERE expr] [GROUP BY ref {, ref}] [HAVING expr]
+abbrev pub block_with : The Froms → The (Built Query)
+block_with froms =
+    map (λ p. t.block_of p.0 p.1.0 p.1.1.0 p.1.1.1.0 p.1.1.1.1.0 p.1.1.1.1.1)
+    (skip_then (a k.Select) (seq (optional (a k.Distinct)) (seq (listed (ref item))
+    (seq (skip_then (a k.From) froms)
+    (seq (optional (skip_then (a k.Where) (ref expr))) (seq group_by (optional (skip_then (a k.Having) (ref expr)))))))))
+
+-- with these items of FROM in each block
+abbrev pub rules_with : The Froms → Rules Lexeme Kind Production Read
+rules_with froms query = map (λ p. t.sets p.0 p.1) (seq (ref part) unions)
+rules_with froms part = map (λ p. t.sets p.0 p.1) (seq (ref operand) intersects)
+rules_with froms operand = alt (ref block) (parens (ref query))
+rules_with froms block = block_with froms
+rules_with froms item =
+    alt (map t.star_item (a k.Star))
+    (alt (map t.alias_star_item (then_skip name (seq (a k.Dot) (a k.Star))))
+    (map (λ p. t.value_item p.0 p.1) (seq (ref expr) (optional alias))))
+rules_with froms from = map (λ p. t.entries p.0 p.1) (seq (ref entry) (star None (alt join_on cross_join)))
+rules_with froms entry =
+    alt (map (λ p. t.table_entry p.0 p.1) (seq name (optional alias)))
+    (map (λ p. t.query_entry p.0 p.1) (seq (parens (ref query)) alias))
+rules_with froms reference = map t.column (seq (optional (then_skip name (a k.Dot))) name)
+rules_with froms expr = map (t.chained t.or_node) (seq (ref conj) ors)
+rules_with froms conj = map (t.chained t.and_node) (seq (ref neg) ands)
+rules_with froms neg = alt not_neg (ref test)
+rules_with froms test =
+    alt exists
+    (map (λ p. t.tested p.0 p.1) (seq (counted (ref value)) (optional (ref rest))))
+rules_with froms rest = alt comparison (alt in_query (alt in_list (alt between like)))
+rules_with froms value = map (λ p. t.operated p.0 p.1) (seq (ref term) sums)
+rules_with froms term = map (λ p. t.operated p.0 p.1) (seq (ref unary) products)
+rules_with froms unary = alt minus (ref primary)
+rules_with froms primary =
+    alt (map t.number_literal (a k.Number))
+    (alt (map t.text_literal (a k.Text))
+    (alt (map (λ x. plain x) (ref reference))
+    (alt (ref agg)
+    (alt call
+    (alt (parens (only not_sub (ref expr)))
+    subquery)))))
+rules_with froms agg =
+    alt (map (λ p. t.count_rows p.0) (seq (a k.Count) (parens (a k.Star))))
+    (map (λ p. t.aggregated p.0 p.1.0 p.1.1) (seq aggregate_word (parens (seq (optional (a k.Distinct)) (ref expr)))))
+rules_with froms set_tail = map (λ p. t.combined p.0 p.1) (seq intersects unions)
+rules_with froms and_tail = map (λ p. t.joined p.0 p.1) (seq ands ors)
+rules_with froms expr_tail =
+    map (λ p. t.continued p.0 p.1.0 p.1.1.0 p.1.1.1)
+    (seq (counted (seq products sums)) (seq (optional (ref rest)) (seq ands ors)))
+rules_with froms inner = insides empty
+rules_with froms in_inner = insides commas
+
+abbrev pub rules : Rules Lexeme Kind Production Read
+rules = rules_with (listed (ref from))

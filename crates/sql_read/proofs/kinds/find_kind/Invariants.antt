@@ -1,6 +1,0 @@
-use Rattle.std.proofs.Common.{drop}
-use Rattle.sql_read.proofs.KindRows.{SameKind}
-use Rattle.sql_read.proofs.kinds.find_kind.Given as goal
-
-abbrev pub invariant-loop-word : goal.invariant-loop-word
-invariant-loop-word l = SameKind (drop l.word-index l.rows) l.rows l.text

@@ -1,6 +1,0 @@
-use Rattle.std.proofs.Common.{refl}
-use Rattle.sql_read.proofs.KindNumbers.{tag_is_number}
-use Rattle.sql_read.proofs.kinds.is_same.Goals as goal
-
-pub returns : goal.returns
-returns c = rw (tag_is_number c.args.a, tag_is_number c.args.b) refl

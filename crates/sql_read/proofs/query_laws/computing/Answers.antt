@@ -1,8 +1,0 @@
-use Rattle.std.proofs.Common.{None}
-use Rattle.grammar.proofs.ParsesSound.{computed}
-use Rattle.sql_read.specs.Kinds.{kind_of}
-use Rattle.sql_read.specs.QueryGrammar.{query, rules}
-use Rattle.sql_read.proofs.query_laws.computing.Goals as goal
-
-pub returns : goal.returns
-returns c height ts read others before after q e i = (read, computed kind_of rules height None query ts read others e, i)
