@@ -23,7 +23,8 @@ copies_in_plan ts copies s =
     let r = quietly_completed ts copies s in
     (r.read, record { more = r.more; are_chosen = r.quiet; spelled = (plan_includes None query).spells (ts ++ r.more) r.read r.spelled }, r.same_copies)
 
-reached_copies : (start taken rest : List Lexeme) (read : Built Query) → start ≡ taken ++ rest → Reaches copies_nothing (of_plan None query) start read rest → CopiesOf taken read.copies
+-- up to the rest so much was copied
+pub reached_copies : (start taken rest : List Lexeme) (read : Built Query) → start ≡ taken ++ rest → Reaches copies_nothing (of_plan None query) start read rest → CopiesOf taken read.copies
 reached_copies start taken rest read i r = subst (λ z. CopiesOf z read.copies) (append_cancel_right r.taken taken rest (sym r.whole ∙ i)) (plan_copies r.taken read r.completes)
 
 pub too_many_here : (copied : ℕ) (start before more : List Lexeme) (token : Lexeme) → start ≡ before ++ token ∷ more

@@ -4,6 +4,7 @@ use Rattle.std.proofs.lemmas.List.{append-nil}
 use Rattle.std.specs.List.{list_all}
 use Rattle.grammar.specs.Language.{Language, nonempty_language}
 use Rattle.grammar.specs.Form.{ref, language}
+use Rattle.grammar.specs.Productions.{skip_then}
 use Rattle.grammar.specs.Completions.{Fills, Reaches, Overspends}
 use Rattle.grammar.proofs.Forms.{form_grows, includes_through}
 use Rattle.grammar.proofs.Heights.{name_fronts, name_grows}
@@ -18,6 +19,7 @@ use Rattle.sql_grammar.specs.Kinds.{Kind, kind_of}
 use Rattle.sql_grammar.specs.Numbering.{Built}
 use Rattle.sql_grammar.specs.QueryTrees as t
 use Rattle.sql_grammar.specs.QueryTrees.{Left, weight}
+use Rattle.sql_grammar.specs.QueryGrammar as grammar
 use Rattle.sql_grammar.specs.QueryGrammar.{The, next_comma, commas, rules, expr_tail, set_tail, rest}
 use Rattle.sql_grammar.specs.QueryPlan.{plan, by_word, of_plan}
 use Rattle.sql_grammar.specs.PlanCopies.{copies_nothing}
@@ -56,6 +58,15 @@ no_token f v here l = record {
   completes = record { more = l.by.filling; are_chosen = l.by.are_chosen; spelled = in_plan f l.by.filling v l.by.spelled };
 }
 
+pub fill_like : Filled by_word (λ word left. t.like word number_one left)
+fill_like = fill_other _ (fill_other _ (fill_map (λ x word left. t.like word x left) (fill_second (fill_token k.Like (word (codes "like")) refl refl) fill_value)))
+
+pub fill_high : Filled (skip_then (grammar.a k.And) (ref grammar.value)) number_one
+fill_high = fill_second (fill_token k.And (word (codes "and")) refl refl) fill_value
+
+fill_bounds : Filled bounds (number_one, number_one)
+fill_bounds = fill_seq fill_value fill_high
+
 -- ---- where too much is copied
 
 -- the word BETWEEN stands next, behind this left side and perhaps a NOT
@@ -63,23 +74,17 @@ pub between_too_much : (not_word : Option Lexeme) (left : Left) (most spent : �
     → spent + left.0.copies ≤ most → most < (spent + left.0.copies) + weight left → Overspends copies_nothing (free planned by_word) (λ f. (f not_word left).copies) most spent here here
 between_too_much not_word left most spent here more token i b within passed = record {
   before = λ word left. t.like word number_one left;
-  up_to = no_token by_word (λ word left. t.like word number_one left) here like_filled;
+  up_to = no_token by_word (λ word left. t.like word number_one left) here fill_like;
   within = few spent left.0.copies most within;
   token = token;
   more = more;
   next = i;
   with_it = λ word left. t.between word number_one number_one left;
-  and_it = one_token by_word (λ word left. t.between word number_one number_one left) here more token bounds_filled.by.filling i bounds_filled.by.are_chosen
-      (inr (inl ((number_one, number_one), ((token, (number_one, number_one)), (token ∷ [], bounds_filled.by.filling, refl, (refl, b), bounds_filled.by.spelled), refl), refl)));
+  and_it = one_token by_word (λ word left. t.between word number_one number_one left) here more token fill_bounds.by.filling i fill_bounds.by.are_chosen
+      (inr (inl ((number_one, number_one), ((token, (number_one, number_one)), (token ∷ [], fill_bounds.by.filling, refl, (refl, b), fill_bounds.by.spelled), refl), refl)));
   too_much = many spent left.0.copies (weight left) most passed;
 }
   where
-    like_filled : Filled by_word (λ word left. t.like word number_one left)
-    like_filled = fill_other _ (fill_other _ (fill_map (λ x word left. t.like word x left) (fill_second (fill_token k.Like (word (codes "like")) refl refl) fill_value)))
-
-    bounds_filled : Filled bounds (number_one, number_one)
-    bounds_filled = fill_seq fill_value (fill_second (fill_token k.And (word (codes "and")) refl refl) fill_value)
-
     few : (a b m : ℕ) → a + b ≤ m → a + (b + 0) ≤ m
     few a b m l = omega (arith, l)
 
@@ -111,10 +116,10 @@ comma_too_much left most spent here more token i b within passed = record {
 -- ---- tails that have a token
 
 -- Where a front of a tail is completed by nothing, it may be completed by something that copies nothing either.
-record SomeTail {A : Type 0} (L : Language Lexeme A) (price : A → ℕ) (here beyond : List Lexeme) (total : ℕ) : Type 0 where
-  value : A
-  reaches : Reaches copies_nothing (nonempty_language L) here value beyond
-  same_price : price value ≡ total
+pub record SomeTail {A : Type 0} (L : Language Lexeme A) (price : A → ℕ) (here beyond : List Lexeme) (total : ℕ) : Type 0 where
+  pub value : A
+  pub reaches : Reaches copies_nothing (nonempty_language L) here value beyond
+  pub same_price : price value ≡ total
 
 some_tail : {A : Type 0} (L : Language Lexeme A) (price : A → ℕ) (here beyond : List Lexeme) (v other : A) (token : Lexeme) (filling : List Lexeme)
     → list_all copies_nothing (token ∷ filling) ≡ true → L.spells (token ∷ filling) other
@@ -171,15 +176,18 @@ expr_tail_spelled =
     rest_spelled = (from_rule kind_of rules None rest).spells (symbol 61 ∷ fill_value.by.filling) (λ left. t.comparison (symbol 61) number_one left)
         (inl ((symbol 61, number_one), (symbol 61 ∷ [], fill_value.by.filling, refl, (refl, refl), fill_value.by.spelled), refl))
 
-pub expr_tail_some : (left : Left) (most spent : ℕ) (here beyond : List Lexeme) → Overspends copies_nothing (of_plan None expr_tail) (λ f. (f left).copies) most spent here beyond
-    → Overspends copies_nothing (nonempty_language (of_plan None expr_tail)) (λ f. (f left).copies) most spent here beyond
-expr_tail_some left most spent here beyond o =
-    overspends_some (of_plan None expr_tail) (λ f. (f left).copies) most spent here beyond
-    (λ v beyond r. some_tail (of_plan None expr_tail) (λ f. (f left).copies) here beyond v compared_tail (symbol 61) fill_value.by.filling fill_value.by.are_chosen expr_tail_spelled
-    (λ p. to_zero left.0.copies ∙ sym (still_texts planned copies_nothing SameRead StillRead still_rule same_rule expr_tail [] v refl p left)) r) o
+pub expr_tail_reaches : (left : Left) (here : List Lexeme) (v : Left → Built Expr) (beyond : List Lexeme) → Reaches copies_nothing (of_plan None expr_tail) here v beyond
+    → SomeTail (of_plan None expr_tail) (λ f. (f left).copies) here beyond (v left).copies
+expr_tail_reaches left here v beyond r =
+    some_tail (of_plan None expr_tail) (λ f. (f left).copies) here beyond v compared_tail (symbol 61) fill_value.by.filling fill_value.by.are_chosen expr_tail_spelled
+    (λ p. to_zero left.0.copies ∙ sym (still_texts planned copies_nothing SameRead StillRead still_rule same_rule expr_tail [] v refl p left)) r
   where
     to_zero : (c : ℕ) → c + 0 ≡ c
     to_zero c = omega arith
+
+pub expr_tail_some : (left : Left) (most spent : ℕ) (here beyond : List Lexeme) → Overspends copies_nothing (of_plan None expr_tail) (λ f. (f left).copies) most spent here beyond
+    → Overspends copies_nothing (nonempty_language (of_plan None expr_tail)) (λ f. (f left).copies) most spent here beyond
+expr_tail_some left most spent here beyond o = overspends_some (of_plan None expr_tail) (λ f. (f left).copies) most spent here beyond (expr_tail_reaches left here) o
 
 abbrev union_tail : Built Query → Built Query
 union_tail q = t.combined [] (((Union, 0), select_one) ∷ []) q
@@ -205,12 +213,15 @@ set_tail_spelled =
       refl,
     ))
 
-pub set_tail_some : (q : Built Query) (most spent : ℕ) (here beyond : List Lexeme) → Overspends copies_nothing (of_plan None set_tail) (λ f. (f q).copies) most spent here beyond
-    → Overspends copies_nothing (nonempty_language (of_plan None set_tail)) (λ f. (f q).copies) most spent here beyond
-set_tail_some q most spent here beyond o =
-    overspends_some (of_plan None set_tail) (λ f. (f q).copies) most spent here beyond
-    (λ v beyond r. some_tail (of_plan None set_tail) (λ f. (f q).copies) here beyond v union_tail (word (codes "union")) fill_part.by.filling fill_part.by.are_chosen set_tail_spelled
-    (λ p. to_zero q.copies ∙ sym (still_texts planned copies_nothing SameRead StillRead still_rule same_rule set_tail [] v refl p q)) r) o
+pub set_tail_reaches : (q : Built Query) (here : List Lexeme) (v : Built Query → Built Query) (beyond : List Lexeme) → Reaches copies_nothing (of_plan None set_tail) here v beyond
+    → SomeTail (of_plan None set_tail) (λ f. (f q).copies) here beyond (v q).copies
+set_tail_reaches q here v beyond r =
+    some_tail (of_plan None set_tail) (λ f. (f q).copies) here beyond v union_tail (word (codes "union")) fill_part.by.filling fill_part.by.are_chosen set_tail_spelled
+    (λ p. to_zero q.copies ∙ sym (still_texts planned copies_nothing SameRead StillRead still_rule same_rule set_tail [] v refl p q)) r
   where
     to_zero : (c : ℕ) → c + 0 ≡ c
     to_zero c = omega arith
+
+pub set_tail_some : (q : Built Query) (most spent : ℕ) (here beyond : List Lexeme) → Overspends copies_nothing (of_plan None set_tail) (λ f. (f q).copies) most spent here beyond
+    → Overspends copies_nothing (nonempty_language (of_plan None set_tail)) (λ f. (f q).copies) most spent here beyond
+set_tail_some q most spent here beyond o = overspends_some (of_plan None set_tail) (λ f. (f q).copies) most spent here beyond (set_tail_reaches q here) o

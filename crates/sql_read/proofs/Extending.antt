@@ -1,10 +1,10 @@
 -- Reading goes on: each step of it, and one step after another.
-use Rattle.std.proofs.Common.{◌≡◌, ℕ, suc, ◌+◌, ◌<◌, Bool, List, [], ◌∷◌, ◌++◌, length, drop, Result, Ok, Err, refl, sym, ◌∙◌, ap, subst, append_assoc, arith}
+use Rattle.std.proofs.Common.{◌≡◌, ℕ, ◌+◌, ◌<◌, Bool, List, [], ◌∷◌, ◌++◌, length, drop, refl, sym, ◌∙◌, ap, subst, append_assoc, arith}
 use Rattle.std.proofs.lemmas.List.{append-nil}
 use Rattle.sql_lex.specs.Lexemes.{Lexeme}
 use Rattle.sql_read.specs.declared.fault.ReadFault.{ReadFault}
-use Rattle.sql_read.specs.Cursor.{Cursor, behind_next}
-use Rattle.sql_read.specs.Eating.{Copies, Extends, GoesOn, Misses, Overflows, Passes, PassesWithin, Stays}
+use Rattle.sql_read.specs.Cursor.{Cursor}
+use Rattle.sql_read.specs.Eating.{Extends, GoesOn, Misses, Overflows, Passes, PassesWithin, Stays}
 use Rattle.sql_grammar.specs.declared.kinds.Kind.{Kind}
 
 goes_nowhere : {X : Type 0} (xs : List X) → GoesOn xs xs

@@ -30,3 +30,15 @@ pub mod ReadEntryLists
 pub mod WholeQueries
 pub mod ReadEntries
 pub mod ReadFewEntries
+pub mod ReadCopies
+pub mod ReadCopiedSteps
+pub mod ReadCopiedLists
+pub mod ReadCopiedBlocks
+pub mod ReadCopiedEntries
+pub mod ReadCopiedItems
+pub mod ReadCopiedParens
+pub mod ReadCopiedChains
+pub mod ReadCopiedExprs
+pub mod ReadCopiedTests
+pub mod ReadCopiedPrimaries
+pub mod ReadCopiedInsides

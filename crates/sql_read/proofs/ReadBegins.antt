@@ -9,7 +9,7 @@ use Rattle.sql_model.specs.declared.tree.Expr.{Expr}
 use Rattle.sql_grammar.specs.declared.kinds.Kind.TheVariants as k
 use Rattle.sql_grammar.specs.declared.kinds.Kind.{Kind}
 use Rattle.sql_grammar.specs.Kinds.{among, every_kind, kind_of, same}
-use Rattle.sql_grammar.specs.QueryGrammar.{Production, The, a, ands, expr_tail, intersect, intersects, next_and, next_intersect, next_or, next_product, next_sum, next_union, operand, ors, part, products, rest, set_tail, sums, union_or_except, unions}
+use Rattle.sql_grammar.specs.QueryGrammar.{Production, The, ands, expr_tail, intersect, intersects, next_and, next_intersect, next_or, next_product, next_sum, next_union, operand, ors, part, products, rest, set_tail, sums, union_or_except, unions}
 use Rattle.sql_grammar.specs.QueryPlan.{plan}
 use Rattle.sql_grammar.specs.Numbering.{Built}
 use Rattle.sql_grammar.specs.QueryTrees.{Left}

@@ -1,8 +1,8 @@
 -- Blocks, from what is read of their clauses.
-use Rattle.std.proofs.Common.{◌≡◌, ℕ, ◌+◌, ◌-◌, Bool, true, false, List, [], ◌∷◌, ◌++◌, Option, Some, None, refl, sym, ◌∙◌, ap, subst, append_assoc, arith, inl, inr}
+use Rattle.std.proofs.Common.{◌≡◌, ℕ, ◌-◌, Bool, true, List, [], ◌∷◌, ◌++◌, Option, Some, None, refl, sym, ◌∙◌, ap, subst, append_assoc, arith, inl, inr}
 use Rattle.std.specs.Option.{is_some}
 use Rattle.std.proofs.lemmas.List.{append-nil}
-use Rattle.grammar.specs.Form.{Form, seq, ref, star, token}
+use Rattle.grammar.specs.Form.{seq, ref, star, token}
 use Rattle.grammar.specs.Productions.{optional, skip_then}
 use Rattle.grammar.proofs.Predictions.{ok, ahead}
 use Rattle.sql_lex.specs.declared.token.Token.{Token}
@@ -27,6 +27,8 @@ use Rattle.sql_grammar.proofs.FewPlan.{list_planned}
 use Rattle.sql_grammar.proofs.QueryTable.{planned}
 use Rattle.sql_grammar.proofs.QueryWords.{Below, itself, below_map, below_seq}
 use Rattle.sql_read.proofs.Extending.{extends_passes, extends_stays}
+use Rattle.sql_read.proofs.ReadCopies.{at_start, Going, on_mapped, on_one, on_second}
+use Rattle.sql_read.proofs.ReadCopiedSteps.{on_next}
 use Rattle.sql_read.proofs.ReadLoops.{Begins, none_more, one_begins, one_taken, one_too_many, takes}
 use Rattle.sql_read.proofs.ReadPassing.{Alike, ◌then◌, alike_passes, alike_stays, alike_within}
 use Rattle.sql_read.proofs.ReadSteps.{BlocksOf, Blocks, Left, LeftWithin, begins_with, blocks, built_as, built_plain, eaten, first_part, first_to, mapped, mapped_to, missed, none_taken, production, refuses, second, second_to, some_left, starts, took_token, whole, whole_within}
@@ -208,6 +210,9 @@ module _ {levels : ℕ} {a b : Cursor} {t : Lexeme} (group : Passes (same k.Grou
   pub grouped_left : {c : Cursor} {u : Lexeme} → Passes (same k.By) b u c → Left (listed (ref grammar.reference)) levels c.tokens group_by levels a.tokens (λ v. Some v)
   grouped_left by = second group_left refl (takes (eaten whole refl group) (took_token levels by))
 
+pub grouped_going : {a b c : Cursor} {t u : Lexeme} → Passes (same k.Group) a t b → Passes (same k.By) b u c → Going (listed (ref grammar.reference)) c.tokens group_by a.tokens (λ v. Some v)
+grouped_going group by = on_second (on_mapped (on_mapped (on_one at_start))) (takes (eaten whole refl group) (took_token 0 by))
+
 abbrev pub next_column : The Expr
 next_column = skip_then (grammar.a k.Comma) (ref grammar.reference)
 
@@ -216,6 +221,7 @@ pub record Gathering (levels : ℕ) (start : Cursor) (room : ℕ) (columns : Lis
   pub first : Expr
   pub join : List Expr → List Expr
   pub remains : Left (star (Some room) next_column) levels now.tokens group_by levels start.tokens (λ others. Some (first, join others))
+  pub goes : Going (star (Some room) next_column) now.tokens group_by start.tokens (λ others. Some (first, join others))
   pub done : List Expr
   pub same_list : (others : List Expr) → join others ≡ done ++ others
   pub values : columns ≡ first ∷ done
@@ -233,6 +239,7 @@ gathering group by x = record {
   first = x.read;
   join = λ others. others;
   remains = second (grouped_left group by) refl x.takes;
+  goes = on_second (grouped_going group by) x.takes;
   done = [];
   same_list = λ others. refl;
   values = ap (λ z. z ∷ []) (column_read x.builds);
@@ -263,6 +270,7 @@ module _ {levels : ℕ} {start : Cursor} {room : ℕ} {columns : List Expr} {now
       first = l.first;
       join = λ others. l.join (x.read ∷ others);
       remains = one_taken l.remains refl q.room_left (takes (eaten (mapped whole) refl q.passes) x.takes);
+      goes = on_next l.goes (takes (eaten (mapped whole) refl q.passes) x.takes);
       done = l.done ++ x.read ∷ [];
       same_list = λ others. l.same_list (x.read ∷ others) ∙ sym (append_assoc l.done (x.read ∷ []) others);
       values = ap (λ z. z ++ value ∷ []) l.values ∙ ap (λ z. l.first ∷ (l.done ++ z ∷ [])) (column_read x.builds);

@@ -1,7 +1,7 @@
 -- Chains of operators, of AND and OR and of the members of a list, as the loops that read them leave them.
-use Rattle.std.proofs.Common.{◌≡◌, ℕ, ◌+◌, ◌-◌, ◌*◌, ◌<◌, Bool, true, false, List, [], ◌∷◌, ◌++◌, length, Some, None, inl, inr, refl, sym, ◌∙◌, ap, subst, append_assoc, arith}
+use Rattle.std.proofs.Common.{◌≡◌, ℕ, ◌+◌, ◌-◌, Bool, true, false, List, [], ◌∷◌, ◌++◌, Some, None, refl, sym, ◌∙◌, ap, subst, append_assoc, arith}
 use Rattle.std.proofs.lemmas.List.{append-nil}
-use Rattle.grammar.specs.Form.{Form, token, seq, star, map, ref}
+use Rattle.grammar.specs.Form.{token, seq, star}
 use Rattle.grammar.specs.Productions.{skip_then}
 use Rattle.grammar.proofs.Predictions.{ok, ahead}
 use Rattle.sql_lex.specs.Lexemes.{Lexeme}
@@ -9,16 +9,18 @@ use Rattle.sql_model.specs.declared.tree.Expr.{Expr}
 use Rattle.sql_model.specs.declared.tree.Expr.TheVariants as expr
 use Rattle.sql_read.specs.declared.fault.ReadFault.{ReadFault}
 use Rattle.sql_read.specs.Cursor.{Cursor}
-use Rattle.sql_read.specs.Eating.{is_next, Passes, Stays, Overflows, PassesWithin}
+use Rattle.sql_read.specs.Eating.{is_next, Stays, Overflows, PassesWithin}
 use Rattle.sql_grammar.specs.declared.kinds.Kind.{Kind}
 use Rattle.sql_grammar.specs.Kinds.{kind_of}
-use Rattle.sql_grammar.specs.Numbering.{Built, Numbers, plain, mapped, both, each}
+use Rattle.sql_grammar.specs.Numbering.{Built, Numbers, mapped, both, each}
 use Rattle.sql_grammar.specs.QueryGrammar.{The}
 use Rattle.sql_grammar.specs.QueryTrees.{chained, operated, operator, place}
-use Rattle.sql_read.specs.Reads.{of_form, Builds, Takes, Gives, Refuses}
+use Rattle.sql_read.specs.Reads.{Builds, Gives, Refuses}
 use Rattle.sql_grammar.proofs.QueryTable.{planned}
 use Rattle.sql_read.proofs.ReadSteps.{Left, Blocks, begins_with, whole, eaten, blocks, refuses, behind, built_map, built_both}
 use Rattle.sql_read.proofs.ReadSteps as steps
+use Rattle.sql_read.proofs.ReadCopies.{at_start, Going}
+use Rattle.sql_read.proofs.ReadCopiedSteps.{on_next}
 use Rattle.sql_read.proofs.ReadLoops.{begins_seq, begins_skip, takes, none_more, one_taken, one_begins, one_too_many}
 
 pub built_by : {A : Type 0} {one two : Built A} {value : A} {a b : Cursor} → one ≡ two → Builds two a value b → Builds one a value b
@@ -33,13 +35,14 @@ built_to {built = built} {value = value} {a = a} e t = subst (λ z. Builds built
 pub record Operating (f : The (Lexeme × Built Expr)) (levels : ℕ) (begun : Cursor) (first : Built Expr) (start : Cursor) (room : ℕ) (left : Expr) (now : Cursor) : Type 0 where
   pub join : List (Lexeme × Built Expr) → List (Lexeme × Built Expr)
   pub remains : Left (star (Some room) f) levels now.tokens (star (Some 63) f) levels begun.tokens join
+  pub goes : Going (star (Some room) f) now.tokens (star (Some 63) f) begun.tokens join
   pub so_far : Built Expr
   pub same : (others : List (Lexeme × Built Expr)) → operated first (join others) ≡ operated so_far others
   pub builds : Builds so_far start left now
 
 pub operating : {f : The (Lexeme × Built Expr)} {levels : ℕ} {begun : Cursor} {first : Built Expr} {start : Cursor} {left : Expr} → Builds first start left begun
     → Operating f levels begun first start 63 left begun
-operating {first = first} t = record { join = λ others. others; remains = whole; so_far = first; same = λ others. refl; builds = t }
+operating {first = first} t = record { join = λ others. others; remains = whole; goes = at_start; so_far = first; same = λ others. refl; builds = t }
 
 module _ {p : Kind → Bool} {g : The (Built Expr)} {levels room : ℕ} {begun : Cursor} {first : Built Expr} {start : Cursor} {left : Expr} {now : Cursor} where
   module _ (o : ok planned (star None (seq (token p) g)) ≡ true) (l : Operating (seq (token p) g) levels begun first start room left now) where
@@ -63,6 +66,7 @@ module _ {p : Kind → Bool} {g : The (Built Expr)} {levels room : ℕ} {begun :
       one_operated {right = right} x = record {
         join = λ others. l.join ((t, x.read) ∷ others);
         remains = one_taken l.remains o q.room_left (takes (eaten whole s q.passes) x.takes);
+        goes = on_next l.goes (takes (eaten whole s q.passes) x.takes);
         so_far = mapped (λ y. expr.Fun (operator (kind_of t)) (y.0 ∷ y.1 ∷ []) (place y.0)) (both l.so_far x.read);
         same = λ others. l.same ((t, x.read) ∷ others);
         builds = built_map (λ y. expr.Fun (operator (kind_of t)) (y.0 ∷ y.1 ∷ []) (place y.0)) (built_both l.builds (behind q.passes x.builds));
@@ -89,6 +93,7 @@ built_each xs {y = y} {vs = vs} {a = a} t u = record {
 pub record Chaining (p : Kind → Bool) (f : The (Built Expr)) (levels : ℕ) (begun : Cursor) (first : Built Expr) (start : Cursor) (room : ℕ) (parts : List Expr) (now : Cursor) : Type 0 where
   pub join : List (Built Expr) → List (Built Expr)
   pub remains : Left (star (Some room) f) levels now.tokens (star (Some 255) f) levels begun.tokens join
+  pub goes : Going (star (Some room) f) now.tokens (star (Some 255) f) begun.tokens join
   pub done : List (Built Expr)
   pub same : (others : List (Built Expr)) → join others ≡ done ++ others
   pub builds : Builds (each (first ∷ done)) start parts now
@@ -100,6 +105,7 @@ pub chaining : {p : Kind → Bool} {f : The (Built Expr)} {levels : ℕ} {begun 
 chaining {first = first} t n = record {
   join = λ others. others;
   remains = whole;
+  goes = at_start;
   done = [];
   same = λ others. refl;
   builds = built_map (λ y. y.0 ∷ y.1) (built_both t steps.plain_here);
@@ -151,6 +157,7 @@ module _ {p : Kind → Bool} {g : The (Built Expr)} {levels room : ℕ} {begun :
       one_chained x = record {
         join = λ others. l.join (x.read ∷ others);
         remains = one_taken l.remains o q.room_left (takes (eaten (steps.mapped whole) s q.passes) x.takes);
+        goes = on_next l.goes (takes (eaten (steps.mapped whole) s q.passes) x.takes);
         done = l.done ++ x.read ∷ [];
         same = λ others. l.same (x.read ∷ others) ∙ sym (append_assoc l.done (x.read ∷ []) others);
         builds = built_each (first ∷ l.done) l.builds (behind q.passes x.builds);

@@ -1,18 +1,16 @@
 -- The entries of FROM, as the loops that read them leave them.
-use Rattle.std.proofs.Common.{◌≡◌, ℕ, ◌+◌, ◌-◌, ◌<◌, length, Bool, true, false, not, ◌&&◌, ◌||◌, ◌⊎◌, List, [], ◌∷◌, ◌++◌, Option, Some, None, Result, Ok, Err, nat_lt, ◌==◌, if◌then◌else◌, refl, sym, ◌∙◌, ap, subst, append_assoc, arith, inl, inr}
+use Rattle.std.proofs.Common.{◌≡◌, ℕ, ◌-◌, ◌<◌, length, Bool, true, false, not, ◌||◌, ◌⊎◌, List, [], ◌∷◌, ◌++◌, Option, Some, None, Result, refl, sym, ◌∙◌, ap, subst, append_assoc, arith, inl, inr}
 use Rattle.std.proofs.lemmas.List.{append-nil}
 use Rattle.std.specs.Result.{IsErrAnd}
 use Rattle.std.proofs.lemmas.Result.{err_from_is_err_and}
-use Rattle.grammar.specs.Form.{alt, ref, seq, star}
+use Rattle.grammar.specs.Form.{ref, seq, star}
 use Rattle.grammar.specs.Lookahead.{Lookahead, lookahead}
 use Rattle.grammar.specs.Productions.{optional, skip_then}
 use Rattle.sql_lex.specs.declared.token.Token.{Token}
 use Rattle.sql_model.specs.declared.tree.Expr.{Expr}
 use Rattle.sql_model.specs.declared.tree.Query.{Query}
-use Rattle.sql_read.specs.declared.fault.LimitKind.TheVariants as limit
-use Rattle.sql_read.specs.declared.fault.ReadFault.TheVariants.{Limit}
 use Rattle.grammar.proofs.Choices.{is_absent}
-use Rattle.grammar.proofs.Predictions.{ahead, ok}
+use Rattle.grammar.proofs.Predictions.{ahead}
 use Rattle.grammar.specs.Language.{Language, seq_language}
 use Rattle.grammar.proofs.Steps.{IsWithin}
 use Rattle.grammar.proofs.Sets.{and_both}
@@ -20,10 +18,10 @@ use Rattle.sql_lex.specs.Lexemes.{Lexeme}
 use Rattle.sql_model.specs.declared.tree.Entry.{Entry}
 use Rattle.sql_read.specs.declared.fault.ReadFault.{ReadFault}
 use Rattle.sql_read.specs.Cursor.{Cursor}
-use Rattle.sql_read.specs.Eating.{Eats, Extends, Misses, Overflows, Passes, PassesWithin, Stays, allowed_entry, is_next, most_entries}
+use Rattle.sql_read.specs.Eating.{Eats, Extends, Misses, Overflows, Passes, PassesWithin, Stays, is_next}
 use Rattle.sql_grammar.specs.declared.kinds.Kind.TheVariants as k
 use Rattle.sql_grammar.specs.declared.kinds.Kind.{Kind}
-use Rattle.sql_grammar.specs.Kinds.{among, kind_of, name_kinds, same}
+use Rattle.sql_grammar.specs.Kinds.{among, kind_of, same}
 use Rattle.sql_grammar.specs.Numbering.{Built, Numbers, each, plain}
 use Rattle.sql_grammar.specs.QueryGrammar as grammar
 use Rattle.sql_grammar.specs.QueryGrammar.{The, cross_join, from, join_on, listed, parens}
@@ -39,6 +37,8 @@ use Rattle.sql_read.proofs.ReadEntryLists.{behind_on_within, cross_part, entry_w
 use Rattle.sql_read.proofs.ReadTold.{refused_alone, taken_alone}
 use Rattle.sql_grammar.proofs.EveryKind.{every_kind_is_there}
 use Rattle.sql_read.proofs.ReadPassing.{alike_passes, built_until, opened, overflows, overflows_alone, within_alone}
+use Rattle.sql_read.proofs.ReadCopies.{at_start, Going, on_mapped, on_production, on_taken}
+use Rattle.sql_read.proofs.ReadCopiedSteps.{on_next_taken}
 use Rattle.sql_read.proofs.ReadChains.{built_by, built_to, each_more, each_more_copies}
 use Rattle.sql_read.proofs.ReadLoops.{Begins, first_there, none_more, one_begins, one_taken, one_too_many, repeated_begins, repeated_end, repeated_next, takes}
 use Rattle.sql_read.proofs.ReadSteps.{BlocksOf, Left, LeftOf, LeftWithin, entries_within, first_in, second_in, absent_unless, absent_where, blocks, built_map, built_plain, eaten, first, first_part, mapped, missed, next_there, other, production, refuses, second, took_token, whole}
@@ -72,6 +72,7 @@ pub record Joining (levels : ℕ) (begun : Cursor) (built : Built (List Entry)) 
   pub first : Built Listed
   pub join : List (Built Entry) → List (Built Entry)
   pub remains : LeftOf depth_alone (star None joins) levels now.tokens (ref from) (few_form (ref from)) levels begun.tokens (λ js. t.entries first (join js))
+  pub goes : Going (star None joins) now.tokens (ref from) begun.tokens (λ js. t.entries first (join js))
   pub done : List (Built Entry)
   pub same_list : (js : List (Built Entry)) → join js ≡ done ++ js
   pub builds : Builds (appended built (t.entries first done)) start entries now
@@ -82,10 +83,11 @@ entry_refused {begun = begun} x = refuses {s = begun} (first_part (mapped (produ
 
 pub joining : {levels : ℕ} {B : Language Lexeme (Built Listed)} {begun start after : Cursor} {built : Built (List Entry)} {es : List Entry} {listed : Listed} → Builds built start es begun
     → GivesWithin entries_too (ref grammar.entry) B levels (λ read. read) begun begun listed after → Joining levels begun built start (es ++ entry_of false None listed ∷ []) after
-joining {es = es} b x = record {
+joining {levels = levels} {es = es} b x = record {
   first = x.read;
   join = λ js. js;
   remains = second (mapped (production from whole)) refl (taken_alone x.takes);
+  goes = on_taken levels (on_mapped (on_production from at_start)) x.takes.took;
   done = [];
   same_list = λ js. refl;
   builds = record {
@@ -107,6 +109,7 @@ module _ {levels : ℕ} {begun : Cursor} {built : Built (List Entry)} {start : C
     first = l.first;
     join = λ js. l.join (x.read ∷ js);
     remains = repeated_next {most = None} l.remains refl (taken_alone x.takes);
+    goes = on_next_taken l.goes levels x.takes.took;
     done = l.done ++ x.read ∷ [];
     same_list = λ js. l.same_list (x.read ∷ js) ∙ sym (append_assoc l.done (x.read ∷ []) js);
     builds = record {
@@ -140,6 +143,7 @@ pub record ListingItems (levels : ℕ) (begun : Cursor) (room : ℕ) (entries : 
   pub first : Built (List Entry)
   pub join : List (Built (List Entry)) → List (Built (List Entry))
   pub remains : LeftOf depth_alone (star (Some room) next_item) levels now.tokens (listed (ref from)) (few_form (listed (ref from))) levels begun.tokens (λ fs. (first, join fs))
+  pub goes : Going (star (Some room) next_item) now.tokens (listed (ref from)) begun.tokens (λ fs. (first, join fs))
   pub done : List (Built (List Entry))
   pub same_list : (fs : List (Built (List Entry))) → join fs ≡ done ++ fs
   pub builds : Builds (all_entries (first, done)) begun entries now
@@ -156,10 +160,11 @@ pub first_item_refused : {levels : ℕ} {begun after : Cursor} {fault : ReadFaul
 first_item_refused {begun = begun} x = refuses {s = begun} (first_part whole refl) x
 
 pub listing_items : {levels : ℕ} {begun after : Cursor} {es : List Entry} → GivesWithin depth_alone (ref from) (few_form (ref from)) levels (λ read. appended (plain []) read) begun begun es after → ListingItems levels begun 255 es after
-listing_items {begun = begun} x = record {
+listing_items {levels = levels} {begun = begun} x = record {
   first = x.read;
   join = λ fs. fs;
   remains = second whole refl x.takes;
+  goes = on_taken levels at_start x.takes.took;
   done = [];
   same_list = λ fs. refl;
   builds = record {
@@ -189,6 +194,7 @@ module _ {levels : ℕ} {begun : Cursor} {room : ℕ} {entries : List Entry} {no
       first = l.first;
       join = λ fs. l.join (x.read ∷ fs);
       remains = one_taken l.remains refl q.room_left (takes (eaten (mapped whole) refl q.passes) x.takes);
+      goes = on_next_taken l.goes levels (takes (eaten (mapped whole) refl q.passes) x.takes).took;
       done = l.done ++ x.read ∷ [];
       same_list = λ fs. l.same_list (x.read ∷ fs) ∙ sym (append_assoc l.done (x.read ∷ []) fs);
       builds = record {
@@ -234,8 +240,11 @@ module _ {levels : ℕ} {a b : Cursor} where
       pub entry_close_missed : {d : Cursor} {fault : ReadFault} → Misses (same k.Close) c fault d → Refuses (ref grammar.entry) levels a fault d
       entry_close_missed m = refuses {s = a} (first_part outer refl) (refuses {s = a} (blocks (second in_parens refl read)) (missed m))
 
+      pub entry_parens : {d : Cursor} {v : Lexeme} → Passes (same k.Close) c v d → Takes (parens (ref grammar.query)) levels a.tokens x d.tokens
+      entry_parens close = takes (second in_parens refl read) (took_token _ close)
+
       pub entry_closed : {d : Cursor} {v : Lexeme} → Passes (same k.Close) c v d → Left grammar.alias levels d.tokens (ref grammar.entry) levels a.tokens (λ alias. t.query_entry x alias)
-      entry_closed close = second outer refl (takes (second in_parens refl read) (took_token _ close))
+      entry_closed close = second outer refl (entry_parens close)
 
 -- ---- JOIN
 

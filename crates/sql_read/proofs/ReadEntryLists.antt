@@ -1,26 +1,23 @@
 -- The entries of a block as they are read one by one, in one list that ends at the limit.
-use Rattle.std.proofs.Common.{◌≡◌, ℕ, zero, suc, ◌+◌, ◌-◌, ◌≤◌, ◌<◌, nat_lt, Bool, true, false, not, ◌&&◌, List, [], ◌∷◌, ◌++◌, length, ◌⊎◌, inl, inr, refl, sym, ◌∙◌, ap, subst, Some, None, append_assoc, arith}
+use Rattle.std.proofs.Common.{◌≡◌, ℕ, zero, suc, ◌+◌, ◌-◌, ◌≤◌, ◌<◌, Bool, true, false, List, [], ◌∷◌, ◌++◌, inl, inr, refl, sym, ◌∙◌, ap, subst, None, append_assoc, arith}
 use Rattle.std.proofs.lemmas.List.{append-nil}
 use Rattle.grammar.specs.Form.{ref, seq, star, alt, map}
 use Rattle.grammar.proofs.Forms.{includes_through}
 use Rattle.std.proofs.lemmas.Bool.{ltb-true, ltb-false}
-use Rattle.grammar.specs.Language.{Language, Includes, alt_language, map_language, seq_language}
-use Rattle.grammar.specs.Lookahead.{lookahead}
+use Rattle.grammar.specs.Language.{Language, alt_language, map_language, seq_language}
 use Rattle.grammar.specs.Productions.{optional, skip_then}
-use Rattle.grammar.specs.Reading.{Took, Failed, Exceeded, Began, Remains}
+use Rattle.grammar.specs.Reading.{Took, Began, Remains}
 use Rattle.grammar.proofs.Begun.{nothing_began}
 use Rattle.grammar.proofs.Choices.{is_absent}
 use Rattle.grammar.proofs.Plans.{alt_within, nothing_within, seq_within}
-use Rattle.grammar.proofs.Predictions.{ahead, known, ok}
+use Rattle.grammar.proofs.Predictions.{ahead, known}
 use Rattle.grammar.proofs.Remaining as r
 use Rattle.grammar.proofs.Repetitions.{IsOneMore}
-use Rattle.grammar.proofs.Sets.{and_both}
 use Rattle.grammar.proofs.Steps.{IsWithin, map_within, token_took}
 use Rattle.sql_lex.specs.Lexemes.{Lexeme}
 use Rattle.sql_model.specs.declared.tree.Entry.{Entry}
-use Rattle.sql_read.specs.Eating.{is_next, most_entries}
+use Rattle.sql_read.specs.Eating.{most_entries}
 use Rattle.sql_grammar.specs.declared.kinds.Kind.TheVariants as k
-use Rattle.sql_grammar.specs.declared.kinds.Kind.{Kind}
 use Rattle.sql_grammar.specs.Kinds.{kind_of, same}
 use Rattle.sql_grammar.specs.Numbering.{Built}
 use Rattle.sql_grammar.specs.QueryEntries.{Further, before_entry, further_entries, most_further, next_entry}

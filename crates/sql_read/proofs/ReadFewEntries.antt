@@ -1,16 +1,14 @@
 -- An entry that is one too many, and the entries of a block where they are few.
-use Rattle.std.proofs.Common.{◌≡◌, ℕ, zero, suc, ◌+◌, ◌-◌, nat_lt, ◌==◌, Bool, true, false, not, ◌&&◌, ◌||◌, List, [], ◌∷◌, ◌++◌, length, length-append, ◌⊎◌, inl, inr, Some, None, Result, Ok, Err, if◌then◌else◌, refl, sym, ◌∙◌, ap, subst, append_assoc, arith}
+use Rattle.std.proofs.Common.{◌≡◌, ℕ, zero, suc, ◌+◌, ◌==◌, Bool, true, false, not, ◌&&◌, ◌||◌, List, [], ◌∷◌, ◌++◌, length, length-append, ◌⊎◌, inl, inr, Some, None, Result, Ok, Err, if◌then◌else◌, refl, sym, ◌∙◌, ap, subst, append_assoc, arith}
 use Rattle.std.specs.Result.{IsErrAnd}
 use Rattle.std.proofs.lemmas.Bool.{eqb-true}
 use Rattle.std.proofs.lemmas.List.{append_cancel_right}
 use Rattle.std.proofs.lemmas.Result.{err_from_is_err_and}
-use Rattle.grammar.specs.Form.{Room, ref, form_language}
+use Rattle.grammar.specs.Form.{ref}
 use Rattle.grammar.specs.Language.{Language, no_language}
 use Rattle.grammar.specs.Lookahead.{lookahead}
-use Rattle.grammar.specs.Productions.{optional}
 use Rattle.grammar.specs.Reading.{Began, Exceeded, Failed, Stops, Took}
 use Rattle.grammar.specs.Reading as reading
-use Rattle.grammar.proofs.Begun.{nothing_began}
 use Rattle.grammar.proofs.Choices.{is_absent}
 use Rattle.grammar.proofs.Heights.{from_rule, to_rule}
 use Rattle.grammar.proofs.Predictions.{ahead, known}
@@ -23,7 +21,7 @@ use Rattle.sql_read.specs.declared.fault.LimitKind.TheVariants as limit
 use Rattle.sql_read.specs.declared.fault.ReadFault.{ReadFault}
 use Rattle.sql_read.specs.declared.fault.ReadFault.TheVariants.{Lex, Unexpected, LeftOut, TooDeep, Limit, NoMemory}
 use Rattle.sql_read.specs.Cursor.{Cursor}
-use Rattle.sql_read.specs.Eating.{Overflows, Passes, PassesWithin, Stays, allowed_entry, is_next, most_entries}
+use Rattle.sql_read.specs.Eating.{Overflows, PassesWithin, Stays, allowed_entry, is_next}
 use Rattle.sql_grammar.specs.declared.kinds.Kind.TheVariants as k
 use Rattle.sql_grammar.specs.declared.kinds.Kind.{Kind}
 use Rattle.sql_grammar.specs.Kinds.{among, kind_of, name_kinds, same}
@@ -31,18 +29,18 @@ use Rattle.sql_grammar.specs.Numbering.{Built}
 use Rattle.sql_grammar.specs.QueryEntries.{Further, few_froms, items_of, most_further, next_entry}
 use Rattle.sql_grammar.specs.QueryGrammar.{The, Froms, entry, from, listed}
 use Rattle.sql_grammar.specs.QueryLookahead.{table}
-use Rattle.sql_grammar.specs.QueryPlan.{of_plan, plan}
+use Rattle.sql_grammar.specs.QueryPlan.{plan}
 use Rattle.sql_grammar.specs.declared.listed.Listed.{Listed}
 use Rattle.sql_grammar.specs.QueryTrees.{all_entries}
 use Rattle.sql_read.specs.ReadingEntries.{EntryAwaited, FurtherLeft, ListLimit, ListRead, ListRefused, ReadsList, at_start, behind_comma, entry_behind, entry_if, few_list, fits, joins_behind, one_list}
-use Rattle.sql_read.specs.Reads.{depth_alone, entries_too, few_form, of_form, Crowds, GivesWithin, Lacks, Refuses, RefusesWithin, Reads, ReadsWithin, SaysLimit, TakesWithin}
+use Rattle.sql_read.specs.Reads.{depth_alone, entries_too, few_form, of_form, Crowds, GivesWithin, Lacks, Refuses, RefusesWithin, Reads, ReadsWithin, SaysLimit}
 use Rattle.sql_grammar.proofs.EveryKind.{every_kind_is_there}
 use Rattle.sql_grammar.proofs.FewPlan.{list_planned}
 use Rattle.sql_grammar.proofs.QueryTable.{planned}
-use Rattle.sql_read.proofs.ReadEntryLists.{comma_entry, list_begins, entry_halts, entry_read, join_halts, join_read, joins, list_ended}
+use Rattle.sql_read.proofs.ReadEntryLists.{comma_entry, list_begins, entry_read, join_halts, join_read, joins, list_ended}
 use Rattle.sql_read.proofs.ReadEntries.{join_begins, join_kinds}
 use Rattle.sql_read.proofs.ReadLoops.{IsFirst, first_there}
-use Rattle.sql_read.proofs.ReadSteps.{Halts, absent_where, deep_within, entries_within, fewer_within}
+use Rattle.sql_read.proofs.ReadSteps.{Halts, absent_where, deep_within, fewer_within}
 
 -- ---- what may begin an entry
 
@@ -130,6 +128,9 @@ refused_by : (b c : Bool) (fault : ReadFault) → Err fault ≡ (if b then fine 
 refused_by true c fault e = cc
 refused_by false true fault e = record { first = refl; second = refl; is_limit = cc }
 refused_by false false fault e = cc
+
+pub too_many_entries : {fault : ReadFault} (levels count : ℕ) (tokens : List Lexeme) → Err fault ≡ allowed_entry levels count tokens → fault ≡ Limit limit.Entries
+too_many_entries levels count tokens e = (refused_by _ _ _ e).is_limit
 
 allowed_by : (b c : Bool) {done : Unit {0}} → Ok done ≡ (if b then fine else (if c then too_many else fine)) → (b ≡ true) ⊎ (c ≡ false)
 allowed_by true c e = inl refl
@@ -237,9 +238,9 @@ module _ (levels count : ℕ) (a b : Cursor) (n : fits count ≡ false) (nothing
 few_limit : (levels count : ℕ) (a b : Cursor) → fits count ≡ false → ((x rest : List Lexeme) → a.tokens ≡ x ++ rest → (deep levels).front x → x ≡ []) → (what : LimitKind)
     → SaysLimit entries_too (ref entry) (few_form (ref entry)) levels a what b → SaysLimit entries_too (ref entry) (entry_behind count) levels a what b
 few_limit levels count a b n nothing limit.Entries t = let x = t.few tt in absurd (not_crowded levels count a b n nothing t.token t.more x.taken t.goes_on t.next x.whole)
-few_limit levels count a b n nothing limit.Columns t = tt
-few_limit levels count a b n nothing limit.Relations t = tt
-few_limit levels count a b n nothing limit.Copies t = tt
+few_limit levels count a b n nothing limit.Columns t = absurd t.counts
+few_limit levels count a b n nothing limit.Relations t = absurd t.counts
+few_limit levels count a b n nothing limit.Copies t = record { goes_on = t.goes_on; few = λ i. few_began levels count a b n nothing t.goes_on }
 
 few_refused : (levels count : ℕ) (a b : Cursor) → fits count ≡ false → ((x rest : List Lexeme) → a.tokens ≡ x ++ rest → (deep levels).front x → x ≡ []) → (fault : ReadFault)
     → Refuses (ref entry) levels a fault b → RefusesWithin entries_too (ref entry) (entry_behind count) levels a fault b
@@ -278,7 +279,7 @@ module _ (start : List Lexeme) where
   limit_listed N B levels a b limit.Entries h t = h.exceeded b.tokens (t.few tt)
   limit_listed N B levels a b limit.Columns h t = tt
   limit_listed N B levels a b limit.Relations h t = tt
-  limit_listed N B levels a b limit.Copies h t = tt
+  limit_listed N B levels a b limit.Copies h t = h.began b.tokens (t.few tt)
 
   -- what stops a part stops the list
   pub list_stopped : {A : Type 0} {N : The A} {B : Language Lexeme A} {levels : ℕ} {a b : Cursor} {fault : ReadFault} → Halts (of_form None N) B a.tokens (of_form None one_list) (few_form few_list) start
@@ -370,9 +371,9 @@ list_limit : (levels : ℕ) (a b : Cursor) (C : Language Lexeme Froms) (what : L
 list_limit levels a b C limit.Entries d t =
     let alone : Crowds depth_alone froms few levels a b = record { token = d.token; more = d.more; next = d.next; goes_on = d.goes_on; few = λ n. absurd n } in
     record { token = d.token; more = d.more; next = d.next; goes_on = d.goes_on; few = λ n. list_crowded levels a b alone t }
-list_limit levels a b C limit.Columns d t = tt
-list_limit levels a b C limit.Relations d t = tt
-list_limit levels a b C limit.Copies d t = tt
+list_limit levels a b C limit.Columns d t = absurd d.counts
+list_limit levels a b C limit.Relations d t = absurd d.counts
+list_limit levels a b C limit.Copies d t = record { goes_on = d.goes_on; few = λ n. list_begun levels a b t }
 
 pub list_refused : {levels : ℕ} {a b : Cursor} {C : Language Lexeme Froms} {fault : ReadFault} → RefusesWithin depth_alone froms C levels a fault b → ListRefused a.tokens fault b.tokens
     → RefusesWithin entries_too froms few levels a fault b

@@ -1,5 +1,5 @@
 -- How a reader goes on by what it has read: a query or an expression in parentheses, and `name.*` or a first part.
-use Rattle.std.proofs.Common.{◌≡◌, true, ℕ, List, ◌⊎◌, inl, inr, Some, None, ap}
+use Rattle.std.proofs.Common.{◌≡◌, true, ℕ, List, ◌⊎◌, inl, inr, None, ap}
 use Rattle.grammar.specs.Form.{map, fork}
 use Rattle.grammar.specs.Language.{Language}
 use Rattle.grammar.proofs.Predictions.{ok}

@@ -1,5 +1,5 @@
 -- How the inside of the parentheses of IN is read.
-use Rattle.std.proofs.Common.{◌≡◌, ℕ, ◌+◌, ◌-◌, true, false, List, [], ◌∷◌, ◌++◌, inl, inr, None, Result, Ok, Err, refl, sym, ◌∙◌, ap}
+use Rattle.std.proofs.Common.{◌≡◌, ℕ, ◌-◌, true, false, List, [], ◌∷◌, ◌++◌, inl, inr, None, Result, Ok, Err, refl, sym, ◌∙◌, ap}
 use Rattle.grammar.specs.Form.{fork, nonempty, ref, seq}
 use Rattle.sql_lex.specs.Lexemes.{Lexeme}
 use Rattle.sql_model.specs.declared.tree.Expr.{Expr}

@@ -1,6 +1,6 @@
 -- How the inside of parentheses is read: by its first token, and behind a query in parentheses by the token that follows.
 use Rattle.std.proofs.Common.{None, ◌≡◌, ℕ, ◌-◌, Bool, true, false, List, [], ◌∷◌, inl, inr, Result, Ok, Err, refl, sym, ◌∙◌, ap}
-use Rattle.grammar.specs.Form.{counted, empty, fork, nonempty, ref, seq}
+use Rattle.grammar.specs.Form.{empty, fork, nonempty, ref, seq}
 use Rattle.grammar.proofs.Steps.{nonempty_failed, nonempty_exceeded}
 use Rattle.sql_lex.specs.Lexemes.{Lexeme}
 use Rattle.sql_model.specs.declared.tree.Expr.{Expr}

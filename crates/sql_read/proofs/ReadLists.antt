@@ -1,9 +1,9 @@
 -- Copies of the value before a test, and the members of a list of IN as the loop that reads them leaves them.
-use Rattle.std.proofs.Common.{◌≡◌, ◌≢◌, ℕ, suc, ◌+◌, ◌-◌, ◌*◌, ◌<◌, Bool, true, false, List, [], ◌∷◌, ◌++◌, length, Some, None, Result, Ok, Err, inl, inr, refl, sym, ◌∙◌, ap, subst, append_assoc, length-append, arith}
+use Rattle.std.proofs.Common.{◌≡◌, ◌≢◌, ℕ, suc, ◌+◌, ◌-◌, ◌*◌, Bool, true, List, [], ◌∷◌, ◌++◌, length, Some, None, Result, Ok, Err, refl, sym, ◌∙◌, ap, subst, append_assoc, length-append, arith}
 use Rattle.std.specs.Result.{IfErr, IsErrAnd}
 use Rattle.std.proofs.lemmas.List.{append-nil}
 use Rattle.std.proofs.Math.Nat.{suc-mul}
-use Rattle.grammar.specs.Form.{Form, token, seq, star, map}
+use Rattle.grammar.specs.Form.{token, seq, star}
 use Rattle.grammar.specs.Productions.{skip_then}
 use Rattle.grammar.proofs.Predictions.{ok, ahead}
 use Rattle.sql_lex.specs.Lexemes.{Lexeme}
@@ -11,19 +11,20 @@ use Rattle.sql_model.specs.declared.tree.Expr.{Expr}
 use Rattle.sql_model.specs.declared.tree.Expr.TheVariants as expr
 use Rattle.sql_read.specs.declared.fault.ReadFault.{ReadFault}
 use Rattle.sql_read.specs.declared.fault.ReadFault.TheVariants.{Lex, Unexpected, LeftOut, TooDeep, Limit, NoMemory}
-use Rattle.sql_read.specs.declared.fault.LimitKind.TheVariants as limit
 use Rattle.sql_read.specs.Cursor.{Cursor}
 use Rattle.sql_read.specs.Eating.{Copies, Extends, Stays, Overflows, PassesWithin}
 use Rattle.sql_grammar.specs.declared.kinds.Kind.{Kind}
-use Rattle.sql_grammar.specs.Numbering.{Built, Numbers, both, each, copying, mapped}
+use Rattle.sql_grammar.specs.Numbering.{Built, Numbers, both, each, copying}
 use Rattle.sql_grammar.specs.QueryGrammar.{The}
 use Rattle.sql_grammar.specs.QueryTrees as trees
 use Rattle.sql_grammar.specs.QueryTrees.{equals_each, in_list, member, place}
-use Rattle.sql_read.specs.Reads.{of_form, Builds, Gives, Reads, Refuses, Takes}
+use Rattle.sql_read.specs.Reads.{Builds, Gives, Refuses, Takes}
 use Rattle.sql_grammar.proofs.QueryTable.{planned}
 use Rattle.sql_read.proofs.Extending.{extends_itself}
-use Rattle.sql_read.proofs.ReadSteps.{Left, Blocks, begins_with, whole, eaten, blocks, refuses, built_map, built_both}
+use Rattle.sql_read.proofs.ReadSteps.{Left, Blocks, begins_with, whole, eaten, blocks, deep_within, entries_within, refuses, built_map, built_both}
 use Rattle.sql_read.proofs.ReadSteps as steps
+use Rattle.sql_read.proofs.ReadCopies.{at_start, Going}
+use Rattle.sql_read.proofs.ReadCopiedSteps.{on_next}
 use Rattle.sql_read.proofs.ReadLoops.{begins_skip, takes, none_more, one_taken, one_begins, one_too_many}
 use Rattle.sql_read.proofs.ReadChains.{built_by, built_to, each_more, each_more_copies}
 
@@ -43,8 +44,28 @@ taken_from {f = f} {d = d} {v = v} {rest = rest} e t = subst (λ z. Takes f d z 
 pub refused_from : {C : Type 0} {f : The C} {d : ℕ} {a b c : Cursor} {fault : ReadFault} → b.tokens ≡ a.tokens → Refuses f d b fault c → Refuses f d a fault c
 refused_from {f = f} {d = d} {a = a} {b = b} e t = refuses (subst (λ z. Blocks f d z f d a.tokens) (sym e) (blocks whole)) t
 
-pub too_many_copies : {A : Type 0} {N : The A} {e : ℕ} (weight : ℕ) (a b : Cursor) {s c : Cursor} {fault : ReadFault} → Copies weight a (Err fault) b → Refuses N e s fault c
-too_many_copies {N = N} {e = e} weight a b {s = s} {c = c} q = subst (λ z. Refuses N e s z c) (sym q.1) (record { says = tt })
+-- nothing of the form was taken, and the token before it was the first with which too much is copied
+pub too_many_copies : {A : Type 0} {N : The A} {e : ℕ} (weight : ℕ) (a b : Cursor) {fault : ReadFault} → Copies weight a (Err fault) b → Refuses N e a fault b
+too_many_copies {N = N} {e = e} weight a b q =
+    subst (λ z. Refuses N e a z b) (sym q.1)
+    (record {
+      says = record {
+        goes_on = record { taken = []; whole = still; begun = (deep_within e N).fronts.empty };
+        few = λ n. record { taken = []; whole = still; begun = (entries_within N).fronts.empty };
+      };
+    })
+  where
+    still : a.tokens ≡ b.tokens
+    still = sym (ap (λ z. z.tokens) q.0)
+
+-- the same where memory may have run out
+pub refused_copy : {A : Type 0} {N : The A} {e : ℕ} (weight : ℕ) (a b : Cursor) (fault : ReadFault) → (fault ≢ NoMemory → Copies weight a (Err fault) b) → Refuses N e a fault b
+refused_copy weight a b (Lex fault) q = too_many_copies weight a b (q (λ z. cc))
+refused_copy weight a b (Unexpected at) q = too_many_copies weight a b (q (λ z. cc))
+refused_copy weight a b (LeftOut word at) q = too_many_copies weight a b (q (λ z. cc))
+refused_copy weight a b (TooDeep at) q = too_many_copies weight a b (q (λ z. cc))
+refused_copy weight a b (Limit what) q = too_many_copies weight a b (q (λ z. cc))
+refused_copy weight a b NoMemory q = record { says = tt }
 
 pub extends_copied : (weight : ℕ) {a b : Cursor} {done : Unit {0}} → Copies weight a (Ok done) b → Extends a b
 extends_copied weight {a = a} q = subst (λ z. Extends a z) (sym q.0) (record {
@@ -90,6 +111,7 @@ pub record Listing (f : The (Built Expr)) (levels : ℕ) (begun : Cursor) (weigh
     (now : Cursor) : Type 0 where
   pub join : List (Built Expr) → List (Built Expr)
   pub remains : Left (star (Some room) f) levels now.tokens (star (Some 255) f) levels begun.tokens join
+  pub goes : Going (star (Some 255) f) now.tokens (star (Some 255) f) begun.tokens join
   pub done : List (Built Expr)
   pub same : (more : List (Built Expr)) → join more ≡ done ++ more
   pub one : Expr
@@ -105,6 +127,7 @@ listing {begun = begun} {weight = weight} {before = before} {first = first} {beg
     record {
       join = λ more. more;
       remains = whole;
+      goes = at_start;
       done = [];
       same = λ more. refl;
       one = last;
@@ -161,6 +184,11 @@ module _ {p : Kind → Bool} {g : The (Built Expr)} {levels room : ℕ} {begun :
         (expr.Or (parts ++ expr.Eq value last (place value) ∷ []) (place value)) after
     listed_several count w e n q = listed count w e (sym (several value l.one last l.others parts n l.members)) q
 
+    pub copy_too_many : ok planned (seq (token p) g) ≡ true → {t : Lexeme} {mid after : Cursor} (fault : ReadFault) → PassesWithin p room now t mid → (fault ≢ NoMemory → Copies weight mid (Err fault) after)
+        → Refuses (star (Some 255) (skip_then (token p) g)) levels begun fault after
+    copy_too_many s {mid = mid} {after = after} fault q c = refuses (one_begins l.remains o (begins_skip p g) q)
+        (refuses {s = now} (blocks (eaten (steps.mapped whole) s q.passes)) (refused_copy weight mid after fault c))
+
     module _ (s : ok planned (seq (token p) g) ≡ true) {t : Lexeme} {mid : Cursor} (q : PassesWithin p room now t mid) {paid : Cursor} {done : Unit {0}} (c : Copies weight mid (Ok done) paid)
         {after : Cursor} where
       pub member_refused : {fault : ReadFault} → Refuses g levels paid fault after → Refuses (star (Some 255) (skip_then (token p) g)) levels begun fault after
@@ -172,6 +200,7 @@ module _ {p : Kind → Bool} {g : The (Built Expr)} {levels room : ℕ} {begun :
       one_listed {copy = copy} {v = v} e x = record {
         join = λ more. l.join (x.read ∷ more);
         remains = one_taken l.remains o q.room_left (takes (eaten (steps.mapped whole) s q.passes) (taken_from (tokens_copied weight mid paid c) x.takes));
+        goes = on_next l.goes (takes (eaten (steps.mapped whole) s q.passes) (taken_from (tokens_copied weight mid paid c) x.takes));
         done = l.done ++ x.read ∷ [];
         same = λ more. l.same (x.read ∷ more) ∙ sym (append_assoc l.done (x.read ∷ []) more);
         one = l.one;
@@ -194,19 +223,7 @@ pub gives_as : {V A : Type 0} {f : The V} {levels : ℕ} {h : V → Built A} {st
     → Gives f levels h start before same after
 gives_as e t = record { read = t.read; takes = t.takes; builds = steps.built_as e t.builds }
 
--- of limits on counts and of want of memory a reading says no more
-pub refused_copy : {A : Type 0} {N : The A} {e : ℕ} {s c : Cursor} (fault : ReadFault) → (fault ≢ NoMemory → fault ≡ Limit limit.Copies) → Refuses N e s fault c
-refused_copy (Lex fault) q = let no : Lex fault ≡ Limit limit.Copies = q (λ z. cc) in cc
-refused_copy (Unexpected at) q = let no : Unexpected at ≡ Limit limit.Copies = q (λ z. cc) in cc
-refused_copy (LeftOut word at) q = let no : LeftOut word at ≡ Limit limit.Copies = q (λ z. cc) in cc
-refused_copy (TooDeep at) q = let no : TooDeep at ≡ Limit limit.Copies = q (λ z. cc) in cc
-refused_copy (Limit limit.Copies) q = record { says = tt }
-refused_copy (Limit limit.Columns) q = record { says = tt }
-refused_copy (Limit limit.Relations) q = record { says = tt }
-refused_copy (Limit limit.Entries) q = let no : Limit limit.Entries ≡ Limit limit.Copies = q (λ z. cc) in cc
-refused_copy NoMemory q = record { says = tt }
-
-pub refused_by : {A : Type 0} (result : Result A ReadFault) (fault : ReadFault) → IsErrAnd result (λ z. z ≡ fault) → fault ≡ Limit limit.Copies
-    → IfErr result (λ z. z ≢ NoMemory → z ≡ Limit limit.Copies)
-refused_by (Ok x) fault i e = absurd i
-refused_by (Err y) fault i e = λ n. i ∙ e
+pub refused_by : {A : Type 0} (weight : ℕ) (a b : Cursor) (result : Result A ReadFault) (fault : ReadFault) → IsErrAnd result (λ z. z ≡ fault) → Copies weight a (Err fault) b
+    → IfErr result (λ z. z ≢ NoMemory → Copies weight a (Err z) b)
+refused_by weight a b (Ok x) fault i q = absurd i
+refused_by weight a b (Err y) fault i q = λ n. subst (λ z. Copies weight a (Err z) b) (sym i) q

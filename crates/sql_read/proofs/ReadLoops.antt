@@ -14,7 +14,7 @@ use Rattle.sql_lex.specs.Lexemes.{Lexeme}
 use Rattle.sql_read.specs.declared.fault.ReadFault.{ReadFault}
 use Rattle.sql_read.specs.declared.fault.ReadFault.TheVariants.{Lex, Unexpected, LeftOut, TooDeep, Limit, NoMemory}
 use Rattle.sql_read.specs.Cursor.{Cursor}
-use Rattle.sql_read.specs.Eating.{ExpectsWithin, Extends, is_next, IsNextAt, Passes, Stays, Overflows, PassesWithin}
+use Rattle.sql_read.specs.Eating.{ExpectsWithin, Extends, is_next, Stays, Overflows, PassesWithin}
 use Rattle.sql_grammar.specs.declared.kinds.Kind.{Kind}
 use Rattle.sql_grammar.specs.Kinds.{kind_of}
 use Rattle.sql_grammar.specs.QueryGrammar.{The}

@@ -12,7 +12,7 @@ use Rattle.sql_grammar.specs.QueryGrammar.{block, operand, parens, query}
 use Rattle.sql_grammar.specs.QueryGrammar as grammar
 use Rattle.sql_read.specs.Reads.{Refuses}
 use Rattle.sql_grammar.proofs.QueryTable.{planned}
-use Rattle.sql_read.proofs.ReadPassing.{opened, overflows, overflows_alone, stays_alone, within_alone}
+use Rattle.sql_read.proofs.ReadPassing.{opened, overflows, overflows_alone, within_alone}
 use Rattle.sql_read.proofs.ReadSteps.{Left, absent_unless, absent_where, blocks, first, mapped, next_there, other, production, refuses, whole}
 
 in_parens : (levels : ℕ) (here : List Lexeme) → is_next (same k.Open) here ≡ true → Left (parens (ref query)) levels here (ref operand) levels here (λ read. read)

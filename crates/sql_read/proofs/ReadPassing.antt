@@ -17,7 +17,7 @@ use Rattle.sql_grammar.specs.declared.kinds.Kind.{Kind}
 use Rattle.sql_grammar.specs.Kinds.{among, kind_of, same}
 use Rattle.sql_grammar.specs.Numbering.{Built}
 use Rattle.sql_grammar.specs.QueryGrammar.{The}
-use Rattle.sql_read.specs.Reads.{Told, TellsEntries, of_form, few_form, Builds, IsBuilt, ReadsWithin, Refuses, RefusesWithin, Takes}
+use Rattle.sql_read.specs.Reads.{Told, of_form, few_form, Builds, IsBuilt, ReadsWithin, Refuses, RefusesWithin, Takes}
 use Rattle.sql_grammar.proofs.QueryTable.{planned}
 use Rattle.sql_read.proofs.ReadSteps.{absent_unless, begins_with, blocks, by_next, deep_within, eaten, entries_within, ExceededForm, fails, first, gives, LeftOf, LeftWithin, nested, other, refuses}
 

@@ -1,5 +1,5 @@
 -- Chains of set operators and lists with commas, as the loops that read them leave them.
-use Rattle.std.proofs.Common.{◌≡◌, ℕ, zero, suc, ◌+◌, ◌-◌, ◌<◌, Bool, true, false, ◌||◌, ◌⊎◌, List, [], ◌∷◌, ◌++◌, length, Option, Some, None, refl, sym, ◌∙◌, ap, subst, append_assoc, arith, inl, inr}
+use Rattle.std.proofs.Common.{◌≡◌, ℕ, zero, suc, ◌-◌, ◌<◌, Bool, true, false, ◌||◌, ◌⊎◌, List, [], ◌∷◌, ◌++◌, length, Option, Some, None, refl, sym, ◌∙◌, ap, subst, append_assoc, arith, inl, inr}
 use Rattle.std.proofs.lemmas.List.{append-nil}
 use Rattle.grammar.specs.Form.{map, seq, star, token}
 use Rattle.grammar.specs.Productions.{optional, skip_then}
@@ -18,12 +18,14 @@ use Rattle.sql_grammar.specs.Numbering.{Built, both, each, mapped}
 use Rattle.sql_grammar.specs.QueryGrammar as grammar
 use Rattle.sql_grammar.specs.QueryGrammar.{The, intersect, next_intersect, next_union, union_or_except}
 use Rattle.sql_grammar.specs.QueryTrees.{SetWord, all_of, sets, union_word}
-use Rattle.sql_read.specs.Reads.{Builds, Gives, ReadsWord, Refuses, Takes, of_form}
+use Rattle.sql_read.specs.Reads.{Builds, Gives, ReadsWord, Refuses}
 use Rattle.sql_grammar.proofs.QueryTable.{planned}
 use Rattle.sql_read.proofs.Extending.{passes_shorter}
 use Rattle.sql_read.proofs.ReadChains.{built_by, built_each, built_to}
-use Rattle.sql_read.proofs.ReadLoops.{Begins, IsFirst, first_there, none_more, one_begins, one_taken, one_too_many, takes, repeated_begins}
-use Rattle.sql_read.proofs.ReadPassing.{Alike, ◌then◌, alike_passes, alike_stays, alike_within, built_from, passes_alone}
+use Rattle.sql_read.proofs.ReadLoops.{Begins, first_there, none_more, one_begins, one_taken, one_too_many, takes, repeated_begins}
+use Rattle.sql_read.proofs.ReadPassing.{◌then◌, alike_passes, alike_stays, alike_within, built_from, passes_alone}
+use Rattle.sql_read.proofs.ReadCopies.{at_start, Going, on_second}
+use Rattle.sql_read.proofs.ReadCopiedSteps.{on_next}
 use Rattle.sql_read.proofs.ReadSteps.{Blocks, Left, absent_where, begins_with, blocks, by_token, built_both, built_map, eaten, first_part, next_there, none_taken, other, plain_here, refuses, second, some_left, starts, took_token, whole}
 use Rattle.sql_read.proofs.ReadSteps as steps
 
@@ -39,13 +41,14 @@ begins_more {room = suc m} p {here = here} l o i n q = let t = first_there p her
 pub record Combining (f : The (SetWord × Built Query)) (levels : ℕ) (begun : Cursor) (first : Built Query) (start : Cursor) (room : ℕ) (left : Query) (now : Cursor) : Type 0 where
   pub join : List (SetWord × Built Query) → List (SetWord × Built Query)
   pub remains : Left (star (Some room) f) levels now.tokens (star (Some 63) f) levels begun.tokens join
+  pub goes : Going (star (Some room) f) now.tokens (star (Some 63) f) begun.tokens join
   pub so_far : Built Query
   pub same : (others : List (SetWord × Built Query)) → sets first (join others) ≡ sets so_far others
   pub builds : Builds so_far start left now
 
 pub combining : {f : The (SetWord × Built Query)} {levels : ℕ} {begun : Cursor} {first : Built Query} {start : Cursor} {left : Query} → Builds first start left begun
     → Combining f levels begun first start 63 left begun
-combining {first = first} t = record { join = λ others. others; remains = whole; so_far = first; same = λ others. refl; builds = t }
+combining {first = first} t = record { join = λ others. others; remains = whole; goes = at_start; so_far = first; same = λ others. refl; builds = t }
 
 module _ {w : The SetWord} {g : The (Built Query)} {p : Kind → Bool} {levels room : ℕ} {begun : Cursor} {first : Built Query} {start : Cursor} {left : Query} {now : Cursor}
     (o : ok planned (star None (seq w g)) ≡ true) (s : ok planned (seq w g) ≡ true) (i : Begins p (seq w g)) (l : Combining (seq w g) levels begun first start room left now) where
@@ -69,6 +72,7 @@ module _ {w : The SetWord} {g : The (Built Query)} {p : Kind → Bool} {levels r
     one_combined {right = right} x = record {
       join = λ others. l.join ((word, x.read) ∷ others);
       remains = one_taken l.remains o q.room_left (takes (second whole s (q.takes levels)) x.takes);
+      goes = on_next l.goes (takes (second whole s (q.takes levels)) x.takes);
       so_far = mapped (λ y. query.Set word.0 y.0 y.1 word.1) (both l.so_far x.read);
       same = λ others. l.same ((word, x.read) ∷ others);
       builds = built_map (λ y. query.Set word.0 y.0 y.1 word.1) (built_both l.builds (built_from (record { numbers = q.numbers; copies = q.copies }) x.builds));
@@ -166,6 +170,7 @@ pub record Collecting {X : Type 0} (p : Kind → Bool) (f : The (Built X)) (leve
   pub first : Built X
   pub join : List (Built X) → List (Built X)
   pub remains : Left (star (Some room) (skip_then (token p) f)) levels now.tokens (seq f (star (Some 255) (skip_then (token p) f))) levels begun.tokens (λ others. (first, join others))
+  pub goes : Going (star (Some room) (skip_then (token p) f)) now.tokens (seq f (star (Some 255) (skip_then (token p) f))) begun.tokens (λ others. (first, join others))
   pub done : List (Built X)
   pub same : (others : List (Built X)) → join others ≡ done ++ others
   pub builds : Builds (each (first ∷ done)) begun members now
@@ -183,6 +188,7 @@ module _ {X : Type 0} (p : Kind → Bool) (f : The (Built X)) {levels : ℕ} {be
     first = x.read;
     join = λ others. others;
     remains = second whole o x.takes;
+    goes = on_second at_start x.takes;
     done = [];
     same = λ others. refl;
     builds = built_map (λ y. y.0 ∷ y.1) (built_both x.builds plain_here);
@@ -213,6 +219,7 @@ module _ {X : Type 0} (p : Kind → Bool) (f : The (Built X)) {levels : ℕ} {be
       first = l.first;
       join = λ others. l.join (x.read ∷ others);
       remains = one_taken l.remains m q.room_left (takes (eaten (steps.mapped whole) s q.passes) x.takes);
+      goes = on_next l.goes (takes (eaten (steps.mapped whole) s q.passes) x.takes);
       done = l.done ++ x.read ∷ [];
       same = λ others. l.same (x.read ∷ others) ∙ sym (append_assoc l.done (x.read ∷ []) others);
       builds = built_each (l.first ∷ l.done) l.builds (built_from (alike_within q) x.builds);

@@ -1,5 +1,5 @@
 -- The steps of the reader: what its calls for single tokens and for parts do, as steps through the form that is read.
-use Rattle.std.proofs.Common.{◌≡◌, ◌≢◌, ℕ, zero, suc, ◌+◌, ◌-◌, ◌<◌, Bool, true, false, not, ◌&&◌, ◌||◌, List, [], ◌∷◌, ◌⊎◌, inl, inr, Option, Some, None, Result, Ok, Err, refl, sym, ◌∙◌, ap, subst, arith, length, if◌then◌else◌, map as map_list}
+use Rattle.std.proofs.Common.{◌≡◌, ◌≢◌, ℕ, zero, suc, ◌+◌, ◌-◌, ◌<◌, Bool, true, false, not, ◌&&◌, ◌||◌, List, [], ◌∷◌, inr, Option, Some, None, Result, Ok, Err, refl, sym, ◌∙◌, ap, subst, arith, if◌then◌else◌, map as map_list}
 use Rattle.std.specs.List.{list_all}
 use Rattle.std.specs.Result.{IsErrAnd}
 use Rattle.std.proofs.lemmas.Result.{err_from_is_err_and}
@@ -13,7 +13,7 @@ use Rattle.grammar.proofs.Forms.{includes_through}
 use Rattle.grammar.proofs.Heights.{from_rule, to_rule}
 use Rattle.grammar.proofs.Predictions.{ok, ahead, bounded_within, produced, within}
 use Rattle.grammar.proofs.Remaining as r
-use Rattle.grammar.proofs.Sets.{and_left, and_right, and_both, not_both}
+use Rattle.grammar.proofs.Sets.{and_left, and_right, and_both}
 use Rattle.grammar.proofs.Steps.{IsWithin, Same, empty_took, token_took, token_ended, token_failed}
 use Rattle.sql_lex.specs.declared.token.LexFault.{LexFault}
 use Rattle.sql_lex.specs.Lexemes.{Lexeme}
@@ -21,15 +21,15 @@ use Rattle.sql_read.specs.declared.fault.ReadFault.{ReadFault}
 use Rattle.sql_read.specs.declared.fault.ReadFault.TheVariants.{Lex, Unexpected, LeftOut, TooDeep, Limit, NoMemory}
 use Rattle.sql_read.specs.declared.fault.LimitKind.{LimitKind}
 use Rattle.sql_read.specs.declared.fault.LimitKind.TheVariants as limit
-use Rattle.sql_read.specs.Cursor.{Cursor, behind_next, next_of}
-use Rattle.sql_read.specs.Eating.{is_next, IsNextAt, Passes, Stays, Misses, Overflows, PassesWithin}
+use Rattle.sql_read.specs.Cursor.{Cursor, next_of}
+use Rattle.sql_read.specs.Eating.{is_next, Passes, Stays, Misses}
 use Rattle.sql_grammar.specs.declared.kinds.Kind.{Kind}
 use Rattle.sql_grammar.specs.Kinds.{kind_of, every_kind}
 use Rattle.sql_grammar.specs.Numbering.{Built, both, plain, mapped as mapped_built}
 use Rattle.sql_grammar.specs.QueryGrammar.{Production, Read, The}
 use Rattle.sql_grammar.specs.QueryEntries.{most_further}
 use Rattle.sql_grammar.specs.QueryPlan.{few_plan, of_plan, plan}
-use Rattle.sql_read.specs.Reads.{Told, depth_alone, entries_too, TellsEntries, of_form, few_form, Builds, TakesWithin, GivesWithin, Says, SaysLimit, RefusesWithin, ReadsWithin}
+use Rattle.sql_read.specs.Reads.{Told, entries_too, TellsEntries, of_form, few_form, Builds, TakesWithin, GivesWithin, Fills, Says, SaysLimit, RefusesWithin, ReadsWithin}
 use Rattle.sql_lex.specs.Bytes.{folded_byte}
 use Rattle.sql_read.specs.Refusals.{is_left_out_word, refusal, refusal_of}
 use Rattle.sql_grammar.proofs.EveryKind.{every_kind_is_there}
@@ -313,12 +313,16 @@ missed {told = told} {p = p} {d = d} {a = a} {b = b} {fault = fault} m =
 -- ---- ends
 
 module _ {C A : Type 0} {told : Told} {f : The C} {B : Language Lexeme C} {d : ℕ} {N : The A} {NB : Language Lexeme A} {e : ℕ} where
+  still_full : {counted : Type 0} (a s b : Cursor) → BlocksOf told f B d a.tokens N NB e s.tokens → Fills counted told f B d a b → Fills counted told N NB e s b
+  still_full a s b l t =
+      record { counts = t.counts; token = t.token; more = t.more; next = t.next; goes_on = l.halts.began t.more t.goes_on; few = λ n. (l.few n).began b.tokens (t.few n) }
+
   limit_refused : (a s b : Cursor) (what : LimitKind) → BlocksOf told f B d a.tokens N NB e s.tokens → SaysLimit told f B d a what b → SaysLimit told N NB e s what b
   limit_refused a s b limit.Entries l t =
       record { token = t.token; more = t.more; next = t.next; goes_on = l.halts.began t.more t.goes_on; few = λ n. (l.few n).exceeded b.tokens (t.few n) }
-  limit_refused a s b limit.Columns l t = tt
-  limit_refused a s b limit.Relations l t = tt
-  limit_refused a s b limit.Copies l t = tt
+  limit_refused a s b limit.Columns l t = still_full a s b l t
+  limit_refused a s b limit.Relations l t = still_full a s b l t
+  limit_refused a s b limit.Copies l t = record { goes_on = l.halts.began b.tokens t.goes_on; few = λ n. (l.few n).began b.tokens (t.few n) }
 
   pub refuses : {a s b : Cursor} {fault : ReadFault} → BlocksOf told f B d a.tokens N NB e s.tokens → RefusesWithin told f B d a fault b → RefusesWithin told N NB e s fault b
   refuses {b = b} {fault = Lex fault} l t = record { says = record { failed = l.halts.failed b.tokens t.says.failed; few = λ n. (l.few n).failed b.tokens (t.says.few n); refused = t.says.refused } }

@@ -1,5 +1,5 @@
 -- The steps of the reader through a repetition without a limit, and that a form which is never empty takes tokens.
-use Rattle.std.proofs.Common.{◌≡◌, ℕ, ◌<◌, Bool, true, false, List, [], ◌∷◌, ◌++◌, length, length-append, None, Some, sym, ◌∙◌, ap, arith}
+use Rattle.std.proofs.Common.{◌≡◌, ℕ, ◌<◌, Bool, true, false, List, [], ◌∷◌, ◌++◌, length, length-append, None, sym, ◌∙◌, ap, arith}
 use Rattle.grammar.specs.Form.{star}
 use Rattle.grammar.proofs.Predictions.{ok, ahead, known, bounded_within}
 use Rattle.sql_lex.specs.Lexemes.{Lexeme}

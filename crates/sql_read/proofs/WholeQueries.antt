@@ -1,29 +1,34 @@
 -- What the function for queries reads is read of the grammar.
-use Rattle.std.proofs.Common.{◌≡◌, ℕ, List, [], ◌∷◌, ◌++◌, Some, None, refl, sym, ◌∙◌, ap, subst, append_assoc, arith}
+use Rattle.std.proofs.Common.{◌≡◌, ℕ, List, [], ◌∷◌, ◌++◌, Some, None, refl, sym, ◌∙◌, ap, subst, append_assoc, arith, ◌≤◌}
 use Rattle.std.proofs.lemmas.List.{append_cancel_right}
+use Rattle.grammar.specs.Completions.{Reaches}
 use Rattle.grammar.specs.Form.{ref, language}
-use Rattle.grammar.specs.Reading.{Took, Failed, Exceeded, Passes}
+use Rattle.grammar.specs.Reading.{Exceeded, Passes}
 use Rattle.grammar.proofs.Heights.{name_fronts, name_grows}
 use Rattle.grammar.proofs.Longest.{took_longest, failed_longest}
 use Rattle.grammar.proofs.Steps.{Same, took_in, failed_in, exceeded_in}
 use Rattle.sql_lex.specs.Lexemes.{Lexeme}
 use Rattle.sql_model.specs.declared.tree.Query.{Query}
+use Rattle.sql_read.specs.declared.fault.LimitKind.TheVariants as limit
 use Rattle.sql_read.specs.declared.fault.ReadFault.{ReadFault}
 use Rattle.sql_read.specs.declared.fault.ReadFault.TheVariants.{Lex, Unexpected, LeftOut, TooDeep, Limit, NoMemory}
 use Rattle.sql_read.specs.declared.fault.LimitKind.{LimitKind}
-use Rattle.sql_read.specs.declared.fault.LimitKind.TheVariants as limit
 use Rattle.sql_read.specs.Cursor.{Cursor, next}
+use Rattle.sql_grammar.specs.QueryCopies.{most_copies}
+use Rattle.sql_read.specs.Copied.{CopiedToFault, CopiesSoFar, CopiesTooMuch}
 use Rattle.sql_read.specs.Eating.{Extends, IsNextAt}
 use Rattle.sql_grammar.specs.Kinds.{kind_of}
 use Rattle.sql_grammar.specs.Numbering.{Built}
-use Rattle.sql_grammar.specs.Queries.{IsShallow, IsTooDeep, most_levels, queries, shallow_queries}
+use Rattle.sql_grammar.specs.Queries.{IsShallow, most_levels, queries, shallow_queries}
+use Rattle.sql_grammar.specs.PlanCopies.{copies_nothing}
 use Rattle.sql_grammar.specs.QueryGrammar.{query, rules}
 use Rattle.sql_grammar.specs.QueryPlan.{plan}
 use Rattle.sql_grammar.specs.QueryEntries.{few_queries, most_further}
-use Rattle.sql_read.specs.ReadingQueries.{IsAtEnd, IsLimited, IsRead, IsRefused, IsUnfinished, Keeps, PassesLimits}
-use Rattle.sql_read.specs.Reads.{entries_too, few_form, of_form, Fails, Exceeds, Gives, Refuses, SaysLimit}
+use Rattle.sql_read.specs.ReadingQueries.{IsAtEnd, IsLimited, IsRead, IsRefused, IsUnfinished, Keeps, PassesLimits, CopiesWithin, PassesCopies}
+use Rattle.sql_read.specs.Reads.{entries_too, few_form, of_form, Fails, Exceeds, Gives, Refuses, SaysLimit, Spends}
 use Rattle.sql_read.specs.Refusals.{refusal_of}
 use Rattle.sql_grammar.proofs.FewPlan.{few_plan_includes, few_rules_include}
+use Rattle.sql_grammar.proofs.CopyLimits.{reached_copies, too_many_here}
 use Rattle.sql_grammar.proofs.PlanKnown.{grammar_includes}
 use Rattle.sql_grammar.proofs.QueryKnown.{plan_includes}
 
@@ -71,8 +76,38 @@ read_whole {before} {after} g x =
       end = x.end;
     }
 
-unfinished : {before after : Cursor} {fault : ReadFault} → Fails entries_too (ref query) (few_form (ref query)) most_levels before fault after → Extends before after → IsUnfinished before fault
-unfinished {before} {after} r x =
+-- what was copied up to here, and where too much was
+
+abbrev SoFar : Cursor → Cursor → Type 0
+SoFar before after = CopiesSoFar (ref query) (λ read. read) before before after
+
+copied_within : {before after : Cursor} (taken : List Lexeme) → before.tokens ≡ taken ++ after.tokens → SoFar before after → after.copies ≤ most_copies → CopiesWithin before taken
+copied_within {before} {after} taken e r l = record {
+  copies = r.value.copies;
+  of_taken = reached_copies before.tokens taken after.tokens r.value e r.up_to;
+  within = omega (arith, r.count, l);
+}
+
+passed_copies : {before after : Cursor} → Spends entries_too (ref query) (few_form (ref query)) most_levels before after → CopiesTooMuch (ref query) (λ read. read) before before after → PassesCopies before
+passed_copies {before} {after} s r = record {
+  taken = up_to.taken;
+  token = r.token;
+  rest = after.tokens;
+  whole = up_to.whole;
+  too_many = too_many_here before.copies before.tokens up_to.taken after.tokens r.token up_to.whole r.overspends;
+  shallow = is_shallow _ (subst shallow_queries.front (taken_on s.goes_on.taken s.goes_on.whole) (shallow_same.there.front _ s.goes_on.begun));
+  few = subst few_queries.front (taken_on (s.few tt).taken (s.few tt).whole) (few_there _ (s.few tt).begun);
+}
+  where
+    up_to : Reaches copies_nothing (of_form None (ref query)) before.tokens r.overspends.before (r.token ∷ after.tokens)
+    up_to = r.overspends.up_to
+
+    taken_on : (taken : List Lexeme) → before.tokens ≡ taken ++ after.tokens → taken ≡ up_to.taken ++ r.token ∷ []
+    taken_on taken e = same_taken before.tokens after.tokens taken (up_to.taken ++ r.token ∷ []) e (up_to.whole ∙ sym (append_assoc up_to.taken (r.token ∷ []) after.tokens))
+
+unfinished : {before after : Cursor} {fault : ReadFault} → Fails entries_too (ref query) (few_form (ref query)) most_levels before fault after → Extends before after
+    → SoFar before after → after.copies ≤ most_copies → IsUnfinished before fault
+unfinished {before} {after} r x c l =
     let t = failed_in _ _ _ _ free_same shallow_same before.tokens after.tokens r.failed in
     let few = r.few tt in
     record {
@@ -83,38 +118,42 @@ unfinished {before} {after} r x =
       unspelled = t.unspelled;
       shallow = is_shallow t.taken t.begun;
       few = subst few_queries.front (same_taken before.tokens after.tokens few.taken t.taken few.whole t.whole) (few_there few.taken few.begun);
+      copied = copied_within t.taken t.whole c l;
       refused = r.refused ∙ ap (λ end. refusal_of end (next after.tokens after.fault)) x.end ∙ ap (λ f. refusal_of before.end (next after.tokens f)) x.fault;
     }
 
-passes : (before : Cursor) (taken rest : List Lexeme) (at : ℕ) → before.tokens ≡ taken ++ rest → shallow_queries.front taken → Passes queries shallow_queries taken rest → few_queries.front taken → IsNextAt at rest
-    → PassesLimits before at
-passes before taken [] at e f p i n = absurd p
-passes before taken (t ∷ rest) at e f p i n = record {
+passes : (before : Cursor) (taken rest : List Lexeme) (at : ℕ) → before.tokens ≡ taken ++ rest → shallow_queries.front taken → Passes queries shallow_queries taken rest → few_queries.front taken
+    → CopiesWithin before taken → IsNextAt at rest → PassesLimits before at
+passes before taken [] at e f p i c n = absurd p
+passes before taken (t ∷ rest) at e f p i c n = record {
   taken = taken;
   token = t;
   rest = rest;
   whole = e;
   too_deep = record { goes_on = p.0; shallow_before = f; too_deep = p.1 };
   few = i;
+  copied = c;
   place = n;
 }
 
-passed : {before after : Cursor} {at : ℕ} → Exceeds entries_too (ref query) (few_form (ref query)) most_levels before at after → PassesLimits before at
-passed {before} {after} {at} r =
+passed : {before after : Cursor} {at : ℕ} → Exceeds entries_too (ref query) (few_form (ref query)) most_levels before at after → SoFar before after → after.copies ≤ most_copies → PassesLimits before at
+passed {before} {after} {at} r c l =
     let t = exceeded_in _ _ _ _ free_same shallow_same before.tokens after.tokens r.exceeded in
     let few = r.few tt in
-    passes before t.taken after.tokens at t.whole t.begun t.passes (subst few_queries.front (same_taken before.tokens after.tokens few.taken t.taken few.whole t.whole) (few_there few.taken few.begun)) r.place
+    passes before t.taken after.tokens at t.whole t.begun t.passes (subst few_queries.front (same_taken before.tokens after.tokens few.taken t.taken few.whole t.whole) (few_there few.taken few.begun)) (copied_within t.taken t.whole c l) r.place
 
 -- ---- an entry too many
 
-limited : (before after : Cursor) (what : LimitKind) → SaysLimit entries_too (ref query) (few_form (ref query)) most_levels before what after → IsLimited before what
-limited before after limit.Entries r = record {
+limited : (before after : Cursor) (what : LimitKind) → SaysLimit entries_too (ref query) (few_form (ref query)) most_levels before what after
+    → CopiedToFault (ref query) (λ read. read) before before (Limit what) after → after.copies ≤ most_copies → IsLimited before what
+limited before after limit.Entries r c l = record {
   taken = e.taken;
   token = r.token;
   rest = r.more;
   whole = whole;
   too_many = record { goes_on = free_same.there.front _ past.0; few_before = few_there e.taken e.begun; too_many = λ f. past.1 (few_back _ f) };
   shallow = is_shallow _ (subst shallow_queries.front taken_on (shallow_same.there.front _ r.goes_on.begun));
+  copied = copied_within e.taken e.whole c.says l;
 }
   where
     e : Exceeded (of_form None (ref query)) (few_form (ref query)) before.tokens after.tokens
@@ -128,17 +167,18 @@ limited before after limit.Entries r = record {
 
     taken_on : r.goes_on.taken ≡ e.taken ++ r.token ∷ []
     taken_on = same_taken before.tokens r.more r.goes_on.taken (e.taken ++ r.token ∷ []) r.goes_on.whole (whole ∙ sym (append_assoc e.taken (r.token ∷ []) r.more))
-limited before after limit.Columns r = tt
-limited before after limit.Relations r = tt
-limited before after limit.Copies r = tt
+limited before after limit.Columns r c l = r.counts
+limited before after limit.Relations r c l = r.counts
+limited before after limit.Copies r c l = passed_copies r c.says
 
-pub refused_whole : {before after : Cursor} {fault : ReadFault} → Refuses (ref query) most_levels before fault after → Extends before after → IsRefused before fault
-refused_whole {fault = Lex fault} r x = unfinished r.says x
-refused_whole {fault = Unexpected at} r x = unfinished r.says x
-refused_whole {fault = LeftOut word at} r x = unfinished r.says x
-refused_whole {fault = TooDeep at} r x = passed r.says
-refused_whole {before} {after} {fault = Limit what} r x = limited before after what r.says
-refused_whole {fault = NoMemory} r x = tt
+pub refused_whole : {before after : Cursor} {fault : ReadFault} → Refuses (ref query) most_levels before fault after → CopiedToFault (ref query) (λ read. read) before before fault after
+    → Extends before after → after.copies ≤ most_copies → IsRefused before fault
+refused_whole {fault = Lex fault} r c x l = unfinished r.says x c.says l
+refused_whole {fault = Unexpected at} r c x l = unfinished r.says x c.says l
+refused_whole {fault = LeftOut word at} r c x l = unfinished r.says x c.says l
+refused_whole {fault = TooDeep at} r c x l = passed r.says c.says l
+refused_whole {before} {after} {fault = Limit what} r c x l = limited before after what r.says c l
+refused_whole {fault = NoMemory} r c x l = tt
 
 pub keeps : {before after : Cursor} → Extends before after → Keeps before after
 keeps x = record { literals = x.literals; symbols = x.symbols; copies = x.copies }

@@ -1,7 +1,5 @@
 -- How a reader takes single tokens.
-use Rattle.std.specs.Prelude.{ℕ, ◌+◌, ◌-◌, ◌≡◌, ◌≢◌, ◌≤◌, ◌<◌, ◌^◌, Bool, true, false, ◌&&◌, ◌||◌, ◌==◌, nat_lt, if◌then◌else◌, List, [], ◌∷◌, ◌++◌, length, Option, Some, None, Result, Ok, Err}
-use Rattle.sql_model.specs.declared.symbols.Lit.{Lit}
-use Rattle.sql_model.specs.Syntax.{Name}
+use Rattle.std.specs.Prelude.{ℕ, ◌+◌, ◌≡◌, ◌≢◌, ◌≤◌, ◌<◌, ◌^◌, Bool, true, false, ◌&&◌, ◌||◌, ◌==◌, nat_lt, if◌then◌else◌, List, [], ◌∷◌, ◌++◌, length, Option, Some, None, Result, Ok, Err}
 use Rattle.sql_lex.specs.declared.token.Token.{Token}
 use Rattle.sql_lex.specs.Lexemes.{Lexeme, lexeme_of}
 use Rattle.sql_read.specs.declared.fault.ReadFault.{ReadFault}
@@ -102,10 +100,10 @@ pub record Numbers (given : Built ℕ) (before : Cursor) (number : ℕ) (after :
   pub is : number ≡ (given.build before.numbers).0
   pub moved : after ≡ record before { numbers = (given.build before.numbers).1 }
 
--- a copy of this weight was counted, or the count would pass its limit
+-- a copy of this weight was counted, or the count, which is within its limit, would pass it
 abbrev pub Copies : ℕ → Cursor → Result (Unit {0}) ReadFault → Cursor → Type 0
 Copies weight before (Ok done) after = (after ≡ record before { copies = before.copies + weight }) × (before.copies + weight ≤ most_copies)
-Copies weight before (Err fault) after = (after ≡ before) × (fault ≡ Limit limit.Copies) × (most_copies < before.copies + weight)
+Copies weight before (Err fault) after = (after ≡ before) × (fault ≡ Limit limit.Copies) × (most_copies < before.copies + weight) × (before.copies ≤ most_copies)
 
 -- ---- marks
 -- a mark that was made here

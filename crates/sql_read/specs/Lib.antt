@@ -6,3 +6,4 @@ pub mod Reads
 pub mod Parts
 pub mod ReadingQueries
 pub mod ReadingEntries
+pub mod Copied

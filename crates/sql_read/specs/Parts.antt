@@ -1,7 +1,6 @@
 -- What the reader's own types stand for.
-use Rattle.std.specs.Prelude.{ℕ, Option, Some, None, ◌⊎◌}
+use Rattle.std.specs.Prelude.{ℕ}
 use Rattle.std.proofs.Common.{inl, inr}
-use Rattle.sql_model.specs.declared.tree.Expr.{Expr}
 use Rattle.sql_model.specs.declared.tree.Item.TheVariants as item
 use Rattle.sql_lex.specs.Lexemes.{Lexeme}
 use Rattle.sql_read.specs.declared.reading.item.Starred.{Starred as ReadStarred}

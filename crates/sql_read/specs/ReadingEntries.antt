@@ -1,6 +1,6 @@
 -- How the entries of a block are read one by one, where it may have no more of them than the limit: in one list, as in the grammar with few
 -- entries.
-use Rattle.std.specs.Prelude.{ℕ, ◌+◌, ◌-◌, ◌≡◌, nat_lt, Bool, true, false, List, [], ◌∷◌, length, None, Result, Ok, Err}
+use Rattle.std.specs.Prelude.{ℕ, ◌-◌, ◌≡◌, nat_lt, Bool, true, false, List, [], ◌∷◌, length, None, Result, Ok, Err}
 use Rattle.grammar.specs.Form.{ref, seq, star}
 use Rattle.grammar.specs.Language.{Language, alt_language, map_language, no_language, seq_language}
 use Rattle.grammar.specs.Productions.{optional, skip_then}
@@ -68,6 +68,7 @@ pub data EntryAwaited (count : ℕ) (start here : List Lexeme) : Type 0 where
 
 abbrev pub ListLimit : List Lexeme → LimitKind → List Lexeme → Type 0
 ListLimit start limit.Entries rest = Exceeded (of_form None one_list) (few_form few_list) start rest
+ListLimit start limit.Copies rest = Began (few_form few_list) start rest
 ListLimit start other rest = Unit {0}
 
 -- what each fault says of the list that began at the start

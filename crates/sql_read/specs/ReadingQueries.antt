@@ -3,14 +3,15 @@ use Rattle.std.specs.Prelude.{ℕ, ◌+◌, ◌≡◌, ◌≤◌, List, [], ◌�
 use Rattle.grammar.specs.Reading.{IsLongestFront}
 use Rattle.sql_lex.specs.Lexemes.{Lexeme}
 use Rattle.sql_model.specs.declared.tree.Query.{Query}
+use Rattle.sql_read.specs.declared.fault.LimitKind.TheVariants as limit
 use Rattle.sql_read.specs.declared.fault.ReadFault.{ReadFault}
 use Rattle.sql_read.specs.declared.fault.ReadFault.TheVariants.{Lex, Unexpected, LeftOut, TooDeep, Limit, NoMemory}
 use Rattle.sql_read.specs.declared.fault.LimitKind.{LimitKind}
-use Rattle.sql_read.specs.declared.fault.LimitKind.TheVariants as limit
 use Rattle.sql_read.specs.Cursor.{Cursor, next}
+use Rattle.sql_grammar.specs.QueryCopies.{CopiesOf, IsCopyTooMany, most_copies}
 use Rattle.sql_read.specs.Eating.{GoesOn}
 use Rattle.sql_grammar.specs.Numbering.{Built}
-use Rattle.sql_grammar.specs.Queries.{IsShallow, IsTooDeep, Spells, queries}
+use Rattle.sql_grammar.specs.Queries.{IsShallow, IsTooDeep, queries}
 use Rattle.sql_grammar.specs.QueryEntries.{IsEntryTooMany, few_queries}
 use Rattle.sql_read.specs.Refusals.{refusal_of}
 
@@ -29,6 +30,12 @@ pub record IsRead (before : Cursor) (q : Query) (after : Cursor) : Type 0 where
   pub fault : after.fault ≡ before.fault
   pub end : after.end ≡ before.end
 
+-- these tokens of the query have copied so much, and that is within the limit
+pub record CopiesWithin (before : Cursor) (taken : List Lexeme) : Type 0 where
+  pub copies : ℕ
+  pub of_taken : CopiesOf taken copies
+  pub within : before.copies + copies ≤ most_copies
+
 -- the longest list of tokens that begins a query spells none, and what stands behind it is refused
 pub record IsUnfinished (before : Cursor) (fault : ReadFault) : Type 0 where
   pub taken : List Lexeme
@@ -39,6 +46,7 @@ pub record IsUnfinished (before : Cursor) (fault : ReadFault) : Type 0 where
   -- no limit was passed before
   pub shallow : IsShallow taken
   pub few : few_queries.front taken
+  pub copied : CopiesWithin before taken
   pub refused : fault ≡ refusal_of before.end (next rest before.fault)
 
 -- behind tokens that begin a query within the limits the token at this place passes them
@@ -50,6 +58,7 @@ pub record PassesLimits (before : Cursor) (at : ℕ) : Type 0 where
   pub too_deep : IsTooDeep taken token
   -- no entry was too many before
   pub few : few_queries.front taken
+  pub copied : CopiesWithin before taken
   pub place : token.start ≡ at
 
 -- behind tokens that begin a query the next one begins an entry too many, and is not too deep
@@ -60,11 +69,24 @@ pub record PassesEntries (before : Cursor) : Type 0 where
   pub whole : before.tokens ≡ taken ++ token ∷ rest
   pub too_many : IsEntryTooMany taken token
   pub shallow : IsShallow (taken ++ token ∷ [])
+  pub copied : CopiesWithin before taken
 
--- of the count of copies other clauses speak
+-- the first token of the query with which more is copied than may be; it is not too deep, and begins no entry too many
+pub record PassesCopies (before : Cursor) : Type 0 where
+  pub taken : List Lexeme
+  pub token : Lexeme
+  pub rest : List Lexeme
+  pub whole : before.tokens ≡ taken ++ token ∷ rest
+  pub too_many : IsCopyTooMany before.copies taken token
+  pub shallow : IsShallow (taken ++ token ∷ [])
+  pub few : few_queries.front (taken ++ token ∷ [])
+
+-- a query has neither columns nor relations to count
 abbrev pub IsLimited : Cursor → LimitKind → Type 0
 IsLimited before limit.Entries = PassesEntries before
-IsLimited before other = Unit {0}
+IsLimited before limit.Copies = PassesCopies before
+IsLimited before limit.Columns = ⊥
+IsLimited before limit.Relations = ⊥
 
 -- Where each refusal comes. Want of memory may come anywhere.
 abbrev pub IsRefused : Cursor → ReadFault → Type 0

@@ -7,7 +7,6 @@ use Rattle.grammar.specs.Lookahead.{lookahead}
 use Rattle.grammar.specs.Reading.{Took, Failed, Exceeded, Began}
 use Rattle.sql_lex.specs.declared.token.Token.{Token}
 use Rattle.sql_lex.specs.Lexemes.{Lexeme, lexeme_of}
-use Rattle.sql_lex.specs.declared.token.LexFault.{LexFault}
 use Rattle.sql_read.specs.declared.fault.ReadFault.{ReadFault}
 use Rattle.sql_read.specs.declared.fault.ReadFault.TheVariants.{Lex, Unexpected, LeftOut, TooDeep, Limit, NoMemory}
 use Rattle.sql_read.specs.declared.fault.LimitKind.{LimitKind}
@@ -31,14 +30,31 @@ of_form room f = form_language kind_of (language kind_of plan) room f
 unfoldable pub few_form : {A : Type 0} → The A → Language Lexeme A
 few_form f = form_language kind_of (language kind_of (few_plan most_further)) None f
 
--- of which limits a reading tells: of that on depth and length alone, or of that on the entries of blocks too
+-- Of which limits a reading tells: of that on depth and length alone, or of that on the entries of blocks too. In a statement columns are counted
+-- besides, and where statements are read one by one they are too.
 pub data Told : Type 0 where
   depth_alone : Told
   entries_too : Told
+  columns_too : Told
+  relations_too : Told
 
 abbrev pub TellsEntries : Told → Type 0
 TellsEntries depth_alone = ⊥
 TellsEntries entries_too = Unit {0}
+TellsEntries columns_too = Unit {0}
+TellsEntries relations_too = Unit {0}
+
+abbrev pub TellsColumns : Told → Type 0
+TellsColumns depth_alone = ⊥
+TellsColumns entries_too = ⊥
+TellsColumns columns_too = Unit {0}
+TellsColumns relations_too = Unit {0}
+
+abbrev pub TellsRelations : Told → Type 0
+TellsRelations depth_alone = ⊥
+TellsRelations entries_too = ⊥
+TellsRelations columns_too = ⊥
+TellsRelations relations_too = Unit {0}
 
 -- ---- what is built
 
@@ -93,10 +109,26 @@ pub record Crowds {V : Type 0} (told : Told) (f : The V) (B : Language Lexeme V)
   pub goes_on : Began (of_form (Some levels) f) before.tokens more
   pub few : TellsEntries told → Exceeded (of_form None f) B before.tokens after.tokens
 
--- what each limit on a count says; of the count of copies other clauses speak
+-- the next token goes on within the limits on depth and length, and no entry was too many before it, but a count of which is told is full
+pub record Fills {V : Type 0} (counted : Type 0) (told : Told) (f : The V) (B : Language Lexeme V) (levels : ℕ) (before after : Cursor) : Type 0 where
+  pub counts : counted
+  pub token : Lexeme
+  pub more : List Lexeme
+  pub next : after.tokens ≡ token ∷ more
+  pub goes_on : Began (of_form (Some levels) f) before.tokens more
+  pub few : TellsEntries told → Began B before.tokens after.tokens
+
+-- the token that was passed last goes on within the limits on depth, length and entries; what was copied up to it other clauses tell
+pub record Spends {V : Type 0} (told : Told) (f : The V) (B : Language Lexeme V) (levels : ℕ) (before after : Cursor) : Type 0 where
+  pub goes_on : Began (of_form (Some levels) f) before.tokens after.tokens
+  pub few : TellsEntries told → Began B before.tokens after.tokens
+
+-- what each limit on a count says
 abbrev pub SaysLimit : {V : Type 0} → Told → The V → Language Lexeme V → ℕ → Cursor → LimitKind → Cursor → Type 0
 SaysLimit told f B levels before limit.Entries after = Crowds told f B levels before after
-SaysLimit told f B levels before other after = Unit {0}
+SaysLimit told f B levels before limit.Copies after = Spends told f B levels before after
+SaysLimit told f B levels before limit.Columns after = Fills (TellsColumns told) told f B levels before after
+SaysLimit told f B levels before limit.Relations after = Fills (TellsRelations told) told f B levels before after
 
 -- what each fault says; want of memory may come anywhere
 abbrev pub Says : {V : Type 0} → Told → The V → Language Lexeme V → ℕ → Cursor → ReadFault → Cursor → Type 0

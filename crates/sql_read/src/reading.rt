@@ -1,6 +1,7 @@
 //! The reader of queries: a function for each production of the plan, or for a part of one.
 ghost use Rattle.std.specs.Prelude.{IfErr, IfOk, OnErr};
 ghost use Rattle.grammar.specs.Form.{ref};
+ghost use Rattle.sql_read.specs.Copied.{Copied};
 ghost use Rattle.sql_read.specs.Eating.{Extends};
 ghost use Rattle.sql_grammar.specs.QueryGrammar as grammar;
 ghost use Rattle.sql_read.specs.Reads.{Reads};
@@ -56,6 +57,7 @@ pub fn read_inner_query(
     levels: u8,
 ) -> Result<Query, ReadFault>
     ensures reads { Reads (ref grammar.query) levels (λ read. read) tokens.old tokens.old result tokens.new }
+    ensures copied { Copied (ref grammar.query) (λ read. read) tokens.old tokens.old result tokens.new }
     ensures extends { Extends tokens.old tokens.new }
 {
     query(alloc, tokens, levels)

@@ -51,6 +51,7 @@ impl<'a> Model for Tokens<'a> {
 impl<'a> Tokens<'a> {
     ghost use Rattle.sql_lex.specs.Tokens.{Lexes};
     ghost use Rattle.sql_read.specs.Cursor.{behind_next, lent, next_of, numbers_of};
+    ghost use Rattle.sql_grammar.specs.QueryCopies.{most_copies};
     ghost use Rattle.sql_grammar.specs.Numbering.{first_numbers};
     ghost use Rattle.sql_read.specs.Refusals.{refusal};
 
@@ -97,16 +98,18 @@ impl<'a> Tokens<'a> {
         self.passed += 1;
     }
 
-    /// Passes all that is left, so that nothing stands next.
+    /// Passes all that is left, so that nothing stands next. No more was copied than may be.
     pub fn stop(&mut self)
-        ensures { self.new ≡ record self.old { tokens = []; fault = None } }
+        ensures stopped { self.new ≡ record self.old { tokens = []; fault = None } }
+        ensures within { self.old.copies ≤ most_copies }
     {
         self.next = None;
     }
 
-    /// Hands on the symbols and literals numbered so far.
+    /// Hands on the symbols and literals numbered so far. No more was copied than may be.
     pub fn into_symbols(self) -> Symbols
-        ensures { numbers_of result ≡ self.entry.numbers }
+        ensures numbers { numbers_of result ≡ self.entry.numbers }
+        ensures within { self.entry.copies ≤ most_copies }
     {
         self.symbols
     }

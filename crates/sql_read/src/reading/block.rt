@@ -2,6 +2,7 @@
 ghost use Rattle.std.specs.Prelude.{IfOk, List, Option, length, ℕ, ◌≡◌};
 ghost use Rattle.grammar.specs.Form.{ref};
 ghost use Rattle.grammar.specs.Productions.{optional, skip_then};
+ghost use Rattle.sql_read.specs.Copied.{Copied};
 ghost use Rattle.sql_read.specs.Eating.{Extends};
 ghost use Rattle.sql_grammar.specs.Kinds.{same};
 ghost use Rattle.sql_grammar.specs.Numbering.{each, perhaps, plain};
@@ -25,6 +26,7 @@ use std::alloc::Global;
 #[cycle(read)]
 pub fn block(alloc: Global, tokens: &mut Tokens<'_>, levels: u8) -> Result<Query, ReadFault>
     ensures reads { Reads (ref grammar.block) levels (λ read. read) tokens.old tokens.old result tokens.new }
+    ensures copied { Copied (ref grammar.block) (λ read. read) tokens.old tokens.old result tokens.new }
     ensures extends { Extends tokens.old tokens.new }
 {
     tokens.expect(alloc, Kind::Select)?;
@@ -51,6 +53,7 @@ pub fn block(alloc: Global, tokens: &mut Tokens<'_>, levels: u8) -> Result<Query
 #[cycle(read)]
 fn items(alloc: Global, tokens: &mut Tokens<'_>, levels: u8) -> Result<List<Item>, ReadFault>
     ensures reads { Reads (listed (ref grammar.item)) levels (λ items. each (all_of items)) tokens.old tokens.old result tokens.new }
+    ensures copied { Copied (listed (ref grammar.item)) (λ items. each (all_of items)) tokens.old tokens.old result tokens.new }
     ensures extends { Extends tokens.old tokens.new }
 {
     let mut items = List::new(alloc);
@@ -69,6 +72,7 @@ fn items(alloc: Global, tokens: &mut Tokens<'_>, levels: u8) -> Result<List<Item
 #[cycle(read)]
 fn filter(alloc: Global, tokens: &mut Tokens<'_>, levels: u8) -> Result<Option<Expr>, ReadFault>
     ensures reads { Reads (optional (skip_then (a Kind.Where) (ref grammar.expr))) levels perhaps tokens.old tokens.old result tokens.new }
+    ensures copied { Copied (optional (skip_then (a Kind.Where) (ref grammar.expr))) perhaps tokens.old tokens.old result tokens.new }
     ensures extends { Extends tokens.old tokens.new }
 {
     match tokens.eat(Kind::Where) {
@@ -81,6 +85,7 @@ fn filter(alloc: Global, tokens: &mut Tokens<'_>, levels: u8) -> Result<Option<E
 #[cycle(read)]
 fn having(alloc: Global, tokens: &mut Tokens<'_>, levels: u8) -> Result<Option<Expr>, ReadFault>
     ensures reads { Reads (optional (skip_then (a Kind.Having) (ref grammar.expr))) levels perhaps tokens.old tokens.old result tokens.new }
+    ensures copied { Copied (optional (skip_then (a Kind.Having) (ref grammar.expr))) perhaps tokens.old tokens.old result tokens.new }
     ensures extends { Extends tokens.old tokens.new }
 {
     match tokens.eat(Kind::Having) {
@@ -91,6 +96,7 @@ fn having(alloc: Global, tokens: &mut Tokens<'_>, levels: u8) -> Result<Option<E
 
 fn group_by(alloc: Global, tokens: &mut Tokens<'_>) -> Result<Option<List<Expr>>, ReadFault>
     ensures reads { (levels : ℕ) → Reads group_by levels (λ columns. plain (columns_of columns)) tokens.old tokens.old result tokens.new }
+    ensures copied { Copied group_by (λ columns. plain (columns_of columns)) tokens.old tokens.old result tokens.new }
     ensures extends { Extends tokens.old tokens.new }
 {
     let Some(_) = tokens.eat(Kind::Group) else {

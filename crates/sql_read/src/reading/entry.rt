@@ -3,6 +3,7 @@ ghost use Rattle.std.specs.Prelude.{IfErr, IfOk, IfSome, List, length, true, ℕ
 ghost use Rattle.grammar.specs.Form.{ref, alt, seq};
 ghost use Rattle.grammar.specs.Productions.{optional};
 ghost use Rattle.sql_model.specs.declared.tree.Entry.{Entry};
+ghost use Rattle.sql_read.specs.Copied.{Copied};
 ghost use Rattle.sql_read.specs.Cursor.{Cursor};
 ghost use Rattle.sql_read.specs.Eating.{Extends, allowed_entry, is_next};
 ghost use Rattle.sql_grammar.specs.Kinds.{among};
@@ -34,6 +35,7 @@ const MOST_ENTRIES: usize = 32;
 #[cycle(read)]
 pub fn entries(alloc: Global, tokens: &mut Tokens<'_>, levels: u8) -> Result<List<Entry>, ReadFault>
     ensures reads { ReadsWithin entries_too (listed (ref grammar.from)) (few_form (few_froms most_further)) levels all_entries tokens.old tokens.old result tokens.new }
+    ensures copied { Copied (listed (ref grammar.from)) all_entries tokens.old tokens.old result tokens.new }
     ensures extends { Extends tokens.old tokens.new }
 {
     let first = from(alloc, tokens, levels, List::new(alloc))?;
@@ -58,6 +60,8 @@ fn from(
     ensures reads { (built : Built (List Entry)) (start : Cursor) → Builds built start before tokens.old
         → ReadsWithin depth_alone (ref grammar.from) (few_form (ref grammar.from)) levels (λ read. appended built read) start tokens.old result tokens.new }
     ensures few { (start : List Lexeme) → EntryAwaited (length before) start tokens.old.tokens → ReadsList start result tokens.new.tokens }
+    ensures copied { (built : Built (List Entry)) (start : Cursor) → Builds built start before tokens.old
+        → Copied (ref grammar.from) (λ read. appended built read) start tokens.old result tokens.new }
     ensures extends { Extends tokens.old tokens.new }
 {
     let mut entries = before;
@@ -78,6 +82,7 @@ fn joined_entry(
     count: usize,
 ) -> Result<Option<Entry>, ReadFault>
     ensures reads { ReadsNextWithin (alt join_on cross_join) (joins_behind count) levels (λ read. read) tokens.old result tokens.new }
+    ensures copied { Copied (alt join_on cross_join) (λ read. read) tokens.old tokens.old result tokens.new }
     ensures fewer { IfOk result (λ found. IfSome found (λ entry. length tokens.new.tokens < length tokens.old.tokens)) }
     ensures begins { IfErr result (λ fault. is_next (among (Kind.Cross ∷ Kind.Inner ∷ Kind.Join ∷ [])) tokens.old.tokens ≡ true) }
     ensures extends { Extends tokens.old tokens.new }
@@ -107,6 +112,7 @@ fn entry(
     count: usize,
 ) -> Result<Listed, ReadFault>
     ensures reads { ReadsWithin entries_too (ref grammar.entry) (entry_behind count) levels (λ read. read) tokens.old tokens.old result tokens.new }
+    ensures copied { Copied (ref grammar.entry) (λ read. read) tokens.old tokens.old result tokens.new }
     ensures extends { Extends tokens.old tokens.new }
 {
     allow_entry(tokens, levels, count)?;
@@ -122,6 +128,7 @@ fn entry(
 /// A table, and its alias where one is written.
 fn table_entry(alloc: Global, tokens: &mut Tokens<'_>) -> Result<Listed, ReadFault>
     ensures reads { (levels : ℕ) → Reads (seq name (optional grammar.alias)) levels (λ read. table_entry read.0 read.1) tokens.old tokens.old result tokens.new }
+    ensures copied { Copied (seq name (optional grammar.alias)) (λ read. table_entry read.0 read.1) tokens.old tokens.old result tokens.new }
     ensures extends { Extends tokens.old tokens.new }
 {
     let table = tokens.expect_any(alloc, &NAME_KINDS)?;

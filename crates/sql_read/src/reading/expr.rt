@@ -1,6 +1,7 @@
 //! Expressions: chains of OR and AND, and operators.
 ghost use Rattle.std.specs.Prelude.{List, ℕ, ◌+◌, ◌≡◌};
 ghost use Rattle.grammar.specs.Form.{ref};
+ghost use Rattle.sql_read.specs.Copied.{Copied};
 ghost use Rattle.sql_read.specs.Cursor.{Cursor};
 ghost use Rattle.sql_read.specs.Eating.{Extends, IsBehind, IsMark};
 ghost use Rattle.sql_grammar.specs.Numbering.{Built};
@@ -23,6 +24,7 @@ use std::alloc::Global;
 #[cycle(read)]
 pub fn expr(alloc: Global, tokens: &mut Tokens<'_>, levels: u8) -> Result<Expr, ReadFault>
     ensures reads { Reads (ref grammar.expr) levels (λ read. read) tokens.old tokens.old result tokens.new }
+    ensures copied { Copied (ref grammar.expr) (λ read. read) tokens.old tokens.old result tokens.new }
     ensures extends { Extends tokens.old tokens.new }
 {
     let first = conj(alloc, tokens, levels)?;
@@ -32,6 +34,7 @@ pub fn expr(alloc: Global, tokens: &mut Tokens<'_>, levels: u8) -> Result<Expr, 
 #[cycle(read)]
 fn conj(alloc: Global, tokens: &mut Tokens<'_>, levels: u8) -> Result<Expr, ReadFault>
     ensures reads { Reads (ref grammar.conj) levels (λ read. read) tokens.old tokens.old result tokens.new }
+    ensures copied { Copied (ref grammar.conj) (λ read. read) tokens.old tokens.old result tokens.new }
     ensures extends { Extends tokens.old tokens.new }
 {
     let first = neg(alloc, tokens, levels)?;
@@ -41,6 +44,7 @@ fn conj(alloc: Global, tokens: &mut Tokens<'_>, levels: u8) -> Result<Expr, Read
 #[cycle(read)]
 pub fn neg(alloc: Global, tokens: &mut Tokens<'_>, levels: u8) -> Result<Expr, ReadFault>
     ensures reads { Reads (ref grammar.neg) levels (λ read. read) tokens.old tokens.old result tokens.new }
+    ensures copied { Copied (ref grammar.neg) (λ read. read) tokens.old tokens.old result tokens.new }
     ensures extends { Extends tokens.old tokens.new }
 {
     match tokens.eat_within(&[Kind::Not], levels)? {
@@ -55,6 +59,7 @@ pub fn neg(alloc: Global, tokens: &mut Tokens<'_>, levels: u8) -> Result<Expr, R
 #[cycle(read)]
 pub fn value(alloc: Global, tokens: &mut Tokens<'_>, levels: u8) -> Result<Expr, ReadFault>
     ensures reads { Reads (ref grammar.value) levels (λ read. read) tokens.old tokens.old result tokens.new }
+    ensures copied { Copied (ref grammar.value) (λ read. read) tokens.old tokens.old result tokens.new }
     ensures extends { Extends tokens.old tokens.new }
 {
     let first = term(alloc, tokens, levels)?;
@@ -64,6 +69,7 @@ pub fn value(alloc: Global, tokens: &mut Tokens<'_>, levels: u8) -> Result<Expr,
 #[cycle(read)]
 fn term(alloc: Global, tokens: &mut Tokens<'_>, levels: u8) -> Result<Expr, ReadFault>
     ensures reads { Reads (ref grammar.term) levels (λ read. read) tokens.old tokens.old result tokens.new }
+    ensures copied { Copied (ref grammar.term) (λ read. read) tokens.old tokens.old result tokens.new }
     ensures extends { Extends tokens.old tokens.new }
 {
     let first = unary(alloc, tokens, levels)?;
@@ -73,6 +79,7 @@ fn term(alloc: Global, tokens: &mut Tokens<'_>, levels: u8) -> Result<Expr, Read
 #[cycle(read)]
 fn unary(alloc: Global, tokens: &mut Tokens<'_>, levels: u8) -> Result<Expr, ReadFault>
     ensures reads { Reads (ref grammar.unary) levels (λ read. read) tokens.old tokens.old result tokens.new }
+    ensures copied { Copied (ref grammar.unary) (λ read. read) tokens.old tokens.old result tokens.new }
     ensures extends { Extends tokens.old tokens.new }
 {
     if tokens.sees(Kind::Minus) {
@@ -85,6 +92,7 @@ fn unary(alloc: Global, tokens: &mut Tokens<'_>, levels: u8) -> Result<Expr, Rea
 #[cycle(read)]
 pub fn negative(alloc: Global, tokens: &mut Tokens<'_>, levels: u8) -> Result<Expr, ReadFault>
     ensures reads { Reads minus levels (λ read. read) tokens.old tokens.old result tokens.new }
+    ensures copied { Copied minus (λ read. read) tokens.old tokens.old result tokens.new }
     ensures extends { Extends tokens.old tokens.new }
 {
     let sign = tokens.expect_within(alloc, &[Kind::Minus], levels)?;
@@ -102,6 +110,8 @@ pub fn and_tail(
 ) -> Result<Expr, ReadFault>
     ensures reads { (before : Built Expr) (start : Cursor) → Builds before start first tokens.old
         → Reads (ref grammar.and_tail) levels (λ tail. tail before) start tokens.old result tokens.new }
+    ensures copied { (before : Built Expr) (start : Cursor) → Builds before start first tokens.old
+        → Copied (ref grammar.and_tail) (λ tail. tail before) start tokens.old result tokens.new }
     ensures extends { Extends tokens.old tokens.new }
 {
     let left = ands(alloc, tokens, levels, first)?;
@@ -120,6 +130,8 @@ pub fn expr_tail(
     requires { IsBehind start tokens.old }
     ensures reads { (before : Built Expr) (count : ℕ) (began : Cursor) → IsMark start began → IsBuilt before count began first tokens.old
         → Reads (ref grammar.expr_tail) levels (λ tail. tail (before, count)) began tokens.old result tokens.new }
+    ensures copied { (before : Built Expr) (count : ℕ) (began : Cursor) → IsMark start began → IsBuilt before count began first tokens.old
+        → Copied (ref grammar.expr_tail) (λ tail. tail (before, count)) began tokens.old result tokens.new }
     ensures extends { Extends tokens.old tokens.new }
 {
     let left = products(alloc, tokens, levels, first)?;
@@ -134,6 +146,8 @@ pub fn expr_tail(
 fn ors(alloc: Global, tokens: &mut Tokens<'_>, levels: u8, first: Expr) -> Result<Expr, ReadFault>
     ensures reads { (before : Built Expr) (start : Cursor) → Builds before start first tokens.old
         → Reads ors levels (λ more. chained or_node (before, more)) start tokens.old result tokens.new }
+    ensures copied { (before : Built Expr) (start : Cursor) → Builds before start first tokens.old
+        → Copied ors (λ more. chained or_node (before, more)) start tokens.old result tokens.new }
     ensures extends { Extends tokens.old tokens.new }
 {
     if !tokens.sees(Kind::Or) {
@@ -156,6 +170,8 @@ fn ors(alloc: Global, tokens: &mut Tokens<'_>, levels: u8, first: Expr) -> Resul
 fn ands(alloc: Global, tokens: &mut Tokens<'_>, levels: u8, first: Expr) -> Result<Expr, ReadFault>
     ensures reads { (before : Built Expr) (start : Cursor) → Builds before start first tokens.old
         → Reads ands levels (λ more. chained and_node (before, more)) start tokens.old result tokens.new }
+    ensures copied { (before : Built Expr) (start : Cursor) → Builds before start first tokens.old
+        → Copied ands (λ more. chained and_node (before, more)) start tokens.old result tokens.new }
     ensures extends { Extends tokens.old tokens.new }
 {
     if !tokens.sees(Kind::And) {
@@ -183,6 +199,8 @@ fn products(
 ) -> Result<Expr, ReadFault>
     ensures reads { (before : Built Expr) (start : Cursor) → Builds before start first tokens.old
         → Reads products levels (λ more. operated before more) start tokens.old result tokens.new }
+    ensures copied { (before : Built Expr) (start : Cursor) → Builds before start first tokens.old
+        → Copied products (λ more. operated before more) start tokens.old result tokens.new }
     ensures extends { Extends tokens.old tokens.new }
 {
     let mut left = first;
@@ -200,6 +218,8 @@ fn products(
 fn sums(alloc: Global, tokens: &mut Tokens<'_>, levels: u8, first: Expr) -> Result<Expr, ReadFault>
     ensures reads { (before : Built Expr) (start : Cursor) → Builds before start first tokens.old
         → Reads sums levels (λ more. operated before more) start tokens.old result tokens.new }
+    ensures copied { (before : Built Expr) (start : Cursor) → Builds before start first tokens.old
+        → Copied sums (λ more. operated before more) start tokens.old result tokens.new }
     ensures extends { Extends tokens.old tokens.new }
 {
     let mut left = first;

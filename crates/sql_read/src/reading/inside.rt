@@ -4,6 +4,7 @@ ghost use Rattle.grammar.specs.Form.{empty, ref};
 ghost use Rattle.sql_lex.specs.Lexemes.{Lexeme};
 ghost use Rattle.sql_model.specs.declared.tree.Expr.{Expr};
 ghost use Rattle.sql_model.specs.declared.tree.Query.{Query};
+ghost use Rattle.sql_read.specs.Copied.{Copied};
 ghost use Rattle.sql_read.specs.Cursor.{Cursor};
 ghost use Rattle.sql_read.specs.Eating.{Extends, IsBehind, IsMark};
 ghost use Rattle.sql_grammar.specs.Numbering.{Built};
@@ -72,6 +73,7 @@ const TAIL_KINDS: [Kind; 17] = [
 #[cycle(read)]
 pub fn enclosed(alloc: Global, tokens: &mut Tokens<'_>, levels: u8) -> Result<Expr, ReadFault>
     ensures reads { Reads enclosed_first levels (λ read. read) tokens.old tokens.old result tokens.new }
+    ensures copied { Copied enclosed_first (λ read. read) tokens.old tokens.old result tokens.new }
     ensures extends { Extends tokens.old tokens.new }
 {
     match in_parentheses(alloc, tokens, levels)? {
@@ -83,6 +85,7 @@ pub fn enclosed(alloc: Global, tokens: &mut Tokens<'_>, levels: u8) -> Result<Ex
 #[cycle(read)]
 fn in_parentheses(alloc: Global, tokens: &mut Tokens<'_>, levels: u8) -> Result<Grouped, ReadFault>
     ensures reads { Reads (in_parentheses (ref grammar.inner)) levels built_grouped tokens.old tokens.old result tokens.new }
+    ensures copied { Copied (in_parentheses (ref grammar.inner)) built_grouped tokens.old tokens.old result tokens.new }
     ensures extends { Extends tokens.old tokens.new }
 {
     let open = tokens.expect_within(alloc, &[Kind::Open], levels)?;
@@ -104,6 +107,7 @@ fn with_parentheses(inside: Inside, at: u32) -> Grouped
 #[cycle(read)]
 fn inner(alloc: Global, tokens: &mut Tokens<'_>, levels: u8) -> Result<Inside, ReadFault>
     ensures reads { Reads (ref grammar.inner) levels built_inside tokens.old tokens.old result tokens.new }
+    ensures copied { Copied (ref grammar.inner) built_inside tokens.old tokens.old result tokens.new }
     ensures extends { Extends tokens.old tokens.new }
 {
     if tokens.sees(Kind::Select) {
@@ -136,6 +140,8 @@ fn after_query(
     requires { IsBehind start tokens.old }
     ensures reads { (opening : Lexeme) (before : Built Query) (count : ℕ) (began : Cursor) → opening.start ≡ at → IsMark start began → IsBuilt before count began query tokens.old
         → Reads (after_query empty) levels (λ read. built_inside (read ((opening, before), count))) began tokens.old result tokens.new }
+    ensures copied { (opening : Lexeme) (before : Built Query) (count : ℕ) (began : Cursor) → opening.start ≡ at → IsMark start began → IsBuilt before count began query tokens.old
+        → Copied (after_query empty) (λ read. built_inside (read ((opening, before), count))) began tokens.old result tokens.new }
     ensures extends { Extends tokens.old tokens.new }
 {
     if tokens.sees_any(&SET_KINDS) {
@@ -160,6 +166,9 @@ pub fn in_inner(
     ensures reads { (word : Lexeme) (before : Built Expr) (count : ℕ) (began : Cursor) → word.start ≡ sought.in_at → sought.weight ≡ trees.weight (before, count)
         → Builds before began sought.value tokens.old
         → Reads (ref grammar.in_inner) levels (λ read. trees.in_inside None word read (before, count)) began tokens.old result tokens.new }
+    ensures copied { (word : Lexeme) (before : Built Expr) (count : ℕ) (began : Cursor) → word.start ≡ sought.in_at → sought.weight ≡ trees.weight (before, count)
+        → Builds before began sought.value tokens.old
+        → Copied (ref grammar.in_inner) (λ read. trees.in_inside None word read (before, count)) began tokens.old result tokens.new }
     ensures extends { Extends tokens.old tokens.new }
 {
     if tokens.sees(Kind::Select) {
@@ -199,6 +208,10 @@ fn in_after_query(
         → sought.weight ≡ trees.weight (before, count) → Builds before began sought.value middle → opening.start ≡ at → IsMark start middle
         → IsBuilt inside tokens_inside middle query tokens.old
         → Reads (after_query commas) levels (λ read. trees.in_inside None word (read ((opening, inside), tokens_inside)) (before, count)) began tokens.old result tokens.new }
+    ensures copied { (word opening : Lexeme) (before : Built Expr) (inside : Built Query) (count tokens_inside : ℕ) (began middle : Cursor) → word.start ≡ sought.in_at
+        → sought.weight ≡ trees.weight (before, count) → Builds before began sought.value middle → opening.start ≡ at → IsMark start middle
+        → IsBuilt inside tokens_inside middle query tokens.old
+        → Copied (after_query commas) (λ read. trees.in_inside None word (read ((opening, inside), tokens_inside)) (before, count)) began tokens.old result tokens.new }
     ensures extends { Extends tokens.old tokens.new }
 {
     if tokens.sees_any(&SET_KINDS) {
@@ -221,6 +234,7 @@ fn in_after_query(
 #[cycle(read)]
 fn no_parenthesis(alloc: Global, tokens: &mut Tokens<'_>, levels: u8) -> Result<Expr, ReadFault>
     ensures reads { Reads no_parenthesis levels (λ read. read) tokens.old tokens.old result tokens.new }
+    ensures copied { Copied no_parenthesis (λ read. read) tokens.old tokens.old result tokens.new }
     ensures extends { Extends tokens.old tokens.new }
 {
     if tokens.sees_any(&[Kind::Not, Kind::Exists]) {

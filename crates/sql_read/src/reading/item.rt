@@ -2,6 +2,7 @@
 ghost use Rattle.std.specs.Prelude.{IfOk, IfSome, ℕ, ◌<◌, ◌^◌, ◌≡◌};
 ghost use Rattle.grammar.specs.Form.{ref};
 ghost use Rattle.grammar.specs.Productions.{optional};
+ghost use Rattle.sql_read.specs.Copied.{Copied};
 ghost use Rattle.sql_read.specs.Eating.{Extends};
 ghost use Rattle.sql_grammar.specs.Numbering.{plain};
 ghost use Rattle.sql_grammar.specs.QueryGrammar as grammar;
@@ -55,6 +56,7 @@ pub enum Starred {
 #[cycle(read)]
 pub fn item(alloc: Global, tokens: &mut Tokens<'_>, levels: u8) -> Result<Item, ReadFault>
     ensures reads { Reads (ref grammar.item) levels (λ read. read) tokens.old tokens.old result tokens.new }
+    ensures copied { Copied (ref grammar.item) (λ read. read) tokens.old tokens.old result tokens.new }
     ensures extends { Extends tokens.old tokens.new }
 {
     if let Some(star) = tokens.eat(Kind::Star) {
@@ -72,6 +74,7 @@ pub fn item(alloc: Global, tokens: &mut Tokens<'_>, levels: u8) -> Result<Item, 
 #[cycle(read)]
 fn named_item(alloc: Global, tokens: &mut Tokens<'_>, levels: u8) -> Result<Item, ReadFault>
     ensures reads { Reads named_item levels (λ read. read) tokens.old tokens.old result tokens.new }
+    ensures copied { Copied named_item (λ read. read) tokens.old tokens.old result tokens.new }
     ensures extends { Extends tokens.old tokens.new }
 {
     let start = tokens.mark();
@@ -88,6 +91,7 @@ fn named_item(alloc: Global, tokens: &mut Tokens<'_>, levels: u8) -> Result<Item
 #[cycle(read)]
 fn name_or_star(alloc: Global, tokens: &mut Tokens<'_>, levels: u8) -> Result<Starred, ReadFault>
     ensures reads { Reads starred levels built_starred tokens.old tokens.old result tokens.new }
+    ensures copied { Copied starred built_starred tokens.old tokens.old result tokens.new }
     ensures extends { Extends tokens.old tokens.new }
 {
     if let Some(word) = tokens.eat(Kind::Quoted) {
@@ -121,6 +125,7 @@ fn column_or_star(
 ) -> Result<Starred, ReadFault>
     requires { word.now.start < 2 ^ 32 }
     ensures reads { (levels : ℕ) → Reads dot_star_or_name levels (λ dot. built_starred (star_or_column (lexeme_of word.now) dot)) tokens.old tokens.old result tokens.new }
+    ensures copied { Copied dot_star_or_name (λ dot. built_starred (star_or_column (lexeme_of word.now) dot)) tokens.old tokens.old result tokens.new }
     ensures extends { Extends tokens.old tokens.new }
 {
     let Some(_) = tokens.eat(Kind::Dot) else {
@@ -140,6 +145,7 @@ fn column_or_star(
 #[cycle(read)]
 fn item_value(alloc: Global, tokens: &mut Tokens<'_>, levels: u8) -> Result<Expr, ReadFault>
     ensures reads { Reads item_value levels (λ read. read) tokens.old tokens.old result tokens.new }
+    ensures copied { Copied item_value (λ read. read) tokens.old tokens.old result tokens.new }
     ensures extends { Extends tokens.old tokens.new }
 {
     if tokens.sees_any(&[Kind::Not, Kind::Exists]) {
@@ -161,6 +167,7 @@ fn item_value(alloc: Global, tokens: &mut Tokens<'_>, levels: u8) -> Result<Expr
 /// The name of an item, where one is written.
 fn item_name(alloc: Global, tokens: &mut Tokens<'_>) -> Result<Option<Name>, ReadFault>
     ensures reads { (levels : ℕ) → Reads (optional grammar.alias) levels (λ alias. plain (name_of_alias alias)) tokens.old tokens.old result tokens.new }
+    ensures copied { Copied (optional grammar.alias) (λ alias. plain (name_of_alias alias)) tokens.old tokens.old result tokens.new }
     ensures extends { Extends tokens.old tokens.new }
 {
     match optional_alias(alloc, tokens)? {
@@ -172,6 +179,7 @@ fn item_name(alloc: Global, tokens: &mut Tokens<'_>) -> Result<Option<Name>, Rea
 /// `[AS] name`
 pub fn alias<'a>(alloc: Global, tokens: &mut Tokens<'a>) -> Result<Token<'a>, ReadFault>
     ensures reads { (levels : ℕ) → Reads grammar.alias levels plain tokens.old tokens.old (read_lexeme result) tokens.new }
+    ensures copied { Copied grammar.alias plain tokens.old tokens.old result tokens.new }
     ensures extends { Extends tokens.old tokens.new }
     ensures place { IfOk result (λ token. token.start < 2 ^ 32) }
 {
@@ -185,6 +193,7 @@ pub fn optional_alias<'a>(
     tokens: &mut Tokens<'a>,
 ) -> Result<Option<Token<'a>>, ReadFault>
     ensures reads { (levels : ℕ) → Reads (optional grammar.alias) levels plain tokens.old tokens.old (read_lexeme_if_any result) tokens.new }
+    ensures copied { Copied (optional grammar.alias) plain tokens.old tokens.old result tokens.new }
     ensures extends { Extends tokens.old tokens.new }
     ensures place { IfOk result (λ found. IfSome found (λ token. token.start < 2 ^ 32)) }
 {

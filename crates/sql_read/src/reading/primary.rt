@@ -3,6 +3,7 @@ ghost use Rattle.std.specs.Prelude.{IfOk, List, Result, ℕ, ◌<◌, ◌^◌, �
 ghost use Rattle.grammar.specs.Form.{alt, ref};
 ghost use Rattle.grammar.specs.Productions.{optional};
 ghost use Rattle.sql_lex.specs.Lexemes.{lexeme_of};
+ghost use Rattle.sql_read.specs.Copied.{Copied};
 ghost use Rattle.sql_read.specs.Eating.{Extends};
 ghost use Rattle.sql_grammar.specs.Numbering.{each, plain};
 ghost use Rattle.sql_grammar.specs.QueryGrammar as grammar;
@@ -50,6 +51,7 @@ const EXPR_KINDS: [Kind; 16] = [
 #[cycle(read)]
 pub fn primary(alloc: Global, tokens: &mut Tokens<'_>, levels: u8) -> Result<Expr, ReadFault>
     ensures reads { Reads (ref grammar.primary) levels (λ read. read) tokens.old tokens.old result tokens.new }
+    ensures copied { Copied (ref grammar.primary) (λ read. read) tokens.old tokens.old result tokens.new }
     ensures extends { Extends tokens.old tokens.new }
 {
     if let Some(literal) = literal(alloc, tokens)? {
@@ -87,6 +89,7 @@ pub fn literal(alloc: Global, tokens: &mut Tokens<'_>) -> Result<Option<Expr>, N
 #[cycle(read)]
 pub fn named_first(alloc: Global, tokens: &mut Tokens<'_>, levels: u8) -> Result<Expr, ReadFault>
     ensures reads { Reads named_first levels (λ read. read) tokens.old tokens.old result tokens.new }
+    ensures copied { Copied named_first (λ read. read) tokens.old tokens.old result tokens.new }
     ensures extends { Extends tokens.old tokens.new }
 {
     if let Some(word) = tokens.eat(Kind::Quoted) {
@@ -114,6 +117,7 @@ pub fn named_first(alloc: Global, tokens: &mut Tokens<'_>, levels: u8) -> Result
 /// A column with or without a qualifier.
 pub fn reference(alloc: Global, tokens: &mut Tokens<'_>) -> Result<Expr, ReadFault>
     ensures reads { (levels : ℕ) → Reads (ref grammar.reference) levels plain tokens.old tokens.old result tokens.new }
+    ensures copied { Copied (ref grammar.reference) plain tokens.old tokens.old result tokens.new }
     ensures extends { Extends tokens.old tokens.new }
 {
     let word = tokens.expect_any(alloc, &NAME_KINDS)?;
@@ -124,6 +128,7 @@ pub fn reference(alloc: Global, tokens: &mut Tokens<'_>) -> Result<Expr, ReadFau
 fn column(alloc: Global, tokens: &mut Tokens<'_>, word: &Token<'_>) -> Result<Expr, ReadFault>
     requires { word.now.start < 2 ^ 32 }
     ensures reads { (levels : ℕ) → Reads dot_name levels (column_of (lexeme_of word.now)) tokens.old tokens.old result tokens.new }
+    ensures copied { Copied dot_name (column_of (lexeme_of word.now)) tokens.old tokens.old result tokens.new }
     ensures extends { Extends tokens.old tokens.new }
 {
     let Some(_) = tokens.eat(Kind::Dot) else {
@@ -143,6 +148,7 @@ pub fn arguments(
 ) -> Result<Expr, ReadFault>
     requires { word.now.start < 2 ^ 32 }
     ensures reads { Reads arguments levels (λ read. read (lexeme_of word.now)) tokens.old tokens.old result tokens.new }
+    ensures copied { Copied arguments (λ read. read (lexeme_of word.now)) tokens.old tokens.old result tokens.new }
     ensures extends { Extends tokens.old tokens.new }
 {
     tokens.expect_within(alloc, &[Kind::Open], levels)?;
@@ -160,6 +166,7 @@ pub fn arguments(
 #[cycle(read)]
 fn exprs(alloc: Global, tokens: &mut Tokens<'_>, levels: u8) -> Result<List<Expr>, ReadFault>
     ensures reads { Reads (optional (listed (ref grammar.expr))) levels (λ exprs. each (listed_or_none exprs)) tokens.old tokens.old result tokens.new }
+    ensures copied { Copied (optional (listed (ref grammar.expr))) (λ exprs. each (listed_or_none exprs)) tokens.old tokens.old result tokens.new }
     ensures extends { Extends tokens.old tokens.new }
 {
     let mut exprs = List::new(alloc);
@@ -185,6 +192,7 @@ pub fn count_arguments(
 ) -> Result<Expr, ReadFault>
     requires { word.now.start < 2 ^ 32 }
     ensures reads { Reads count_arguments levels (λ read. read (lexeme_of word.now)) tokens.old tokens.old result tokens.new }
+    ensures copied { Copied count_arguments (λ read. read (lexeme_of word.now)) tokens.old tokens.old result tokens.new }
     ensures extends { Extends tokens.old tokens.new }
 {
     tokens.expect_within(alloc, &[Kind::Open], levels)?;
@@ -212,6 +220,7 @@ pub fn aggregate(
 ) -> Result<Expr, ReadFault>
     requires { word.now.start < 2 ^ 32 }
     ensures reads { Reads (parens one_argument) levels (λ read. read (lexeme_of word.now)) tokens.old tokens.old result tokens.new }
+    ensures copied { Copied (parens one_argument) (λ read. read (lexeme_of word.now)) tokens.old tokens.old result tokens.new }
     ensures extends { Extends tokens.old tokens.new }
 {
     tokens.expect_within(alloc, &[Kind::Open], levels)?;
@@ -230,6 +239,7 @@ fn argument(
 ) -> Result<Expr, ReadFault>
     requires { word.now.start < 2 ^ 32 }
     ensures reads { Reads one_argument levels (λ read. read (lexeme_of word.now)) tokens.old tokens.old result tokens.new }
+    ensures copied { Copied one_argument (λ read. read (lexeme_of word.now)) tokens.old tokens.old result tokens.new }
     ensures extends { Extends tokens.old tokens.new }
 {
     let distinct = tokens.eat(Kind::Distinct).is_some();
@@ -258,6 +268,7 @@ fn aggregate_function(word: Kind) -> AggFun
 #[cycle(read)]
 pub fn not_or_exists(alloc: Global, tokens: &mut Tokens<'_>, levels: u8) -> Result<Expr, ReadFault>
     ensures reads { Reads (alt not_neg exists) levels (λ read. read) tokens.old tokens.old result tokens.new }
+    ensures copied { Copied (alt not_neg exists) (λ read. read) tokens.old tokens.old result tokens.new }
     ensures extends { Extends tokens.old tokens.new }
 {
     if let Some(word) = tokens.eat_within(&[Kind::Not], levels)? {

@@ -2,6 +2,7 @@
 ghost use Rattle.std.specs.Prelude.{◌≡◌, [], ◌∷◌};
 ghost use Rattle.grammar.specs.Form.{ref};
 ghost use Rattle.sql_model.specs.declared.tree.Query.{Query};
+ghost use Rattle.sql_read.specs.Copied.{Copied};
 ghost use Rattle.sql_read.specs.Cursor.{Cursor};
 ghost use Rattle.sql_read.specs.Eating.{Extends};
 ghost use Rattle.sql_grammar.specs.Numbering.{Built};
@@ -23,6 +24,7 @@ use std::alloc::Global;
 #[cycle(read)]
 pub fn query(alloc: Global, tokens: &mut Tokens<'_>, levels: u8) -> Result<Query, ReadFault>
     ensures reads { Reads (ref grammar.query) levels (λ read. read) tokens.old tokens.old result tokens.new }
+    ensures copied { Copied (ref grammar.query) (λ read. read) tokens.old tokens.old result tokens.new }
     ensures extends { Extends tokens.old tokens.new }
 {
     let first = part(alloc, tokens, levels)?;
@@ -32,6 +34,7 @@ pub fn query(alloc: Global, tokens: &mut Tokens<'_>, levels: u8) -> Result<Query
 #[cycle(read)]
 fn part(alloc: Global, tokens: &mut Tokens<'_>, levels: u8) -> Result<Query, ReadFault>
     ensures reads { Reads (ref grammar.part) levels (λ read. read) tokens.old tokens.old result tokens.new }
+    ensures copied { Copied (ref grammar.part) (λ read. read) tokens.old tokens.old result tokens.new }
     ensures extends { Extends tokens.old tokens.new }
 {
     let first = operand(alloc, tokens, levels)?;
@@ -41,6 +44,7 @@ fn part(alloc: Global, tokens: &mut Tokens<'_>, levels: u8) -> Result<Query, Rea
 #[cycle(read)]
 fn operand(alloc: Global, tokens: &mut Tokens<'_>, levels: u8) -> Result<Query, ReadFault>
     ensures reads { Reads (ref grammar.operand) levels (λ read. read) tokens.old tokens.old result tokens.new }
+    ensures copied { Copied (ref grammar.operand) (λ read. read) tokens.old tokens.old result tokens.new }
     ensures extends { Extends tokens.old tokens.new }
 {
     match tokens.eat_within(&[Kind::Open], levels)? {
@@ -63,6 +67,8 @@ pub fn set_tail(
 ) -> Result<Query, ReadFault>
     ensures reads { (before : Built Query) (start : Cursor) → Builds before start first tokens.old
         → Reads (ref grammar.set_tail) levels (λ tail. tail before) start tokens.old result tokens.new }
+    ensures copied { (before : Built Query) (start : Cursor) → Builds before start first tokens.old
+        → Copied (ref grammar.set_tail) (λ tail. tail before) start tokens.old result tokens.new }
     ensures extends { Extends tokens.old tokens.new }
 {
     let left = intersects(alloc, tokens, levels, first)?;
@@ -79,6 +85,8 @@ fn intersects(
 ) -> Result<Query, ReadFault>
     ensures reads { (before : Built Query) (start : Cursor) → Builds before start first tokens.old
         → Reads intersects levels (λ more. sets before more) start tokens.old result tokens.new }
+    ensures copied { (before : Built Query) (start : Cursor) → Builds before start first tokens.old
+        → Copied intersects (λ more. sets before more) start tokens.old result tokens.new }
     ensures extends { Extends tokens.old tokens.new }
 {
     let mut left = first;
@@ -101,6 +109,8 @@ fn unions(
 ) -> Result<Query, ReadFault>
     ensures reads { (before : Built Query) (start : Cursor) → Builds before start first tokens.old
         → Reads unions levels (λ more. sets before more) start tokens.old result tokens.new }
+    ensures copied { (before : Built Query) (start : Cursor) → Builds before start first tokens.old
+        → Copied unions (λ more. sets before more) start tokens.old result tokens.new }
     ensures extends { Extends tokens.old tokens.new }
 {
     let mut left = first;

@@ -1,11 +1,14 @@
 //! Tests of values: comparisons, IN, BETWEEN and LIKE.
-ghost use Rattle.std.specs.Prelude.{IfErr, IfOk, List, None, Ok, OnOk, ℕ, ◌+◌, ◌<◌, ◌^◌, ◌≡◌, ◌≢◌};
+ghost use Rattle.std.specs.Prelude.{Err, IfErr, IfOk, List, None, Ok, OnOk, Option, ℕ, ◌+◌, ◌<◌, ◌^◌, ◌≡◌, ◌≢◌};
 ghost use Rattle.grammar.specs.Form.{ref};
 ghost use Rattle.grammar.specs.Productions.{optional};
-ghost use Rattle.sql_read.specs.declared.fault.LimitKind.TheVariants as limit;
-ghost use Rattle.sql_read.specs.declared.fault.ReadFault.TheVariants.{Limit, NoMemory};
+ghost use Rattle.sql_lex.specs.Lexemes.{Lexeme};
+ghost use Rattle.sql_read.specs.declared.fault.ReadFault.TheVariants.{NoMemory};
+ghost use Rattle.sql_read.specs.Copied.{Copied};
 ghost use Rattle.sql_read.specs.Cursor.{Cursor};
-ghost use Rattle.sql_read.specs.Eating.{Copies, Extends, IsBehind, IsMark};
+ghost use Rattle.sql_read.specs.Eating.{Copies, Extends, IsBehind, IsMark, Passes};
+ghost use Rattle.sql_grammar.specs.declared.kinds.Kind.TheVariants as k;
+ghost use Rattle.sql_grammar.specs.Kinds.{same};
 ghost use Rattle.sql_grammar.specs.Numbering.{Built};
 ghost use Rattle.sql_grammar.specs.QueryGrammar as grammar;
 ghost use Rattle.sql_grammar.specs.QueryPlan.{between_values, by_word};
@@ -62,6 +65,7 @@ pub struct Sought {
 #[cycle(read)]
 pub fn test(alloc: Global, tokens: &mut Tokens<'_>, levels: u8) -> Result<Expr, ReadFault>
     ensures reads { Reads (ref grammar.test) levels (λ read. read) tokens.old tokens.old result tokens.new }
+    ensures copied { Copied (ref grammar.test) (λ read. read) tokens.old tokens.old result tokens.new }
     ensures extends { Extends tokens.old tokens.new }
 {
     if let Some(word) = tokens.eat(Kind::Exists) {
@@ -90,6 +94,8 @@ pub fn tested(
     requires { IsBehind start tokens.old }
     ensures reads { (before : Built Expr) (count : ℕ) (began : Cursor) → IsMark start began → IsBuilt before count began left tokens.old
         → Reads (optional (ref grammar.rest)) levels (λ rest. tested (before, count) rest) began tokens.old result tokens.new }
+    ensures copied { (before : Built Expr) (count : ℕ) (began : Cursor) → IsMark start began → IsBuilt before count began left tokens.old
+        → Copied (optional (ref grammar.rest)) (λ rest. tested (before, count) rest) began tokens.old result tokens.new }
     ensures extends { Extends tokens.old tokens.new }
 {
     if !tokens.sees_any(&TEST_KINDS) {
@@ -110,6 +116,8 @@ fn rest(
 ) -> Result<Expr, ReadFault>
     ensures reads { (before : Built Expr) (count : ℕ) (began : Cursor) → weight ≡ trees.weight (before, count) → Builds before began left tokens.old
         → Reads (ref grammar.rest) levels (λ rest. rest (before, count)) began tokens.old result tokens.new }
+    ensures copied { (before : Built Expr) (count : ℕ) (began : Cursor) → weight ≡ trees.weight (before, count) → Builds before began left tokens.old
+        → Copied (ref grammar.rest) (λ rest. rest (before, count)) began tokens.old result tokens.new }
     ensures extends { Extends tokens.old tokens.new }
 {
     if let Some(sign) = tokens.eat_any(&COMPARISONS) {
@@ -134,6 +142,8 @@ fn by_word(
 ) -> Result<Expr, ReadFault>
     ensures reads { (before : Built Expr) (count : ℕ) (began : Cursor) → weight ≡ trees.weight (before, count) → Builds before began left tokens.old
         → Reads by_word levels (λ read. read None (before, count)) began tokens.old result tokens.new }
+    ensures copied { (word : Option Lexeme) (before : Built Expr) (count : ℕ) (began : Cursor) → weight ≡ trees.weight (before, count) → Builds before began left tokens.old
+        → Copied by_word (λ read. read word (before, count)) began tokens.old result tokens.new }
     ensures extends { Extends tokens.old tokens.new }
 {
     if let Some(word) = tokens.eat(Kind::In) {
@@ -166,6 +176,9 @@ fn bounds(
 ) -> Result<Expr, ReadFault>
     ensures reads { (before : Built Expr) (count : ℕ) (began : Cursor) → weight ≡ trees.weight (before, count) → Builds before began left tokens.old
         → Reads between_values levels (λ read. trees.between None read.0 read.1 (before, count)) began tokens.old result tokens.new }
+    ensures copied { (word : Option Lexeme) (before : Built Expr) (count : ℕ) (began at : Cursor) (between : Lexeme) → weight ≡ trees.weight (before, count)
+        → Builds before began left tokens.old → Passes (same k.Between) at between tokens.old
+        → Copied by_word (λ read. read word (before, count)) began at result tokens.new }
     ensures extends { Extends tokens.old tokens.new }
 {
     tokens.add_copy(weight)?;
@@ -185,7 +198,7 @@ fn compared_copy(
 ) -> Result<Expr, ReadFault>
     ensures compared { IfOk result (λ equal. equal ≡ an_expr.Eq sought.now.value member (trees.place sought.now.value)) }
     ensures counted { OnOk result (Copies sought.now.weight tokens.old (Ok tt) tokens.new) }
-    ensures refused { IfErr result (λ fault. (fault ≢ NoMemory) → fault ≡ Limit limit.Copies) }
+    ensures refused { IfErr result (λ fault. (fault ≢ NoMemory) → Copies sought.now.weight tokens.old (Err fault) tokens.new) }
     ensures extends { Extends tokens.old tokens.new }
 {
     tokens.add_copy(sought.weight)?;
@@ -205,6 +218,9 @@ pub fn members(
     ensures reads { (before member : Built Expr) (count : ℕ) (began middle : Cursor) → sought.weight ≡ trees.weight (before, count)
         → Builds before began sought.value middle → Builds member middle first tokens.old
         → Reads grammar.commas levels (λ others. trees.in_list None (member, others) (before, count)) began tokens.old result tokens.new }
+    ensures copied { (before member : Built Expr) (count : ℕ) (began middle : Cursor) → sought.weight ≡ trees.weight (before, count)
+        → Builds before began sought.value middle → Builds member middle first tokens.old
+        → Copied grammar.commas (λ others. trees.in_list None (member, others) (before, count)) began tokens.old result tokens.new }
     ensures extends { Extends tokens.old tokens.new }
 {
     let at = place_of(&sought.value);

@@ -1,20 +1,35 @@
-use Rattle.std.proofs.Common.{refl, arith, Some, None, ap, ◌∙◌, ◌+◌, ◌-◌, ◌<◌, [], ◌∷◌, ◌++◌, inl, inr, sym, ◌≡◌, ◌*◌, ◌≤◌, ℕ, true, false, List, length, Ok, Err}
-use Rattle.sql_grammar.specs.QueryGrammar.{query, part, set_tail, item}
-use Rattle.sql_read.proofs.Extending.{◌⨟◌, extends_itself, extends_misses, extends_overflows, extends_passes, extends_shorter, extends_stays, extends_within, shorter, extends_still, passes_shorter}
+use Rattle.std.proofs.Common.{refl, arith, Some, None, ap, ◌∙◌, ◌+◌, ◌<◌, [], ◌∷◌, ◌++◌, inl, inr, sym, ◌≡◌, ◌*◌, true, false}
+use Rattle.sql_read.proofs.ReadCopies.{copied_for_memory, at_start, copied_exit, copied_in, copied_missed, copied_overflow, on_first, on_mapped, on_nested, on_one, on_other, on_passed, on_production, on_second, starting_at}
+use Rattle.sql_read.proofs.ReadCopiedChains.{operator_copied, part_copied, right_copied, separator_copied}
+use Rattle.sql_read.proofs.ReadCopiedExprs.{behind_operators, fill_chain, fill_minus, on_operators, on_products}
+use Rattle.sql_grammar.proofs.QueryFillings.{fill_neg, fill_absent, fill_in_inner, fill_parens, fill_query, fill_and_tail, fill_empty, fill_set_tail, fill_none, fill_operand, fill_token, symbol}
+use Rattle.sql_grammar.specs.QueryGrammar.{listed, next_and, next_or, next_product, next_sum, next_comma, next_intersect, next_union, operand, query, part, set_tail, item}
+use Rattle.sql_read.proofs.ReadCopiedParens.{at_close, copied_over, copied_unopened, going_there, in_parens}
+use Rattle.sql_read.proofs.ReadCopiedSteps.{on_counted, on_behind_other, on_still}
+use Rattle.sql_read.proofs.ReadCopiedTests.{between_over, comma_copied, copy_refused, in_price, member_copied, on_bounds}
+use Rattle.sql_grammar.proofs.CopySteps.{fill_high, fill_like}
+use Rattle.sql_read.proofs.ReadCopiedPrimaries.{fill_count, fill_named, fill_not, fill_one_argument}
+use Rattle.sql_read.proofs.ReadCopiedInsides.{closed_price, enclosed_price, fill_group, group_price, in_closed_price, in_inner_group, inner_group, listed_price, on_behind_first, on_plain, some_expr_tail, some_set_tail}
+use Rattle.sql_read.proofs.ReadCopiedLists.{copied_at_comma, copied_in_first, copied_in_member, copied_at_item, copied_at_word, copied_in_entry, copied_in_first_item, copied_in_item, copied_in_join, copied_in_operand}
+use Rattle.sql_read.proofs.ReadCalls.{tokens_numbered, called_named, called_starred, count_named, count_starred, others_named, others_starred, parens_opened, parens_unopened, quoted_named, quoted_starred, left_there}
+use Rattle.sql_read.proofs.ReadLists.{taken_from, extends_copied, extends_uncopied, gives_as, listed_alone, listed_several, listing, listing_as, one_listed, refused_by, refused_copy, tokens_copied, too_many_copies}
+use Rattle.sql_read.proofs.ReadCopiedBlocks.{copied_at_from, copied_at_select, copied_in_condition, copied_in_froms, copied_in_groups, copied_in_having, copied_in_items, copied_in_where}
+use Rattle.sql_read.proofs.ReadCopiedEntries.{copied_as_table, copied_at_alias, copied_at_close, copied_at_cross, copied_at_join, copied_at_on, copied_in_crossed, copied_in_inside, copied_in_joined, copied_in_on, copied_to_entry, copied_too_deep}
+use Rattle.sql_read.proofs.ReadCopiedItems.{behind_called, behind_count, behind_other, called_copies, copied_as_column, copied_as_named, copied_at_name, copied_behind_first, copied_behind_not, copied_behind_quoted, copied_behind_tail, copied_in_call, copied_in_name, copied_in_not, copied_in_star, copied_in_tail, copied_in_value, count_copies, first_going, other_copies}
+use Rattle.sql_read.proofs.Extending.{◌⨟◌, extends_itself, extends_misses, extends_overflows, extends_passes, extends_shorter, extends_stays, extends_within, shorter, passes_shorter}
 use Rattle.sql_read.specs.Eating.{IsBehind}
 use Rattle.sql_read.proofs.ReadOperands.{operand_block, operand_opened, operand_too_deep}
 use Rattle.sql_read.proofs.ReadPassing.{alike_stays, alike_within, built_from, handed_on, reads_from, ◌then◌, alike_passes, overflows_alone, stays_alone, within_alone, first_next, opened, other_stays, other_unless, overflows, unopened_alone, first_unless, misses, other_next, built_counted, built_until, took_counted}
 use Rattle.sql_read.proofs.ReadSets.{begins_intersect, begins_union, combined_end, combining, intersect_read, one_combined, operand_refused, word_refused, collected, collecting, comma_refused, first_refused, member_refused, one_collected}
 use Rattle.sql_read.proofs.ReadSteps.{before, blocks, exits, first_part, gives, mapped, missed, production, refuses, second, took_token, whole, built_as, built_map, none_taken, plain_still, behind, exits_for_memory, next_there, by_token, eaten, plain_here, starts, built_both}
 use Rattle.sql_grammar.specs.QueryTrees.{block_node, and_node, chained, operated, operator, or_node, place, aggregate, is_given, compared, entry_of}
-use Rattle.sql_grammar.specs.Kinds.{same, kind_of, among}
+use Rattle.sql_grammar.specs.Kinds.{same, kind_of}
 use Rattle.sql_read.proofs.ReadBlocks.{alike_columns, alike_eats, block_built, block_left, built_columns, extends_eats, from_missed, froms_part, froms_refused, froms_taken, items_part, seen, seen_given, select_missed, token_if_any, condition_refused, condition_taken}
 use Rattle.grammar.specs.Form.{ref}
 use Rattle.sql_lex.specs.Lexemes.{lexeme_of}
 use Rattle.sql_read.proofs.ReadLoops.{extends_unopened, takes, counted_part}
 use Rattle.sql_read.proofs.ReadChains.{chained_end, chaining, chaining_as, none_chained, one_chained, one_operated, right_refused, operated_end, operating, operator_refused, part_refused, separator_refused}
 use Rattle.sql_read.proofs.ReadExprs.{behind_on, counted_on, operating_as, operators_refused, operators_taken}
-use Rattle.sql_read.proofs.ReadCalls.{called_named, called_starred, count_named, count_starred, others_named, others_starred, parens_opened, parens_unopened, quoted_named, quoted_starred, left_there}
 use Rattle.sql_read.proofs.ReadGoingOn.{arguments_left, built_call, built_value, gives_from, gives_on, goes_on, is_behind, item_left, item_named, goes_on_by_and, item_name_refused, item_tail_refused, named_item_read, no_name, not_begun, not_begun_by_and, star_item_read}
 use Rattle.sql_read.proofs.ReadPrimaries.{argument_left, exists_left, exists_opened, exists_parens, item_by_word, item_enclosed, item_going_on, item_literal, item_minus, lacks_stays, literal_next, not_opened, not_refused, plain_by_word, plain_going_on, plain_literal, plain_minus, plain_named, primary_enclosed, primary_literal, primary_named, star_taken}
 use Rattle.sql_read.proofs.ReadExprKinds.{exprs_refused, no_exprs, some_exprs}
@@ -22,7 +37,6 @@ use Rattle.sql_read.proofs.ReadBegins.{expr_tail_begins, set_kinds, set_tail_beg
 use Rattle.sql_read.proofs.ReadInner.{built_sub, inner_expr, inner_left, inner_query, inner_refused, inner_select, nothing_follows, parenthesis_opened, set_follows, some_part, tail_follows, tail_refused}
 use Rattle.sql_read.proofs.ReadInsides.{built_enclosed, built_group, expr_read, query_read, takes_nothing, takes_some}
 use Rattle.sql_read.proofs.ReadInInner.{built_in_query, commas_follow, in_expr, in_expr_left, in_query_left, in_refused, in_select, in_set_follows, in_tail_follows, more_listed, no_commas}
-use Rattle.sql_read.proofs.ReadLists.{extends_copied, extends_uncopied, gives_as, listed_alone, listed_several, listing, listing_as, one_listed, refused_by, refused_copy, tokens_copied, too_many_copies}
 use Rattle.sql_read.proofs.ReadTests.{built_between, built_negated, rest_begins, stays_here, test_kinds, weight_of}
 use Rattle.sql_grammar.specs.Numbering.{plain}
 use Rattle.sql_read.proofs.ReadEntryLists.{entry_halts}
@@ -2410,7 +2424,7 @@ test::members-overflow_sub-room t c = let comma = rw c.in-Some.is at c.in_ok-eat
 
 pub test::members-returns-in_err-compared_copy-clause-reads : goal.test::members-returns-in_err-compared_copy-clause-reads
 test::members-returns-in_err-compared_copy-clause-reads t c = λ before member count began middle weighs value built.
-    exits c.from_residual-in_err-compared_copy.ensures.1 (refused_copy _ c.in_err-compared_copy.ensures.refused)
+    exits c.from_residual-in_err-compared_copy.ensures.1 (lists.copy_too_many refl (c.more.invariant.chain before member began middle value built) refl _ (within_alone k.Comma (rw c.in-Some.is at c.in_ok-eat_within.ensures)) c.in_err-compared_copy.ensures.refused)
 
 pub test::members-returns-in_err-compared_copy-clause-extends : goal.test::members-returns-in_err-compared_copy-clause-extends
 test::members-returns-in_err-compared_copy-clause-extends t c = let comma = within_alone k.Comma (rw c.in-Some.is at c.in_ok-eat_within.ensures) in c.more.invariant.extends ⨟ extends_within comma ⨟ c.in_err-compared_copy.ensures.extends
@@ -2806,3 +2820,1028 @@ entry::joined_entry-returns-clause-fewer t c =
 pub entry::joined_entry-returns-clause-extends : goal.entry::joined_entry-returns-clause-extends
 entry::joined_entry-returns-clause-extends t c =
     let none = c.in_default.ensures in let inner = c.eat-inner.ensures in let join = c.in_ok-expect-2.ensures in let listed = c.in_ok-listed-2.ensures in let on = c.in_ok-expect-3.ensures in extends_stays none ⨟ extends_eats (same k.Inner) _ _ c.eat-inner.result inner ⨟ extends_passes join ⨟ listed.extends ⨟ extends_passes on ⨟ c.in_ok-on.ensures.extends
+
+-- ---- what was copied where queries are refused
+
+pub query::query-returns-in_err-first-clause-copied : goal.query::query-returns-in_err-first-clause-copied
+query::query-returns-in_err-first-clause-copied t c =
+    copied_exit c.from_residual.ensures.1 (on_first (on_mapped (on_production query at_start)) (fill_none (Some 63) next_union)) (λ v. refl) c.in_err-first.ensures.copied.answers
+
+pub query::query-returns-clause-copied : goal.query::query-returns-clause-copied
+query::query-returns-clause-copied t c =
+    let first = c.in_ok-first.ensures.reads.answers in
+    copied_in (on_second (on_mapped (on_production query at_start)) first.takes) (λ v. refl) (c.unions.ensures.copied first.read c.args.tokens.now first.builds)
+
+pub query::part-returns-in_err-first-clause-copied : goal.query::part-returns-in_err-first-clause-copied
+query::part-returns-in_err-first-clause-copied t c =
+    copied_exit c.from_residual.ensures.1 (on_first (on_mapped (on_production part at_start)) (fill_none (Some 63) next_intersect)) (λ v. refl) c.in_err-first.ensures.copied.answers
+
+pub query::part-returns-clause-copied : goal.query::part-returns-clause-copied
+query::part-returns-clause-copied t c =
+    let first = c.in_ok-first.ensures.reads.answers in
+    copied_in (on_second (on_mapped (on_production part at_start)) first.takes) (λ v. refl) (c.intersects.ensures.copied first.read c.args.tokens.now first.builds)
+
+pub query::operand-returns-in_err-eat_within-clause-copied : goal.query::operand-returns-in_err-eat_within-clause-copied
+query::operand-returns-in_err-eat_within-clause-copied t c = copied_overflow c.from_residual.ensures.1 c.in_err-eat_within.ensures at_start fill_operand (omega arith)
+
+pub query::operand-returns-in_err-expect-in-Some-clause-copied : goal.query::operand-returns-in_err-expect-in-Some-clause-copied
+query::operand-returns-in_err-expect-in-Some-clause-copied t c =
+    let q = within_alone k.Open (rw c.in-Some.is at c.in_ok-eat_within.ensures) in
+    let inside = c.in_ok-inside-in-Some.ensures.reads.answers in
+    copied_missed c.from_residual-in_err-expect-in-Some.ensures.1 c.in_err-expect-in-Some.ensures
+    (on_second (on_mapped (on_passed (on_nested (on_mapped (on_other (on_production operand at_start)))) q.passes)) inside.takes) (fill_token k.Close (symbol 41) refl refl)
+    (inside.builds.copies ∙ ap (λ z. z.copies + inside.read.copies) q.passes.moved)
+
+pub query::operand-returns-in-None-clause-copied : goal.query::operand-returns-in-None-clause-copied
+query::operand-returns-in-None-clause-copied t c =
+    let q = rw c.in-None.is at c.in_ok-eat_within.ensures in
+    copied_in (on_one (on_production operand (starting_at q.still))) (λ v. ap (λ z. z.copies + v.copies) (sym q.still)) c.block.ensures.copied
+
+pub query::operand-returns-in_err-inside-in-Some-clause-copied : goal.query::operand-returns-in_err-inside-in-Some-clause-copied
+query::operand-returns-in_err-inside-in-Some-clause-copied t c =
+    let q = within_alone k.Open (rw c.in-Some.is at c.in_ok-eat_within.ensures) in
+    copied_exit c.from_residual-in_err-inside-in-Some.ensures.1
+    (on_first (on_mapped (on_passed (on_nested (on_mapped (on_other (on_production operand at_start)))) q.passes)) (fill_token k.Close (symbol 41) refl refl))
+    (λ v. ap (λ z. z.copies + v.copies) (sym q.passes.moved)) c.in_err-inside-in-Some.ensures.copied.answers
+
+pub query::intersects-returns-in_err-word-clause-copied : goal.query::intersects-returns-in_err-word-clause-copied
+query::intersects-returns-in_err-word-clause-copied t c = λ before start b. copied_at_word (c.more.invariant.chain before start b) c.from_residual.ensures.1 c.in_err-word.ensures
+
+pub query::intersects-returns-in_err-right-clause-copied : goal.query::intersects-returns-in_err-right-clause-copied
+query::intersects-returns-in_err-right-clause-copied t c = λ before start b.
+    let q = rw c.in-Some.is at c.in_ok-word.ensures in
+    copied_in_operand (c.more.invariant.chain before start b) c.from_residual-in_err-right.ensures.1 (intersect_read q) c.in_err-right.ensures.copied.answers
+
+pub query::unions-returns-in_err-op-clause-copied : goal.query::unions-returns-in_err-op-clause-copied
+query::unions-returns-in_err-op-clause-copied t c = λ before start b. copied_at_word (c.more.invariant.chain before start b) c.from_residual.ensures.1 c.in_err-op.ensures.word
+
+pub query::unions-returns-in_err-right-clause-copied : goal.query::unions-returns-in_err-right-clause-copied
+query::unions-returns-in_err-right-clause-copied t c = λ before start b.
+    let q = rw c.in-Some.is at c.in_ok-op.ensures.word in
+    copied_in_operand (c.more.invariant.chain before start b) c.from_residual-in_err-right.ensures.1 q c.in_err-right.ensures.copied.answers
+
+pub query::set_tail-returns-in_err-left-clause-copied : goal.query::set_tail-returns-in_err-left-clause-copied
+query::set_tail-returns-in_err-left-clause-copied t c = λ before start b.
+    copied_exit c.from_residual.ensures.1 (on_first (on_mapped (on_production set_tail at_start)) (fill_none (Some 63) next_union)) (λ v. refl) (c.in_err-left.ensures.copied before start b).answers
+
+pub query::set_tail-returns-clause-copied : goal.query::set_tail-returns-clause-copied
+query::set_tail-returns-clause-copied t c = λ before start b.
+    let left = (c.in_ok-left.ensures.reads before start b).answers in
+    copied_in (on_second (on_mapped (on_production set_tail at_start)) left.takes) (λ v. refl) (c.unions.ensures.copied _ start left.builds)
+
+-- ---- what was copied where blocks are refused
+
+pub block::block-returns-in_err-expect-clause-copied : goal.block::block-returns-in_err-expect-clause-copied
+block::block-returns-in_err-expect-clause-copied t c = copied_at_select c.from_residual.ensures.1 c.in_err-expect.ensures
+
+pub block::block-returns-in_err-items-clause-copied : goal.block::block-returns-in_err-items-clause-copied
+block::block-returns-in_err-items-clause-copied t c =
+    copied_in_items _ c.eat.result c.in_ok-expect.ensures c.eat.ensures c.from_residual-in_err-items.ensures.1 c.in_err-items.ensures.copied.answers
+
+pub block::block-returns-in_err-expect-2-clause-copied : goal.block::block-returns-in_err-expect-2-clause-copied
+block::block-returns-in_err-expect-2-clause-copied t c =
+    let items = c.in_ok-items.ensures.reads.answers in
+    copied_at_from _ c.eat.result c.in_ok-expect.ensures c.eat.ensures items.takes items.builds c.from_residual-in_err-expect-2.ensures.1 c.in_err-expect-2.ensures
+
+pub block::block-returns-in_err-entries-clause-copied : goal.block::block-returns-in_err-entries-clause-copied
+block::block-returns-in_err-entries-clause-copied t c =
+    let items = c.in_ok-items.ensures.reads.answers in
+    copied_in_froms _ c.eat.result c.in_ok-expect.ensures c.eat.ensures items.takes items.builds c.in_ok-expect-2.ensures c.from_residual-in_err-entries.ensures.1 c.in_err-entries.ensures.copied.answers
+
+pub block::block-returns-in_err-cond-clause-copied : goal.block::block-returns-in_err-cond-clause-copied
+block::block-returns-in_err-cond-clause-copied t c =
+    let items = c.in_ok-items.ensures.reads.answers in
+    let entries = c.in_ok-entries.ensures.reads.answers in
+    copied_in_where _ c.eat.result c.in_ok-expect.ensures c.eat.ensures items.takes items.builds c.in_ok-expect-2.ensures entries.takes entries.builds
+    c.from_residual-in_err-cond.ensures.1 c.in_err-cond.ensures.copied.answers
+
+pub block::block-returns-in_err-groups-clause-copied : goal.block::block-returns-in_err-groups-clause-copied
+block::block-returns-in_err-groups-clause-copied t c =
+    let items = c.in_ok-items.ensures.reads.answers in
+    let entries = c.in_ok-entries.ensures.reads.answers in
+    let cond = c.in_ok-cond.ensures.reads.answers in
+    copied_in_groups _ c.eat.result c.in_ok-expect.ensures c.eat.ensures items.takes items.builds c.in_ok-expect-2.ensures entries.takes entries.builds cond.takes cond.builds
+    c.from_residual-in_err-groups.ensures.1 c.in_err-groups.ensures.copied.answers
+
+pub block::block-returns-in_err-having-clause-copied : goal.block::block-returns-in_err-having-clause-copied
+block::block-returns-in_err-having-clause-copied t c =
+    let items = c.in_ok-items.ensures.reads.answers in
+    let entries = c.in_ok-entries.ensures.reads.answers in
+    let cond = c.in_ok-cond.ensures.reads.answers in
+    let groups = (c.in_ok-groups.ensures.reads c.args.levels).answers in
+    copied_in_having _ c.eat.result c.in_ok-expect.ensures c.eat.ensures items.takes items.builds c.in_ok-expect-2.ensures entries.takes entries.builds cond.takes cond.builds groups.takes groups.builds
+    c.from_residual-in_err-having.ensures.1 c.in_err-having.ensures.copied.answers
+
+pub block::items-returns-in_err-first-clause-copied : goal.block::items-returns-in_err-first-clause-copied
+block::items-returns-in_err-first-clause-copied t c = copied_in_first (same k.Comma) (ref item) c.from_residual.ensures.1 c.in_err-first.ensures.copied.answers
+
+pub block::items-returns-in_err-eat_within-clause-copied : goal.block::items-returns-in_err-eat_within-clause-copied
+block::items-returns-in_err-eat_within-clause-copied t c =
+    copied_at_comma (same k.Comma) (ref item) c.from_residual-in_err-eat_within.ensures.1 c.more.invariant.list (overflows_alone k.Comma c.in_err-eat_within.ensures)
+
+pub block::items-returns-in_err-next-clause-copied : goal.block::items-returns-in_err-next-clause-copied
+block::items-returns-in_err-next-clause-copied t c =
+    let q = within_alone k.Comma (rw c.in-Some.is at c.in_ok-eat_within.ensures) in
+    copied_in_member (same k.Comma) (ref item) c.from_residual-in_err-next.ensures.1 c.more.invariant.list q c.in_err-next.ensures.copied.answers
+
+pub block::filter-returns-in_err-expr-in-Some-clause-copied : goal.block::filter-returns-in_err-expr-in-Some-clause-copied
+block::filter-returns-in_err-expr-in-Some-clause-copied t c = copied_in_condition k.Where c.from_residual.ensures.1 c.in-Some.ensures c.in_err-expr-in-Some.ensures.copied.answers
+
+pub block::having-returns-in_err-expr-in-Some-clause-copied : goal.block::having-returns-in_err-expr-in-Some-clause-copied
+block::having-returns-in_err-expr-in-Some-clause-copied t c = copied_in_condition k.Having c.from_residual.ensures.1 c.in-Some.ensures c.in_err-expr-in-Some.ensures.copied.answers
+
+-- ---- what was copied where entries are refused
+
+pub entry::entry-returns-in_err-allow_entry-clause-copied : goal.entry::entry-returns-in_err-allow_entry-clause-copied
+entry::entry-returns-in_err-allow_entry-clause-copied t c = copied_to_entry c.from_residual.ensures.1 c.args.levels c.args.count c.args.tokens.now.tokens c.in_err-allow_entry.ensures
+
+pub entry::entry-returns-in_err-eat_within-clause-copied : goal.entry::entry-returns-in_err-eat_within-clause-copied
+entry::entry-returns-in_err-eat_within-clause-copied t c = copied_too_deep c.from_residual-in_err-eat_within.ensures.1 c.in_err-eat_within.ensures
+
+pub entry::entry-returns-in_default-clause-copied : goal.entry::entry-returns-in_default-clause-copied
+entry::entry-returns-in_default-clause-copied t c = let q = rw c.in_default.is at c.in_ok-eat_within.ensures in copied_as_table q c.table_entry.ensures.copied
+
+pub entry::entry-returns-in_err-inside-clause-copied : goal.entry::entry-returns-in_err-inside-clause-copied
+entry::entry-returns-in_err-inside-clause-copied t c =
+    let q = rw c.in-Some.is at c.in_ok-eat_within.ensures in copied_in_inside q c.from_residual-in_err-inside.ensures.1 c.in_err-inside.ensures.copied.answers
+
+pub entry::entry-returns-in_err-expect-clause-copied : goal.entry::entry-returns-in_err-expect-clause-copied
+entry::entry-returns-in_err-expect-clause-copied t c =
+    let q = rw c.in-Some.is at c.in_ok-eat_within.ensures in
+    let inside = c.in_ok-inside.ensures.reads.answers in
+    copied_at_close q inside.takes inside.builds c.from_residual-in_err-expect.ensures.1 c.in_err-expect.ensures
+
+pub entry::entry-returns-in_err-alias-clause-copied : goal.entry::entry-returns-in_err-alias-clause-copied
+entry::entry-returns-in_err-alias-clause-copied t c =
+    let q = rw c.in-Some.is at c.in_ok-eat_within.ensures in
+    let inside = c.in_ok-inside.ensures.reads.answers in
+    copied_at_alias q inside.takes inside.builds c.in_ok-expect.ensures c.from_residual-in_err-alias.ensures.1 c.in_err-alias.ensures.copied.answers
+
+pub entry::from-returns-in_err-first-clause-copied : goal.entry::from-returns-in_err-first-clause-copied
+entry::from-returns-in_err-first-clause-copied t c = λ built start b. copied_in_entry c.from_residual.ensures.1 b c.in_err-first.ensures.copied.answers
+
+pub entry::from-returns-in_err-next-clause-copied : goal.entry::from-returns-in_err-next-clause-copied
+entry::from-returns-in_err-next-clause-copied t c = λ built start b.
+    copied_in_join c.from_residual-in_err-next.ensures.1 (c.joins.invariant.item built start b) c.in_err-next.ensures.copied.answers
+
+pub entry::entries-returns-in_err-first-clause-copied : goal.entry::entries-returns-in_err-first-clause-copied
+entry::entries-returns-in_err-first-clause-copied t c =
+    copied_in_first_item c.from_residual.ensures.1 (c.in_err-first.ensures.copied (plain []) c.args.tokens.now (rw c.new.ensures plain_here)).answers
+
+pub entry::entries-returns-in_err-eat_within-clause-copied : goal.entry::entries-returns-in_err-eat_within-clause-copied
+entry::entries-returns-in_err-eat_within-clause-copied t c = copied_at_item c.from_residual-in_err-eat_within.ensures.1 c.items.invariant.list (overflows_alone k.Comma c.in_err-eat_within.ensures)
+
+pub entry::entries-returns-in_err-more-clause-copied : goal.entry::entries-returns-in_err-more-clause-copied
+entry::entries-returns-in_err-more-clause-copied t c =
+    let q = within_alone k.Comma (rw c.in-Some.is at c.in_ok-eat_within.ensures) in
+    copied_in_item c.from_residual-in_err-more.ensures.1 c.items.invariant.list q (c.in_err-more.ensures.copied _ _ (built_until c.items.invariant.list.builds (alike_within q))).answers
+
+pub entry::joined_entry-returns-in_err-expect-clause-copied : goal.entry::joined_entry-returns-in_err-expect-clause-copied
+entry::joined_entry-returns-in_err-expect-clause-copied t c = copied_at_cross c.in-Some.ensures c.from_residual.ensures.1 c.in_err-expect.ensures
+
+pub entry::joined_entry-returns-in_err-listed-clause-copied : goal.entry::joined_entry-returns-in_err-listed-clause-copied
+entry::joined_entry-returns-in_err-listed-clause-copied t c =
+    copied_in_crossed c.in-Some.ensures c.in_ok-expect.ensures c.from_residual-in_err-listed.ensures.1 c.in_err-listed.ensures.copied.answers
+
+pub entry::joined_entry-returns-in_err-expect-2-clause-copied : goal.entry::joined_entry-returns-in_err-expect-2-clause-copied
+entry::joined_entry-returns-in_err-expect-2-clause-copied t c =
+    copied_at_join _ c.eat-inner.result c.in_default.ensures c.eat-inner.ensures c.from_residual-in_err-expect-2.ensures.1 c.in_err-expect-2.ensures
+
+pub entry::joined_entry-returns-in_err-listed-2-clause-copied : goal.entry::joined_entry-returns-in_err-listed-2-clause-copied
+entry::joined_entry-returns-in_err-listed-2-clause-copied t c =
+    copied_in_joined _ c.eat-inner.result c.in_default.ensures c.eat-inner.ensures c.in_ok-expect-2.ensures c.from_residual-in_err-listed-2.ensures.1 c.in_err-listed-2.ensures.copied.answers
+
+pub entry::joined_entry-returns-in_err-expect-3-clause-copied : goal.entry::joined_entry-returns-in_err-expect-3-clause-copied
+entry::joined_entry-returns-in_err-expect-3-clause-copied t c =
+    let listed = c.in_ok-listed-2.ensures.reads.answers in
+    copied_at_on _ c.eat-inner.result c.in_default.ensures c.eat-inner.ensures c.in_ok-expect-2.ensures listed.takes listed.builds.copies c.from_residual-in_err-expect-3.ensures.1
+    c.in_err-expect-3.ensures
+
+pub entry::joined_entry-returns-in_err-on-clause-copied : goal.entry::joined_entry-returns-in_err-on-clause-copied
+entry::joined_entry-returns-in_err-on-clause-copied t c =
+    let listed = c.in_ok-listed-2.ensures.reads.answers in
+    copied_in_on _ c.eat-inner.result c.in_default.ensures c.eat-inner.ensures c.in_ok-expect-2.ensures listed.takes listed.builds.copies c.in_ok-expect-3.ensures
+    c.from_residual-in_err-on.ensures.1 c.in_err-on.ensures.copied.answers
+
+-- ---- what was copied where items are refused
+
+pub item::item-returns-then-sees_any-clause-copied : goal.item::item-returns-then-sees_any-clause-copied
+item::item-returns-then-sees_any-clause-copied t c = copied_as_named c.in_default.ensures c.named_item.ensures.copied
+
+pub item::item-returns-in_err-expr-clause-copied : goal.item::item-returns-in_err-expr-clause-copied
+item::item-returns-in_err-expr-clause-copied t c = copied_in_value c.in_default.ensures c.from_residual.ensures.1 c.in_err-expr.ensures.copied.answers
+
+pub item::item-returns-in_err-name-clause-copied : goal.item::item-returns-in_err-name-clause-copied
+item::item-returns-in_err-name-clause-copied t c =
+    let value = c.in_ok-expr.ensures.reads.answers in
+    copied_in_name c.in_default.ensures c.from_residual-in_err-name.ensures.1 value.takes value.builds c.in_err-name.ensures.copied.answers
+
+pub item::named_item-returns-in_err-item-clause-copied : goal.item::named_item-returns-in_err-item-clause-copied
+item::named_item-returns-in_err-item-clause-copied t c = copied_in_star _ c.from_residual.ensures.1 c.in_err-item.ensures.copied.answers
+
+pub item::named_item-returns-in_err-expr-clause-copied : goal.item::named_item-returns-in_err-expr-clause-copied
+item::named_item-returns-in_err-expr-clause-copied t c =
+    let first = rw c.in-First.is at c.in_ok-item.ensures.reads in
+    copied_in_tail c.in_ok-item.ensures.extends first.answers (c.mark-start.ensures.passed, c.mark-start.ensures.copies) c.from_residual-in_err-expr.ensures.1 c.in_err-expr.ensures.copied
+
+pub item::named_item-returns-in_err-name-clause-copied : goal.item::named_item-returns-in_err-name-clause-copied
+item::named_item-returns-in_err-name-clause-copied t c =
+    let first = rw c.in-First.is at c.in_ok-item.ensures.reads in
+    copied_behind_tail c.in_ok-item.ensures.extends first.answers (c.mark-start.ensures.passed, c.mark-start.ensures.copies) c.in_ok-expr.ensures.reads c.from_residual-in_err-name.ensures.1
+    c.in_err-name.ensures.copied.answers
+
+pub item::name_or_star-returns-in-Some-clause-copied : goal.item::name_or_star-returns-in-Some-clause-copied
+item::name_or_star-returns-in-Some-clause-copied t c = copied_behind_quoted c.in-Some.ensures c.column_or_star.ensures.copied
+
+pub item::name_or_star-returns-in_err-arguments-clause-copied : goal.item::name_or_star-returns-in_err-arguments-clause-copied
+item::name_or_star-returns-in_err-arguments-clause-copied t c =
+    let s = c.in_default.ensures in let word = c.in-Some-eat_any.ensures in
+    copied_in_call (behind_called s word) (called_copies s word) c.from_residual.ensures.1 c.in_err-arguments.ensures.copied.answers
+
+pub item::name_or_star-returns-in-Some-eat_any-clause-copied : goal.item::name_or_star-returns-in-Some-eat_any-clause-copied
+item::name_or_star-returns-in-Some-eat_any-clause-copied t c =
+    let s = c.in_default.ensures in let word = c.in-Some-eat_any.ensures in
+    copied_as_column (behind_called s word) (called_copies s word) c.column_or_star-in-Some-eat_any.ensures.copied
+
+pub item::name_or_star-returns-in_err-call-clause-copied : goal.item::name_or_star-returns-in_err-call-clause-copied
+item::name_or_star-returns-in_err-call-clause-copied t c =
+    let s = c.in_default.ensures in let u = c.in_default-eat_any.ensures in let word = c.in-Some-eat.ensures in
+    copied_in_call (behind_count s u word) (count_copies s u word) c.from_residual-in_err-call.ensures.1 c.in_err-call.ensures.copied.answers
+
+pub item::name_or_star-returns-in-Some-eat-clause-copied : goal.item::name_or_star-returns-in-Some-eat-clause-copied
+item::name_or_star-returns-in-Some-eat-clause-copied t c =
+    let s = c.in_default.ensures in let u = c.in_default-eat_any.ensures in let word = c.in-Some-eat.ensures in
+    copied_as_column (behind_count s u word) (count_copies s u word) c.column_or_star-in-Some-eat.ensures.copied
+
+pub item::name_or_star-returns-in_err-word-clause-copied : goal.item::name_or_star-returns-in_err-word-clause-copied
+item::name_or_star-returns-in_err-word-clause-copied t c =
+    copied_at_name c.in_default.ensures c.in_default-eat_any.ensures c.in_default-eat.ensures c.from_residual-in_err-word.ensures.1 c.in_err-word.ensures
+
+pub item::name_or_star-returns-in_err-aggregate-clause-copied : goal.item::name_or_star-returns-in_err-aggregate-clause-copied
+item::name_or_star-returns-in_err-aggregate-clause-copied t c =
+    let s = c.in_default.ensures in let u = c.in_default-eat_any.ensures in let w = c.in_default-eat.ensures in let word = c.in_ok-word.ensures in
+    copied_in_call (behind_other s u w word) (other_copies s u w word) c.from_residual-in_err-aggregate.ensures.1 c.in_err-aggregate.ensures.copied.answers
+
+pub item::name_or_star-returns-clause-copied : goal.item::name_or_star-returns-clause-copied
+item::name_or_star-returns-clause-copied t c =
+    let s = c.in_default.ensures in let u = c.in_default-eat_any.ensures in let w = c.in_default-eat.ensures in let word = c.in_ok-word.ensures in
+    copied_as_column (behind_other s u w word) (other_copies s u w word) c.column_or_star-2.ensures.copied
+
+pub item::item_value-returns-in_err-first-clause-copied : goal.item::item_value-returns-in_err-first-clause-copied
+item::item_value-returns-in_err-first-clause-copied t c = copied_in_not (on_other at_start) c.from_residual.ensures.1 c.in_err-first.ensures.copied.answers
+
+pub item::item_value-returns-then-sees_any-clause-copied : goal.item::item_value-returns-then-sees_any-clause-copied
+item::item_value-returns-then-sees_any-clause-copied t c =
+    let first = c.in_ok-first.ensures.reads.answers in
+    copied_behind_not (on_other at_start) first (c.and_tail.ensures.copied first.read c.args.tokens.now first.builds)
+
+pub item::item_value-returns-in_err-first-2-clause-copied : goal.item::item_value-returns-in_err-first-2-clause-copied
+item::item_value-returns-in_err-first-2-clause-copied t c =
+    copied_exit c.from_residual-in_err-first-2.ensures.1 (on_one (first_going (on_one at_start))) (λ v. refl) c.in_err-first-2.ensures.copied.answers
+
+pub item::item_value-returns-then-sees-clause-copied : goal.item::item_value-returns-then-sees-clause-copied
+item::item_value-returns-then-sees-clause-copied t c =
+    copied_behind_first _ c.expr_tail.result (on_one at_start) c.in_ok-first-2.ensures.extends (c.mark-start.ensures.passed, c.mark-start.ensures.copies)
+    (gives_on (item_minus (sym c.sees.ensures ∙ c.if-sees.true)) c.in_ok-first-2.ensures.reads.answers) c.expr_tail.ensures.copied
+
+pub item::item_value-returns-in-Some-clause-copied : goal.item::item_value-returns-in-Some-clause-copied
+item::item_value-returns-in-Some-clause-copied t c =
+    let g = rw c.in-Some.is at (c.in_ok-first-3.ensures.reads c.args.levels) in
+    copied_behind_first _ c.expr_tail-in-Some.result (on_one at_start) c.in_ok-first-3.ensures.extends (c.mark-start.ensures.passed, c.mark-start.ensures.copies)
+    (gives_on (item_literal (sym c.sees.ensures ∙ c.if-sees.false) (literal_next g.takes)) g) c.expr_tail-in-Some.ensures.copied
+
+pub item::item_value-returns-in_err-first-4-clause-copied : goal.item::item_value-returns-in_err-first-4-clause-copied
+item::item_value-returns-in_err-first-4-clause-copied t c =
+    let s = lacks_stays (rw c.in_default.is at (c.in_ok-first-3.ensures.reads c.args.levels)) in
+    copied_exit c.from_residual-in_err-first-4.ensures.1 (on_still (on_other (on_other (first_going (on_one at_start)))) s.still) (λ v. ap (λ z. z.copies + v.copies) (sym s.still))
+    c.in_err-first-4.ensures.copied.answers
+
+pub item::item_value-returns-clause-copied : goal.item::item_value-returns-clause-copied
+item::item_value-returns-clause-copied t c =
+    let s = lacks_stays (rw c.in_default.is at (c.in_ok-first-3.ensures.reads c.args.levels)) in
+    copied_behind_first _ c.expr_tail-2.result (on_one at_start) (c.in_ok-first-3.ensures.extends ⨟ c.in_ok-first-4.ensures.extends) (c.mark-start.ensures.passed, c.mark-start.ensures.copies)
+    (gives_on (item_enclosed (sym c.sees.ensures ∙ c.if-sees.false) s) (gives_from (alike_stays s) c.in_ok-first-4.ensures.reads.answers)) c.expr_tail-2.ensures.copied
+
+-- ---- what was copied where expressions are refused
+
+pub expr::expr-returns-in_err-first-clause-copied : goal.expr::expr-returns-in_err-first-clause-copied
+expr::expr-returns-in_err-first-clause-copied t c =
+    copied_exit c.from_residual.ensures.1 (on_first (on_mapped (on_production grammar.expr at_start)) (fill_none (Some 255) next_or)) (λ v. refl) c.in_err-first.ensures.copied.answers
+
+pub expr::expr-returns-clause-copied : goal.expr::expr-returns-clause-copied
+expr::expr-returns-clause-copied t c =
+    let first = c.in_ok-first.ensures.reads.answers in
+    copied_in (on_second (on_mapped (on_production grammar.expr at_start)) first.takes) (λ v. refl) (c.ors.ensures.copied first.read c.args.tokens.now first.builds)
+
+pub expr::conj-returns-in_err-first-clause-copied : goal.expr::conj-returns-in_err-first-clause-copied
+expr::conj-returns-in_err-first-clause-copied t c =
+    copied_exit c.from_residual.ensures.1 (on_first (on_mapped (on_production grammar.conj at_start)) (fill_none (Some 255) next_and)) (λ v. refl) c.in_err-first.ensures.copied.answers
+
+pub expr::conj-returns-clause-copied : goal.expr::conj-returns-clause-copied
+expr::conj-returns-clause-copied t c =
+    let first = c.in_ok-first.ensures.reads.answers in
+    copied_in (on_second (on_mapped (on_production grammar.conj at_start)) first.takes) (λ v. refl) (c.ands.ensures.copied first.read c.args.tokens.now first.builds)
+
+pub expr::value-returns-in_err-first-clause-copied : goal.expr::value-returns-in_err-first-clause-copied
+expr::value-returns-in_err-first-clause-copied t c =
+    copied_exit c.from_residual.ensures.1 (on_first (on_mapped (on_production grammar.value at_start)) (fill_none (Some 63) next_sum)) (λ v. refl) c.in_err-first.ensures.copied.answers
+
+pub expr::value-returns-clause-copied : goal.expr::value-returns-clause-copied
+expr::value-returns-clause-copied t c =
+    let first = c.in_ok-first.ensures.reads.answers in
+    copied_in (on_second (on_mapped (on_production grammar.value at_start)) first.takes) (λ v. refl) (c.sums.ensures.copied first.read c.args.tokens.now first.builds)
+
+pub expr::term-returns-in_err-first-clause-copied : goal.expr::term-returns-in_err-first-clause-copied
+expr::term-returns-in_err-first-clause-copied t c =
+    copied_exit c.from_residual.ensures.1 (on_first (on_mapped (on_production grammar.term at_start)) (fill_none (Some 63) next_product)) (λ v. refl) c.in_err-first.ensures.copied.answers
+
+pub expr::term-returns-clause-copied : goal.expr::term-returns-clause-copied
+expr::term-returns-clause-copied t c =
+    let first = c.in_ok-first.ensures.reads.answers in
+    copied_in (on_second (on_mapped (on_production grammar.term at_start)) first.takes) (λ v. refl) (c.products.ensures.copied first.read c.args.tokens.now first.builds)
+
+pub expr::neg-returns-in_err-word-clause-copied : goal.expr::neg-returns-in_err-word-clause-copied
+expr::neg-returns-in_err-word-clause-copied t c = copied_overflow c.from_residual.ensures.1 c.in_err-word.ensures at_start fill_neg (omega arith)
+
+pub expr::neg-returns-in_err-part-in-Some-clause-copied : goal.expr::neg-returns-in_err-part-in-Some-clause-copied
+expr::neg-returns-in_err-part-in-Some-clause-copied t c =
+    let word = within_alone k.Not (rw c.in-Some.is at c.in_ok-word.ensures) in
+    copied_exit c.from_residual-in_err-part-in-Some.ensures.1 (on_passed (on_nested (on_mapped (on_one (on_production grammar.neg at_start)))) word.passes)
+    (λ v. ap (λ z. z.copies + v.copies) (sym word.passes.moved)) c.in_err-part-in-Some.ensures.copied.answers
+
+pub expr::neg-returns-in_err-not_at-in-Some-clause-copied : goal.expr::neg-returns-in_err-not_at-in-Some-clause-copied
+expr::neg-returns-in_err-not_at-in-Some-clause-copied t c = copied_for_memory c.from_residual-in_err-not_at-in-Some.ensures.1
+
+pub expr::neg-returns-in-None-clause-copied : goal.expr::neg-returns-in-None-clause-copied
+expr::neg-returns-in-None-clause-copied t c =
+    let none = stays_alone k.Not (rw c.in-None.is at c.in_ok-word.ensures) in
+    copied_in (on_other (on_production grammar.neg (starting_at none.still))) (λ v. ap (λ z. z.copies + v.copies) (sym none.still)) c.test.ensures.copied
+
+pub expr::unary-returns-then-sees-clause-copied : goal.expr::unary-returns-then-sees-clause-copied
+expr::unary-returns-then-sees-clause-copied t c = copied_in (on_one (on_production grammar.unary at_start)) (λ v. refl) c.negative.ensures.copied
+
+pub expr::unary-returns-clause-copied : goal.expr::unary-returns-clause-copied
+expr::unary-returns-clause-copied t c = copied_in (on_other (on_production grammar.unary at_start)) (λ v. refl) c.primary.ensures.copied
+
+pub expr::negative-returns-in_err-sign-clause-copied : goal.expr::negative-returns-in_err-sign-clause-copied
+expr::negative-returns-in_err-sign-clause-copied t c = copied_unopened k.Minus c.args.levels c.args.tokens.now _ c.from_residual.ensures.1 c.in_err-sign.ensures at_start fill_minus (omega arith)
+
+pub expr::negative-returns-in_err-part-clause-copied : goal.expr::negative-returns-in_err-part-clause-copied
+expr::negative-returns-in_err-part-clause-copied t c =
+    let sign = within_alone k.Minus c.in_ok-sign.ensures in
+    copied_exit c.from_residual-in_err-part.ensures.1 (on_passed (on_nested (on_mapped at_start)) sign.passes)
+    (λ v. ap (λ z. z.copies + v.copies) (sym sign.passes.moved)) c.in_err-part.ensures.copied.answers
+
+pub expr::negative-returns-in_err-minus-clause-copied : goal.expr::negative-returns-in_err-minus-clause-copied
+expr::negative-returns-in_err-minus-clause-copied t c = copied_for_memory c.from_residual-in_err-minus.ensures.1
+
+pub expr::and_tail-returns-in_err-left-clause-copied : goal.expr::and_tail-returns-in_err-left-clause-copied
+expr::and_tail-returns-in_err-left-clause-copied t c = λ before start built.
+    copied_exit c.from_residual.ensures.1 (on_first (on_mapped (on_production grammar.and_tail at_start)) (fill_none (Some 255) next_or)) (λ v. refl) (c.in_err-left.ensures.copied before start built).answers
+
+pub expr::and_tail-returns-clause-copied : goal.expr::and_tail-returns-clause-copied
+expr::and_tail-returns-clause-copied t c = λ before start built.
+    let left = (c.in_ok-left.ensures.reads before start built).answers in
+    copied_in (on_second (on_mapped (on_production grammar.and_tail at_start)) left.takes) (λ v. refl) (c.ors.ensures.copied (chained and_node (before, left.read)) start left.builds)
+
+pub expr::expr_tail-returns-in_err-left-clause-copied : goal.expr::expr_tail-returns-in_err-left-clause-copied
+expr::expr_tail-returns-in_err-left-clause-copied t c = λ before count began mark built.
+    copied_exit c.from_residual.ensures.1 on_products (λ v. refl) (c.in_err-left.ensures.copied before began built.builds).answers
+
+pub expr::expr_tail-returns-in_err-left-2-clause-copied : goal.expr::expr_tail-returns-in_err-left-2-clause-copied
+expr::expr_tail-returns-in_err-left-2-clause-copied t c = λ before count began mark built.
+    let factors = (c.in_ok-left.ensures.reads before began built.builds).answers in
+    copied_exit c.from_residual-in_err-left-2.ensures.1 (on_second on_operators factors.takes) (λ v. refl)
+    (c.in_err-left-2.ensures.copied (operated before factors.read) began factors.builds).answers
+
+pub expr::expr_tail-returns-in_err-left-3-clause-copied : goal.expr::expr_tail-returns-in_err-left-3-clause-copied
+expr::expr_tail-returns-in_err-left-3-clause-copied t c = λ before count began mark built.
+    let factors = (c.in_ok-left.ensures.reads before began built.builds).answers in
+    let terms = (c.in_ok-left-2.ensures.reads (operated before factors.read) began factors.builds).answers in
+    let on = c.in_ok-left.ensures.extends ⨟ c.in_ok-left-2.ensures.extends in
+    let left = behind_operators on (takes (second whole refl factors.takes) terms.takes) in
+    let value = counted_on built on terms.builds in
+    copied_exit c.from_residual-in_err-left-3.ensures.1 (on_first left fill_chain) (λ v. refl) (c.in_err-left-3.ensures.copied _ _ began mark value).answers
+
+pub expr::expr_tail-returns-in_err-left-4-clause-copied : goal.expr::expr_tail-returns-in_err-left-4-clause-copied
+expr::expr_tail-returns-in_err-left-4-clause-copied t c = λ before count began mark built.
+    let factors = (c.in_ok-left.ensures.reads before began built.builds).answers in
+    let terms = (c.in_ok-left-2.ensures.reads (operated before factors.read) began factors.builds).answers in
+    let on = c.in_ok-left.ensures.extends ⨟ c.in_ok-left-2.ensures.extends in
+    let left = behind_operators on (takes (second whole refl factors.takes) terms.takes) in
+    let value = counted_on built on terms.builds in
+    let test = (c.in_ok-left-3.ensures.reads _ _ began mark value).answers in
+    copied_exit c.from_residual-in_err-left-4.ensures.1 (on_first (on_second left test.takes) (fill_none (Some 255) next_or)) (λ v. refl) (c.in_err-left-4.ensures.copied _ began test.builds).answers
+
+pub expr::expr_tail-returns-clause-copied : goal.expr::expr_tail-returns-clause-copied
+expr::expr_tail-returns-clause-copied t c = λ before count began mark built.
+    let factors = (c.in_ok-left.ensures.reads before began built.builds).answers in
+    let terms = (c.in_ok-left-2.ensures.reads (operated before factors.read) began factors.builds).answers in
+    let on = c.in_ok-left.ensures.extends ⨟ c.in_ok-left-2.ensures.extends in
+    let left = behind_operators on (takes (second whole refl factors.takes) terms.takes) in
+    let value = counted_on built on terms.builds in
+    let test = (c.in_ok-left-3.ensures.reads _ _ began mark value).answers in
+    let all = (c.in_ok-left-4.ensures.reads _ began test.builds).answers in
+    copied_in (on_second (on_second left test.takes) all.takes) (λ v. refl) (c.ors.ensures.copied _ began all.builds)
+
+pub expr::ors-returns-in_err-push-clause-copied : goal.expr::ors-returns-in_err-push-clause-copied
+expr::ors-returns-in_err-push-clause-copied t c = λ before start built. copied_for_memory c.from_residual.ensures.1
+
+pub expr::ors-returns-in_err-eat_within-clause-copied : goal.expr::ors-returns-in_err-eat_within-clause-copied
+expr::ors-returns-in_err-eat_within-clause-copied t c = λ before start built.
+    separator_copied or_node c.from_residual-in_err-eat_within.ensures.1 (c.more.invariant.chain before start built) (overflows_alone k.Or c.in_err-eat_within.ensures)
+
+pub expr::ors-returns-in_err-part-clause-copied : goal.expr::ors-returns-in_err-part-clause-copied
+expr::ors-returns-in_err-part-clause-copied t c = λ before start built.
+    let word = within_alone k.Or (rw c.in-Some.is at c.in_ok-eat_within.ensures) in
+    part_copied or_node c.from_residual-in_err-part.ensures.1 (c.more.invariant.chain before start built) word c.in_err-part.ensures.copied.answers
+
+pub expr::ors-returns-in_err-push-2-clause-copied : goal.expr::ors-returns-in_err-push-2-clause-copied
+expr::ors-returns-in_err-push-2-clause-copied t c = λ before start built. copied_for_memory c.from_residual-in_err-push-2.ensures.1
+
+pub expr::ands-returns-in_err-push-clause-copied : goal.expr::ands-returns-in_err-push-clause-copied
+expr::ands-returns-in_err-push-clause-copied t c = λ before start built. copied_for_memory c.from_residual.ensures.1
+
+pub expr::ands-returns-in_err-eat_within-clause-copied : goal.expr::ands-returns-in_err-eat_within-clause-copied
+expr::ands-returns-in_err-eat_within-clause-copied t c = λ before start built.
+    separator_copied and_node c.from_residual-in_err-eat_within.ensures.1 (c.more.invariant.chain before start built) (overflows_alone k.And c.in_err-eat_within.ensures)
+
+pub expr::ands-returns-in_err-part-clause-copied : goal.expr::ands-returns-in_err-part-clause-copied
+expr::ands-returns-in_err-part-clause-copied t c = λ before start built.
+    let word = within_alone k.And (rw c.in-Some.is at c.in_ok-eat_within.ensures) in
+    part_copied and_node c.from_residual-in_err-part.ensures.1 (c.more.invariant.chain before start built) word c.in_err-part.ensures.copied.answers
+
+pub expr::ands-returns-in_err-push-2-clause-copied : goal.expr::ands-returns-in_err-push-2-clause-copied
+expr::ands-returns-in_err-push-2-clause-copied t c = λ before start built. copied_for_memory c.from_residual-in_err-push-2.ensures.1
+
+pub expr::products-returns-in_err-sign-clause-copied : goal.expr::products-returns-in_err-sign-clause-copied
+expr::products-returns-in_err-sign-clause-copied t c = λ before start built. operator_copied c.from_residual.ensures.1 (c.more.invariant.chain before start built) c.in_err-sign.ensures
+
+pub expr::products-returns-in_err-right-clause-copied : goal.expr::products-returns-in_err-right-clause-copied
+expr::products-returns-in_err-right-clause-copied t c = λ before start built.
+    let sign = rw c.in-Some.is at c.in_ok-sign.ensures in
+    right_copied c.from_residual-in_err-right.ensures.1 (c.more.invariant.chain before start built) sign c.in_err-right.ensures.copied.answers
+
+pub expr::products-returns-in_err-left-clause-copied : goal.expr::products-returns-in_err-left-clause-copied
+expr::products-returns-in_err-left-clause-copied t c = λ before start built. copied_for_memory c.from_residual-in_err-left.ensures.1
+
+pub expr::sums-returns-in_err-sign-clause-copied : goal.expr::sums-returns-in_err-sign-clause-copied
+expr::sums-returns-in_err-sign-clause-copied t c = λ before start built. operator_copied c.from_residual.ensures.1 (c.more.invariant.chain before start built) c.in_err-sign.ensures
+
+pub expr::sums-returns-in_err-right-clause-copied : goal.expr::sums-returns-in_err-right-clause-copied
+expr::sums-returns-in_err-right-clause-copied t c = λ before start built.
+    let sign = rw c.in-Some.is at c.in_ok-sign.ensures in
+    right_copied c.from_residual-in_err-right.ensures.1 (c.more.invariant.chain before start built) sign c.in_err-right.ensures.copied.answers
+
+pub expr::sums-returns-in_err-left-clause-copied : goal.expr::sums-returns-in_err-left-clause-copied
+expr::sums-returns-in_err-left-clause-copied t c = λ before start built. copied_for_memory c.from_residual-in_err-left.ensures.1
+
+-- ---- what was copied where tests of values are refused
+
+pub test::test-returns-in_err-expect_within-clause-copied : goal.test::test-returns-in_err-expect_within-clause-copied
+test::test-returns-in_err-expect_within-clause-copied t c =
+    let word = c.in-Some.ensures in
+    copied_unopened k.Open c.args.levels c.eat.new.self _ c.from_residual.ensures.1 c.in_err-expect_within.ensures (on_passed (on_mapped (on_one (on_production grammar.test at_start))) word) (fill_parens fill_query) (omega (arith, ap (λ z. z.copies) word.moved))
+
+pub test::test-returns-in_err-query-clause-copied : goal.test::test-returns-in_err-query-clause-copied
+test::test-returns-in_err-query-clause-copied t c =
+    let word = c.in-Some.ensures in
+    let open_ = c.in_ok-expect_within.ensures in
+    copied_exit c.from_residual-in_err-query.ensures.1 (in_parens (on_passed (on_mapped (on_one (on_production grammar.test at_start))) word) open_)
+    (λ v. omega (arith, ap (λ z. z.copies) word.moved, ap (λ z. z.copies) open_.passes.moved)) c.in_err-query.ensures.copied.answers
+
+pub test::test-returns-in_err-expect-clause-copied : goal.test::test-returns-in_err-expect-clause-copied
+test::test-returns-in_err-expect-clause-copied t c =
+    let word = c.in-Some.ensures in
+    let open_ = c.in_ok-expect_within.ensures in
+    let query = c.in_ok-query.ensures.reads.answers in
+    copied_missed c.from_residual-in_err-expect.ensures.1 c.in_err-expect.ensures (at_close (on_passed (on_mapped (on_one (on_production grammar.test at_start))) word) open_ query.takes) (fill_token k.Close (symbol 41) refl refl)
+    (omega (arith, ap (λ z. z.copies) word.moved, ap (λ z. z.copies) open_.passes.moved, query.builds.copies))
+
+pub test::test-returns-in_err-new-clause-copied : goal.test::test-returns-in_err-new-clause-copied
+test::test-returns-in_err-new-clause-copied t c = copied_for_memory c.from_residual-in_err-new.ensures.1
+
+pub test::test-returns-in_err-left-clause-copied : goal.test::test-returns-in_err-left-clause-copied
+test::test-returns-in_err-left-clause-copied t c =
+    let none = c.in_default.ensures in
+    copied_exit c.from_residual-in_err-left.ensures.1 (on_counted {k = λ v. v} (on_first (on_mapped (on_other (on_production grammar.test (starting_at none.still)))) (fill_absent (ref grammar.rest))) (λ v count. refl))
+    (λ v. ap (λ z. z.copies + v.copies) (sym none.still)) c.in_err-left.ensures.copied.answers
+
+pub test::test-returns-clause-copied : goal.test::test-returns-clause-copied
+test::test-returns-clause-copied t c =
+    let none = c.in_default.ensures in
+    let value = c.in_ok-left.ensures.reads.answers in
+    let on = c.in_ok-left.ensures.extends in
+    copied_in (on_second (on_mapped (on_other (on_production grammar.test (starting_at none.still)))) (took_counted on value.takes)) (λ v. omega (arith, ap (λ z. z.copies) none.still))
+    (c.tested.ensures.copied value.read _ c.eat.new.self (c.mark-start.ensures.passed, c.mark-start.ensures.copies) (built_counted on value.builds))
+
+pub test::tested-returns-clause-copied : goal.test::tested-returns-clause-copied
+test::tested-returns-clause-copied t c = λ before count began mark built.
+    copied_in (on_mapped (on_one at_start)) (λ v. refl) (c.rest.ensures.copied before count began (weight_of c.args.start _ mark built c.weight_since-weight.ensures) built.builds)
+
+pub test::rest-returns-in_err-right-clause-copied : goal.test::rest-returns-in_err-right-clause-copied
+test::rest-returns-in_err-right-clause-copied t c = λ before count began weighs built.
+    let sign = c.in-Some.ensures in
+    copied_exit c.from_residual.ensures.1 (on_passed (on_mapped (on_one (on_production grammar.rest at_start))) sign)
+    (λ v. omega (arith, ap (λ z. z.copies) sign.moved, built.copies)) c.in_err-right.ensures.copied.answers
+
+pub test::rest-returns-in_err-compared-clause-copied : goal.test::rest-returns-in_err-compared-clause-copied
+test::rest-returns-in_err-compared-clause-copied t c = λ before count began weighs built. copied_for_memory c.from_residual-in_err-compared.ensures.1
+
+pub test::rest-returns-in_default-eat-clause-copied : goal.test::rest-returns-in_default-eat-clause-copied
+test::rest-returns-in_default-eat-clause-copied t c = λ before count began weighs built.
+    let none = c.in_default.ensures in
+    let not_there = c.in_default-eat.ensures in
+    copied_in (on_mapped (on_other (on_other (on_production grammar.rest (starting_at (not_there.still ∙ none.still)))))) (λ v. refl)
+    (c.by_word.ensures.copied None before count began weighs (built_until built (alike_stays none then alike_stays not_there)))
+
+pub test::rest-returns-in_err-test-clause-copied : goal.test::rest-returns-in_err-test-clause-copied
+test::rest-returns-in_err-test-clause-copied t c = λ before count began weighs built.
+    let none = c.in_default.ensures in
+    let word = c.in-Some-eat.ensures in
+    copied_exit c.from_residual-in_err-test.ensures.1 (on_passed (on_mapped (on_one (on_other (on_production grammar.rest (starting_at none.still))))) word) (λ v. refl)
+    (c.in_err-test.ensures.copied (Some _) before count began weighs (built_until built (alike_stays none then alike_passes word))).answers
+
+pub test::rest-returns-in_err-negated-clause-copied : goal.test::rest-returns-in_err-negated-clause-copied
+test::rest-returns-in_err-negated-clause-copied t c = λ before count began weighs built. copied_for_memory c.from_residual-in_err-negated.ensures.1
+
+pub test::by_word-returns-in_err-expect_within-clause-copied : goal.test::by_word-returns-in_err-expect_within-clause-copied
+test::by_word-returns-in_err-expect_within-clause-copied t c = λ not_word before count began weighs built.
+    let word = c.in-Some.ensures in
+    copied_unopened k.Open c.args.levels c.eat.new.self _ c.from_residual.ensures.1 c.in_err-expect_within.ensures (on_passed (on_mapped (on_one at_start)) word) (fill_parens fill_in_inner)
+    (omega (arith, ap (λ z. z.copies) word.moved, built.copies))
+
+pub test::by_word-returns-in_err-found-clause-copied : goal.test::by_word-returns-in_err-found-clause-copied
+test::by_word-returns-in_err-found-clause-copied t c = λ not_word before count began weighs built.
+    let word = c.in-Some.ensures in
+    let open_ = c.in_ok-expect_within.ensures in
+    copied_exit c.from_residual-in_err-found.ensures.1 (in_parens (on_passed (on_mapped (on_one at_start)) word) open_)
+    (λ v. ap (λ z. began.copies + z) (in_price not_word (lexeme_of c.in-Some.word) v (before, count)))
+    (c.in_err-found.ensures.copied (lexeme_of c.in-Some.word) before count began (sym c.place.ensures) weighs (built_until built (alike_passes word then alike_within open_))).answers
+
+pub test::by_word-returns-in_err-expect-clause-copied : goal.test::by_word-returns-in_err-expect-clause-copied
+test::by_word-returns-in_err-expect-clause-copied t c = λ not_word before count began weighs built.
+    let word = c.in-Some.ensures in
+    let open_ = c.in_ok-expect_within.ensures in
+    let found = (c.in_ok-found.ensures.reads (lexeme_of c.in-Some.word) before count began (sym c.place.ensures) weighs (built_until built (alike_passes word then alike_within open_))).answers in
+    copied_missed c.from_residual-in_err-expect.ensures.1 c.in_err-expect.ensures (at_close (on_passed (on_mapped (on_one at_start)) word) open_ found.takes) (fill_token k.Close (symbol 41) refl refl)
+    (found.builds.copies ∙ ap (λ z. began.copies + z) (sym (in_price not_word (lexeme_of c.in-Some.word) found.read (before, count))))
+
+pub test::by_word-returns-in-Some-eat-clause-copied : goal.test::by_word-returns-in-Some-eat-clause-copied
+test::by_word-returns-in-Some-eat-clause-copied t c = λ not_word before count began weighs built.
+    let no_in = c.in_default.ensures in
+    let word = c.in-Some-eat.ensures in
+    copied_in (starting_at no_in.still) (λ v. refl)
+    (c.bounds.ensures.copied not_word before count began _ _ weighs (built_until built (alike_stays no_in then alike_passes word)) word)
+
+pub test::by_word-returns-in_err-expect-2-clause-copied : goal.test::by_word-returns-in_err-expect-2-clause-copied
+test::by_word-returns-in_err-expect-2-clause-copied t c = λ not_word before count began weighs built.
+    let no_in = c.in_default.ensures in
+    let no_between = c.in_default-eat.ensures in
+    copied_missed c.from_residual-in_err-expect-2.ensures.1 c.in_err-expect-2.ensures (starting_at (no_between.still ∙ no_in.still)) fill_like
+    (omega (arith, ap (λ z. z.copies) no_in.still, ap (λ z. z.copies) no_between.still, built.copies))
+
+pub test::by_word-returns-in_err-pattern-clause-copied : goal.test::by_word-returns-in_err-pattern-clause-copied
+test::by_word-returns-in_err-pattern-clause-copied t c = λ not_word before count began weighs built.
+    let no_in = c.in_default.ensures in
+    let no_between = c.in_default-eat.ensures in
+    let word = c.in_ok-expect-2.ensures in
+    copied_exit c.from_residual-in_err-pattern.ensures.1 (on_passed (on_mapped (on_mapped (on_other (on_other (starting_at (no_between.still ∙ no_in.still)))))) word)
+    (λ v. omega (arith, ap (λ z. z.copies) no_in.still, ap (λ z. z.copies) no_between.still, ap (λ z. z.copies) word.moved, built.copies)) c.in_err-pattern.ensures.copied.answers
+
+pub test::by_word-returns-in_err-like-clause-copied : goal.test::by_word-returns-in_err-like-clause-copied
+test::by_word-returns-in_err-like-clause-copied t c = λ not_word before count began weighs built. copied_for_memory c.from_residual-in_err-like.ensures.1
+
+pub test::bounds-returns-in_err-add_copy-clause-copied : goal.test::bounds-returns-in_err-add_copy-clause-copied
+test::bounds-returns-in_err-add_copy-clause-copied t c = λ not_word before count began at word weighs built passed.
+    copied_over c.from_residual.ensures.1 c.in_err-add_copy.ensures.1 (between_over passed not_word count c.args.weight weighs built c.in_err-add_copy.ensures)
+
+pub test::bounds-returns-in_err-copy-clause-copied : goal.test::bounds-returns-in_err-copy-clause-copied
+test::bounds-returns-in_err-copy-clause-copied t c = λ not_word before count began at word weighs built passed. copied_for_memory c.from_residual-in_err-copy.ensures.1
+
+pub test::bounds-returns-in_err-low-clause-copied : goal.test::bounds-returns-in_err-low-clause-copied
+test::bounds-returns-in_err-low-clause-copied t c = λ not_word before count began at word weighs built passed.
+    let paid = c.in_ok-add_copy.ensures in
+    let left = going_there (tokens_copied c.args.weight c.args.tokens.now c.add_copy.new.self paid) (on_bounds passed) in
+    copied_exit c.from_residual-in_err-low.ensures.1 (on_first left fill_high)
+    (λ v. omega (arith, built.copies, weighs, ap (λ z. z.copies) paid.0)) c.in_err-low.ensures.copied.answers
+
+pub test::bounds-returns-in_err-expect-clause-copied : goal.test::bounds-returns-in_err-expect-clause-copied
+test::bounds-returns-in_err-expect-clause-copied t c = λ not_word before count began at word weighs built passed.
+    let paid = c.in_ok-add_copy.ensures in
+    let left = going_there (tokens_copied c.args.weight c.args.tokens.now c.add_copy.new.self paid) (on_bounds passed) in
+    let low = c.in_ok-low.ensures.reads.answers in
+    copied_missed c.from_residual-in_err-expect.ensures.1 c.in_err-expect.ensures (on_second left low.takes) fill_high
+    (omega (arith, built.copies, weighs, ap (λ z. z.copies) paid.0, low.builds.copies))
+
+pub test::bounds-returns-in_err-high-clause-copied : goal.test::bounds-returns-in_err-high-clause-copied
+test::bounds-returns-in_err-high-clause-copied t c = λ not_word before count began at word weighs built passed.
+    let paid = c.in_ok-add_copy.ensures in
+    let left = going_there (tokens_copied c.args.weight c.args.tokens.now c.add_copy.new.self paid) (on_bounds passed) in
+    let low = c.in_ok-low.ensures.reads.answers in
+    let word = c.in_ok-expect.ensures in
+    copied_exit c.from_residual-in_err-high.ensures.1 (on_passed (on_mapped (on_second left low.takes)) word)
+    (λ v. omega (arith, built.copies, weighs, ap (λ z. z.copies) paid.0, low.builds.copies, ap (λ z. z.copies) word.moved)) c.in_err-high.ensures.copied.answers
+
+pub test::bounds-returns-in_err-between-clause-copied : goal.test::bounds-returns-in_err-between-clause-copied
+test::bounds-returns-in_err-between-clause-copied t c = λ not_word before count began at word weighs built passed. copied_for_memory c.from_residual-in_err-between.ensures.1
+
+pub test::members-returns-in_err-eat_within-clause-copied : goal.test::members-returns-in_err-eat_within-clause-copied
+test::members-returns-in_err-eat_within-clause-copied t c = λ before member count began middle weighs value built.
+    comma_copied count weighs (c.more.invariant.chain before member began middle value built) c.from_residual.ensures.1 (overflows_alone k.Comma c.in_err-eat_within.ensures)
+
+pub test::members-returns-in_err-compared_copy-clause-copied : goal.test::members-returns-in_err-compared_copy-clause-copied
+test::members-returns-in_err-compared_copy-clause-copied t c = λ before member count began middle weighs value built.
+    let comma = within_alone k.Comma (rw c.in-Some.is at c.in_ok-eat_within.ensures) in
+    copy_refused count weighs (c.more.invariant.chain before member began middle value built) c.from_residual-in_err-compared_copy.ensures.1 comma c.in_err-compared_copy.ensures.refused
+
+pub test::members-returns-in_err-push-clause-copied : goal.test::members-returns-in_err-push-clause-copied
+test::members-returns-in_err-push-clause-copied t c = λ before member count began middle weighs value built. copied_for_memory c.from_residual-in_err-push.ensures.1
+
+pub test::members-returns-in_err-last-clause-copied : goal.test::members-returns-in_err-last-clause-copied
+test::members-returns-in_err-last-clause-copied t c = λ before member count began middle weighs value built.
+    let comma = within_alone k.Comma (rw c.in-Some.is at c.in_ok-eat_within.ensures) in
+    member_copied count weighs (c.more.invariant.chain before member began middle value built) c.from_residual-in_err-last.ensures.1 comma c.in_ok-compared_copy.ensures.counted c.in_err-last.ensures.copied.answers
+
+pub test::members-returns-in_err-last-2-clause-copied : goal.test::members-returns-in_err-last-2-clause-copied
+test::members-returns-in_err-last-2-clause-copied t c = λ before member count began middle weighs value built. copied_for_memory c.from_residual-in_err-last-2.ensures.1
+
+pub test::members-returns-in_err-push-2-clause-copied : goal.test::members-returns-in_err-push-2-clause-copied
+test::members-returns-in_err-push-2-clause-copied t c = λ before member count began middle weighs value built. copied_for_memory c.from_residual-in_err-push-2.ensures.1
+
+-- ---- what was copied where first parts of expressions are refused
+
+pub primary::primary-returns-in_err-literal-clause-copied : goal.primary::primary-returns-in_err-literal-clause-copied
+primary::primary-returns-in_err-literal-clause-copied t c = copied_for_memory c.from_residual.ensures.1
+
+pub primary::primary-returns-then-sees-clause-copied : goal.primary::primary-returns-then-sees-clause-copied
+primary::primary-returns-then-sees-clause-copied t c =
+    let s = lacks_stays (rw c.in_default.is at (c.in_ok-literal.ensures.reads c.args.levels)) in
+    copied_in (on_other (on_other (on_production grammar.primary (starting_at s.still)))) (λ v. ap (λ z. z.copies + v.copies) (sym s.still)) c.enclosed.ensures.copied
+
+pub primary::primary-returns-clause-copied : goal.primary::primary-returns-clause-copied
+primary::primary-returns-clause-copied t c =
+    let s = lacks_stays (rw c.in_default.is at (c.in_ok-literal.ensures.reads c.args.levels)) in
+    copied_in (on_one (on_other (on_production grammar.primary (starting_at s.still)))) (λ v. ap (λ z. z.copies + v.copies) (sym s.still)) c.named_first.ensures.copied
+
+pub primary::named_first-returns-in-Some-clause-copied : goal.primary::named_first-returns-in-Some-clause-copied
+primary::named_first-returns-in-Some-clause-copied t c =
+    let word = c.in-Some.ensures in
+    copied_in (on_passed (on_mapped (on_one at_start)) word) (λ v. omega (arith, ap (λ z. z.copies) word.moved)) c.column.ensures.copied
+
+pub primary::named_first-returns-then-sees-clause-copied : goal.primary::named_first-returns-then-sees-clause-copied
+primary::named_first-returns-then-sees-clause-copied t c =
+    let s = c.in_default.ensures in
+    let word = c.in-Some-eat_any.ensures in
+    copied_in (on_mapped (on_other (on_passed (on_mapped (on_one (on_other (starting_at s.still)))) word))) (λ v. omega (arith, ap (λ z. z.copies) word.moved, ap (λ z. z.copies) s.still)) c.arguments.ensures.copied
+
+pub primary::named_first-returns-in-Some-eat_any-clause-copied : goal.primary::named_first-returns-in-Some-eat_any-clause-copied
+primary::named_first-returns-in-Some-eat_any-clause-copied t c =
+    let s = c.in_default.ensures in
+    let word = c.in-Some-eat_any.ensures in
+    copied_in (on_mapped (on_one (on_passed (on_mapped (on_one (on_other (starting_at s.still)))) word))) (λ v. omega (arith, ap (λ z. z.copies) word.moved, ap (λ z. z.copies) s.still)) c.column-in-Some-eat_any.ensures.copied
+
+pub primary::named_first-returns-then-sees-2-clause-copied : goal.primary::named_first-returns-then-sees-2-clause-copied
+primary::named_first-returns-then-sees-2-clause-copied t c =
+    let s = c.in_default.ensures in
+    let u = c.in_default-eat_any.ensures in
+    let word = c.in-Some-eat.ensures in
+    copied_in (on_mapped (on_other (on_passed (on_mapped (on_one (on_other (on_other (starting_at (u.still ∙ s.still)))))) word))) (λ v. omega (arith, ap (λ z. z.copies) word.moved, ap (λ z. z.copies) s.still, ap (λ z. z.copies) u.still)) c.count_arguments.ensures.copied
+
+pub primary::named_first-returns-in-Some-eat-clause-copied : goal.primary::named_first-returns-in-Some-eat-clause-copied
+primary::named_first-returns-in-Some-eat-clause-copied t c =
+    let s = c.in_default.ensures in
+    let u = c.in_default-eat_any.ensures in
+    let word = c.in-Some-eat.ensures in
+    copied_in (on_mapped (on_one (on_passed (on_mapped (on_one (on_other (on_other (starting_at (u.still ∙ s.still)))))) word))) (λ v. omega (arith, ap (λ z. z.copies) word.moved, ap (λ z. z.copies) s.still, ap (λ z. z.copies) u.still)) c.column-in-Some-eat.ensures.copied
+
+pub primary::named_first-returns-in_err-word-clause-copied : goal.primary::named_first-returns-in_err-word-clause-copied
+primary::named_first-returns-in_err-word-clause-copied t c =
+    let s = c.in_default.ensures in
+    let u = c.in_default-eat_any.ensures in
+    let w = c.in_default-eat.ensures in
+    copied_missed c.from_residual.ensures.1 c.in_err-word.ensures (starting_at (w.still ∙ (u.still ∙ s.still))) fill_named (omega (arith, ap (λ z. z.copies) s.still, ap (λ z. z.copies) u.still, ap (λ z. z.copies) w.still))
+
+pub primary::named_first-returns-then-sees-3-clause-copied : goal.primary::named_first-returns-then-sees-3-clause-copied
+primary::named_first-returns-then-sees-3-clause-copied t c =
+    let s = c.in_default.ensures in
+    let u = c.in_default-eat_any.ensures in
+    let w = c.in_default-eat.ensures in
+    let word = c.in_ok-word.ensures in
+    copied_in (on_mapped (on_other (on_passed (on_mapped (on_other (on_other (on_other (starting_at (w.still ∙ (u.still ∙ s.still))))))) word))) (λ v. omega (arith, ap (λ z. z.copies) word.moved, ap (λ z. z.copies) s.still, ap (λ z. z.copies) u.still, ap (λ z. z.copies) w.still)) c.aggregate.ensures.copied
+
+pub primary::named_first-returns-clause-copied : goal.primary::named_first-returns-clause-copied
+primary::named_first-returns-clause-copied t c =
+    let s = c.in_default.ensures in
+    let u = c.in_default-eat_any.ensures in
+    let w = c.in_default-eat.ensures in
+    let word = c.in_ok-word.ensures in
+    copied_in (on_mapped (on_one (on_passed (on_mapped (on_other (on_other (on_other (starting_at (w.still ∙ (u.still ∙ s.still))))))) word))) (λ v. omega (arith, ap (λ z. z.copies) word.moved, ap (λ z. z.copies) s.still, ap (λ z. z.copies) u.still, ap (λ z. z.copies) w.still)) c.column-2.ensures.copied
+
+pub primary::arguments-returns-in_err-expect_within-clause-copied : goal.primary::arguments-returns-in_err-expect_within-clause-copied
+primary::arguments-returns-in_err-expect_within-clause-copied t c = copied_unopened k.Open c.args.levels c.args.tokens.now _ c.from_residual.ensures.1 c.in_err-expect_within.ensures (on_mapped at_start) (fill_parens (fill_absent (listed (ref grammar.expr)))) (omega arith)
+
+pub primary::arguments-returns-in_err-name_in-clause-copied : goal.primary::arguments-returns-in_err-name_in-clause-copied
+primary::arguments-returns-in_err-name_in-clause-copied t c = copied_for_memory c.from_residual-in_err-name_in.ensures.1
+
+pub primary::arguments-returns-in_err-sym-clause-copied : goal.primary::arguments-returns-in_err-sym-clause-copied
+primary::arguments-returns-in_err-sym-clause-copied t c = copied_for_memory c.from_residual-in_err-sym.ensures.1
+
+pub primary::arguments-returns-in_err-args-clause-copied : goal.primary::arguments-returns-in_err-args-clause-copied
+primary::arguments-returns-in_err-args-clause-copied t c =
+    let open_ = c.in_ok-expect_within.ensures in
+    let number = c.in_ok-sym.ensures.number in
+    copied_exit c.from_residual-in_err-args.ensures.1 (going_there (tokens_numbered number) (in_parens (on_mapped at_start) open_))
+    (λ v. omega (arith, ap (λ z. z.copies) open_.passes.moved, ap (λ z. z.copies) number.moved)) c.in_err-args.ensures.copied.answers
+
+pub primary::arguments-returns-in_err-expect-clause-copied : goal.primary::arguments-returns-in_err-expect-clause-copied
+primary::arguments-returns-in_err-expect-clause-copied t c =
+    let open_ = c.in_ok-expect_within.ensures in
+    let number = c.in_ok-sym.ensures.number in
+    let args = c.in_ok-args.ensures.reads.answers in
+    copied_missed c.from_residual-in_err-expect.ensures.1 c.in_err-expect.ensures (at_close (on_mapped at_start) open_ (taken_from (tokens_numbered number) args.takes)) (fill_token k.Close (symbol 41) refl refl)
+    (omega (arith, ap (λ z. z.copies) open_.passes.moved, ap (λ z. z.copies) number.moved, args.builds.copies))
+
+pub primary::exprs-returns-in_err-expr-clause-copied : goal.primary::exprs-returns-in_err-expr-clause-copied
+primary::exprs-returns-in_err-expr-clause-copied t c =
+    copied_in (on_mapped (on_one at_start)) (λ v. refl) (copied_in_first (same k.Comma) (ref grammar.expr) c.from_residual.ensures.1 c.in_err-expr.ensures.copied.answers)
+
+pub primary::exprs-returns-in_err-push-clause-copied : goal.primary::exprs-returns-in_err-push-clause-copied
+primary::exprs-returns-in_err-push-clause-copied t c = copied_for_memory c.from_residual-in_err-push.ensures.1
+
+pub primary::exprs-returns-in_err-eat_within-clause-copied : goal.primary::exprs-returns-in_err-eat_within-clause-copied
+primary::exprs-returns-in_err-eat_within-clause-copied t c =
+    copied_in (on_mapped (on_one at_start)) (λ v. refl) (copied_at_comma (same k.Comma) (ref grammar.expr) c.from_residual-in_err-eat_within.ensures.1 c.more.invariant.list (overflows_alone k.Comma c.in_err-eat_within.ensures))
+
+pub primary::exprs-returns-in_err-expr-2-clause-copied : goal.primary::exprs-returns-in_err-expr-2-clause-copied
+primary::exprs-returns-in_err-expr-2-clause-copied t c =
+    let q = within_alone k.Comma (rw c.in-Some.is at c.in_ok-eat_within.ensures) in
+    copied_in (on_mapped (on_one at_start)) (λ v. refl) (copied_in_member (same k.Comma) (ref grammar.expr) c.from_residual-in_err-expr-2.ensures.1 c.more.invariant.list q c.in_err-expr-2.ensures.copied.answers)
+
+pub primary::exprs-returns-in_err-push-2-clause-copied : goal.primary::exprs-returns-in_err-push-2-clause-copied
+primary::exprs-returns-in_err-push-2-clause-copied t c = copied_for_memory c.from_residual-in_err-push-2.ensures.1
+
+pub primary::count_arguments-returns-in_err-expect_within-clause-copied : goal.primary::count_arguments-returns-in_err-expect_within-clause-copied
+primary::count_arguments-returns-in_err-expect_within-clause-copied t c = copied_unopened k.Open c.args.levels c.args.tokens.now _ c.from_residual.ensures.1 c.in_err-expect_within.ensures at_start fill_count (omega arith)
+
+pub primary::count_arguments-returns-in_err-expect-clause-copied : goal.primary::count_arguments-returns-in_err-expect-clause-copied
+primary::count_arguments-returns-in_err-expect-clause-copied t c =
+    let open_ = c.in_ok-expect_within.ensures in
+    let star = c.in-Some.ensures in
+    copied_missed c.from_residual-in_err-expect.ensures.1 c.in_err-expect.ensures (at_close {d = 0} at_start open_ (star_taken star)) (fill_token k.Close (symbol 41) refl refl) (omega (arith, ap (λ z. z.copies) open_.passes.moved, ap (λ z. z.copies) star.moved))
+
+pub primary::count_arguments-returns-in_err-found-clause-copied : goal.primary::count_arguments-returns-in_err-found-clause-copied
+primary::count_arguments-returns-in_err-found-clause-copied t c =
+    let open_ = c.in_ok-expect_within.ensures in
+    let none = c.in_default.ensures in
+    copied_exit c.from_residual-in_err-found.ensures.1 (on_other (on_still (in_parens at_start open_) none.still)) (λ v. omega (arith, ap (λ z. z.copies) open_.passes.moved, ap (λ z. z.copies) none.still)) c.in_err-found.ensures.copied.answers
+
+pub primary::count_arguments-returns-in_err-expect-2-clause-copied : goal.primary::count_arguments-returns-in_err-expect-2-clause-copied
+primary::count_arguments-returns-in_err-expect-2-clause-copied t c =
+    let open_ = c.in_ok-expect_within.ensures in
+    let none = c.in_default.ensures in
+    let found = c.in_ok-found.ensures.reads.answers in
+    copied_missed c.from_residual-in_err-expect-2.ensures.1 c.in_err-expect-2.ensures (at_close at_start open_ (takes (other_stays whole refl refl none) found.takes)) (fill_token k.Close (symbol 41) refl refl)
+    (omega (arith, ap (λ z. z.copies) open_.passes.moved, ap (λ z. z.copies) none.still, found.builds.copies))
+
+pub primary::aggregate-returns-in_err-expect_within-clause-copied : goal.primary::aggregate-returns-in_err-expect_within-clause-copied
+primary::aggregate-returns-in_err-expect_within-clause-copied t c = copied_unopened k.Open c.args.levels c.args.tokens.now _ c.from_residual.ensures.1 c.in_err-expect_within.ensures at_start (fill_parens fill_one_argument) (omega arith)
+
+pub primary::aggregate-returns-in_err-found-clause-copied : goal.primary::aggregate-returns-in_err-found-clause-copied
+primary::aggregate-returns-in_err-found-clause-copied t c =
+    let open_ = c.in_ok-expect_within.ensures in
+    copied_exit c.from_residual-in_err-found.ensures.1 (in_parens at_start open_) (λ v. omega (arith, ap (λ z. z.copies) open_.passes.moved)) c.in_err-found.ensures.copied.answers
+
+pub primary::aggregate-returns-in_err-expect-clause-copied : goal.primary::aggregate-returns-in_err-expect-clause-copied
+primary::aggregate-returns-in_err-expect-clause-copied t c =
+    let open_ = c.in_ok-expect_within.ensures in
+    let found = c.in_ok-found.ensures.reads.answers in
+    copied_missed c.from_residual-in_err-expect.ensures.1 c.in_err-expect.ensures (at_close at_start open_ found.takes) (fill_token k.Close (symbol 41) refl refl) (omega (arith, ap (λ z. z.copies) open_.passes.moved, found.builds.copies))
+
+pub primary::argument-returns-in_err-arg-clause-copied : goal.primary::argument-returns-in_err-arg-clause-copied
+primary::argument-returns-in_err-arg-clause-copied t c =
+    copied_exit c.from_residual.ensures.1 (on_second (on_mapped at_start) (token_if_any (same k.Distinct) c.args.tokens.now c.eat.new.self 0 c.eat.result refl refl c.eat.ensures))
+    (λ v. omega (arith, (alike_eats (same k.Distinct) c.args.tokens.now c.eat.new.self c.eat.result c.eat.ensures).copies)) c.in_err-arg.ensures.copied.answers
+
+pub primary::argument-returns-in_err-new-clause-copied : goal.primary::argument-returns-in_err-new-clause-copied
+primary::argument-returns-in_err-new-clause-copied t c = copied_for_memory c.from_residual-in_err-new.ensures.1
+
+pub primary::not_or_exists-returns-in_err-word-clause-copied : goal.primary::not_or_exists-returns-in_err-word-clause-copied
+primary::not_or_exists-returns-in_err-word-clause-copied t c = copied_overflow c.from_residual.ensures.1 c.in_err-word.ensures at_start fill_not (omega arith)
+
+pub primary::not_or_exists-returns-in_err-part-clause-copied : goal.primary::not_or_exists-returns-in_err-part-clause-copied
+primary::not_or_exists-returns-in_err-part-clause-copied t c =
+    let word = within_alone k.Not (rw c.in-Some.is at c.in_ok-word.ensures) in
+    copied_exit c.from_residual-in_err-part.ensures.1 (on_passed (on_nested (on_mapped (on_one at_start))) word.passes) (λ v. ap (λ z. z.copies + v.copies) (sym word.passes.moved)) c.in_err-part.ensures.copied.answers
+
+pub primary::not_or_exists-returns-in_err-not_at-clause-copied : goal.primary::not_or_exists-returns-in_err-not_at-clause-copied
+primary::not_or_exists-returns-in_err-not_at-clause-copied t c = copied_for_memory c.from_residual-in_err-not_at.ensures.1
+
+pub primary::not_or_exists-returns-in_err-word-2-clause-copied : goal.primary::not_or_exists-returns-in_err-word-2-clause-copied
+primary::not_or_exists-returns-in_err-word-2-clause-copied t c =
+    let s = rw c.in_default.is at c.in_ok-word.ensures in
+    copied_missed c.from_residual-in_err-word-2.ensures.1 c.in_err-word-2.ensures (starting_at s.still) fill_not (omega (arith, ap (λ z. z.copies) s.still))
+
+pub primary::not_or_exists-returns-in_err-expect_within-clause-copied : goal.primary::not_or_exists-returns-in_err-expect_within-clause-copied
+primary::not_or_exists-returns-in_err-expect_within-clause-copied t c =
+    let s = rw c.in_default.is at c.in_ok-word.ensures in
+    let word = c.in_ok-word-2.ensures in
+    copied_unopened k.Open c.args.levels _ _ c.from_residual-in_err-expect_within.ensures.1 c.in_err-expect_within.ensures (on_passed (on_mapped (on_other (starting_at s.still))) word) (fill_parens fill_query) (omega (arith, ap (λ z. z.copies) s.still, ap (λ z. z.copies) word.moved))
+
+pub primary::not_or_exists-returns-in_err-query-clause-copied : goal.primary::not_or_exists-returns-in_err-query-clause-copied
+primary::not_or_exists-returns-in_err-query-clause-copied t c =
+    let s = rw c.in_default.is at c.in_ok-word.ensures in
+    let word = c.in_ok-word-2.ensures in
+    let open_ = c.in_ok-expect_within.ensures in
+    copied_exit c.from_residual-in_err-query.ensures.1 (in_parens (on_passed (on_mapped (on_other (starting_at s.still))) word) open_) (λ v. omega (arith, ap (λ z. z.copies) s.still, ap (λ z. z.copies) word.moved, ap (λ z. z.copies) open_.passes.moved)) c.in_err-query.ensures.copied.answers
+
+pub primary::not_or_exists-returns-in_err-expect-clause-copied : goal.primary::not_or_exists-returns-in_err-expect-clause-copied
+primary::not_or_exists-returns-in_err-expect-clause-copied t c =
+    let s = rw c.in_default.is at c.in_ok-word.ensures in
+    let word = c.in_ok-word-2.ensures in
+    let open_ = c.in_ok-expect_within.ensures in
+    let query = c.in_ok-query.ensures.reads.answers in
+    copied_missed c.from_residual-in_err-expect.ensures.1 c.in_err-expect.ensures (at_close (on_passed (on_mapped (on_other (starting_at s.still))) word) open_ query.takes) (fill_token k.Close (symbol 41) refl refl) (omega (arith, ap (λ z. z.copies) s.still, ap (λ z. z.copies) word.moved, ap (λ z. z.copies) open_.passes.moved, query.builds.copies))
+
+pub primary::not_or_exists-returns-in_err-new-clause-copied : goal.primary::not_or_exists-returns-in_err-new-clause-copied
+primary::not_or_exists-returns-in_err-new-clause-copied t c = copied_for_memory c.from_residual-in_err-new.ensures.1
+
+-- ---- what was copied where the inside of parentheses is refused
+
+pub inside::enclosed-returns-in_err-query-clause-copied : goal.inside::enclosed-returns-in_err-query-clause-copied
+inside::enclosed-returns-in_err-query-clause-copied t c =
+    copied_exit c.from_residual.ensures.1 (on_mapped at_start) (λ v. ap (λ z. c.args.tokens.now.copies + z) (enclosed_price v)) c.in_err-query.ensures.copied.answers
+
+pub inside::enclosed-returns-in_err-subquery-in-Query-clause-copied : goal.inside::enclosed-returns-in_err-subquery-in-Query-clause-copied
+inside::enclosed-returns-in_err-subquery-in-Query-clause-copied t c = copied_for_memory c.from_residual-in_err-subquery-in-Query.ensures.1
+
+pub inside::in_parentheses-returns-in_err-open-clause-copied : goal.inside::in_parentheses-returns-in_err-open-clause-copied
+inside::in_parentheses-returns-in_err-open-clause-copied t c = copied_unopened k.Open c.args.levels c.args.tokens.now _ c.from_residual.ensures.1 c.in_err-open.ensures at_start fill_group (omega arith)
+
+pub inside::in_parentheses-returns-in_err-inside-clause-copied : goal.inside::in_parentheses-returns-in_err-inside-clause-copied
+inside::in_parentheses-returns-in_err-inside-clause-copied t c =
+    let open_ = within_alone k.Open c.in_ok-open.ensures in
+    let left = on_mapped (on_passed (on_nested at_start) open_.passes) in
+    copied_exit c.from_residual-in_err-inside.ensures.1 (on_first left (fill_token k.Close (symbol 41) refl refl))
+    (λ v. omega (arith, group_price (lexeme_of c.in_ok-open.open) v, ap (λ z. z.copies) open_.passes.moved)) c.in_err-inside.ensures.copied.answers
+
+pub inside::in_parentheses-returns-in_err-expect-clause-copied : goal.inside::in_parentheses-returns-in_err-expect-clause-copied
+inside::in_parentheses-returns-in_err-expect-clause-copied t c =
+    let open_ = within_alone k.Open c.in_ok-open.ensures in
+    let left = on_mapped (on_passed (on_nested at_start) open_.passes) in
+    let inside = c.in_ok-inside.ensures.reads.answers in
+    copied_missed c.from_residual-in_err-expect.ensures.1 c.in_err-expect.ensures (on_second left inside.takes) (fill_token k.Close (symbol 41) refl refl)
+    (omega (arith, group_price (lexeme_of c.in_ok-open.open) inside.read, ap (λ z. z.copies) open_.passes.moved, inside.builds.copies))
+
+pub inside::inner-returns-in_err-first-clause-copied : goal.inside::inner-returns-in_err-first-clause-copied
+inside::inner-returns-in_err-first-clause-copied t c = copied_exit c.from_residual.ensures.1 (on_first (on_mapped (on_one (on_production grammar.inner at_start))) fill_set_tail) (λ v. refl) c.in_err-first.ensures.copied.answers
+
+pub inside::inner-returns-in_err-set_tail-clause-copied : goal.inside::inner-returns-in_err-set_tail-clause-copied
+inside::inner-returns-in_err-set_tail-clause-copied t c =
+    let first = c.in_ok-first.ensures.reads.answers in
+    copied_exit c.from_residual-in_err-set_tail.ensures.1 (on_second (on_mapped (on_one (on_production grammar.inner at_start))) first.takes) (λ v. refl) (c.in_err-set_tail.ensures.copied first.read c.args.tokens.now first.builds).answers
+
+pub inside::inner-returns-in_err-no_parenthesis-clause-copied : goal.inside::inner-returns-in_err-no_parenthesis-clause-copied
+inside::inner-returns-in_err-no_parenthesis-clause-copied t c = copied_exit c.from_residual-in_err-no_parenthesis.ensures.1 (on_first (on_mapped (on_one (on_other (on_production grammar.inner at_start)))) fill_empty) (λ v. refl) c.in_err-no_parenthesis.ensures.copied.answers
+
+pub inside::inner-returns-in_err-query-clause-copied : goal.inside::inner-returns-in_err-query-clause-copied
+inside::inner-returns-in_err-query-clause-copied t c =
+    copied_exit c.from_residual-in_err-query.ensures.1 inner_group (λ v. ap (λ z. c.args.tokens.now.copies + z) (closed_price v)) c.in_err-query.ensures.copied.answers
+
+pub inside::inner-returns-in-Query-clause-copied : goal.inside::inner-returns-in-Query-clause-copied
+inside::inner-returns-in-Query-clause-copied t c =
+    let q = query_read c.in_ok-query.ensures.extends (rw c.in-Query.is at c.in_ok-query.ensures.reads).answers in
+    copied_in (on_behind_first (on_other (on_other (on_production grammar.inner at_start))) q.takes) (λ v. refl) (c.after_query.ensures.copied q.open_ q.built _ c.args.tokens.now q.place (c.mark-start.ensures.passed, c.mark-start.ensures.copies) q.builds)
+
+pub inside::inner-returns-in_err-whole-in-Expr-clause-copied : goal.inside::inner-returns-in_err-whole-in-Expr-clause-copied
+inside::inner-returns-in_err-whole-in-Expr-clause-copied t c =
+    let x = expr_read c.in_ok-query.ensures.extends (rw c.in-Expr.is at c.in_ok-query.ensures.reads).answers in
+    copied_exit c.from_residual-in_err-whole-in-Expr.ensures.1 (on_first (on_mapped (on_behind_other (on_other (on_other (on_production grammar.inner at_start))) x.takes)) fill_empty) (λ v. refl)
+    (c.in_err-whole-in-Expr.ensures.copied x.built _ c.args.tokens.now (c.mark-start.ensures.passed, c.mark-start.ensures.copies) x.builds).answers
+
+pub inside::after_query-returns-in_err-set_tail-clause-copied : goal.inside::after_query-returns-in_err-set_tail-clause-copied
+inside::after_query-returns-in_err-set_tail-clause-copied t c = λ opening before count began place mark built.
+    copied_exit c.from_residual.ensures.1 (on_mapped (on_one at_start)) (λ v. refl) (some_set_tail (c.in_err-set_tail.ensures.copied before began built.builds).answers)
+
+pub inside::after_query-returns-in_err-first-clause-copied : goal.inside::after_query-returns-in_err-first-clause-copied
+inside::after_query-returns-in_err-first-clause-copied t c = λ opening before count began place mark built. copied_for_memory c.from_residual-in_err-first.ensures.1
+
+pub inside::after_query-returns-in_err-whole-clause-copied : goal.inside::after_query-returns-in_err-whole-clause-copied
+inside::after_query-returns-in_err-whole-clause-copied t c = λ opening before count began place mark built.
+    copied_exit c.from_residual-in_err-whole.ensures.1 (on_first (on_mapped (on_one (on_other at_start))) fill_empty) (λ v. refl)
+    (some_expr_tail (c.in_err-whole.ensures.copied _ count began mark (built_sub opening c.in_ok-first.ensures place built)).answers)
+
+pub inside::no_parenthesis-returns-in_err-first-clause-copied : goal.inside::no_parenthesis-returns-in_err-first-clause-copied
+inside::no_parenthesis-returns-in_err-first-clause-copied t c = copied_exit c.from_residual.ensures.1 (on_first (on_mapped (on_other at_start)) fill_and_tail) (λ v. refl) c.in_err-first.ensures.copied.answers
+
+pub inside::no_parenthesis-returns-then-sees_any-clause-copied : goal.inside::no_parenthesis-returns-then-sees_any-clause-copied
+inside::no_parenthesis-returns-then-sees_any-clause-copied t c =
+    let first = c.in_ok-first.ensures.reads.answers in
+    copied_in (on_second (on_mapped (on_other at_start)) first.takes) (λ v. refl) (c.and_tail.ensures.copied first.read c.args.tokens.now first.builds)
+
+pub inside::no_parenthesis-returns-in_err-first-2-clause-copied : goal.inside::no_parenthesis-returns-in_err-first-2-clause-copied
+inside::no_parenthesis-returns-in_err-first-2-clause-copied t c = copied_exit c.from_residual-in_err-first-2.ensures.1 (on_one on_plain) (λ v. refl) c.in_err-first-2.ensures.copied.answers
+
+pub inside::no_parenthesis-returns-then-sees-clause-copied : goal.inside::no_parenthesis-returns-then-sees-clause-copied
+inside::no_parenthesis-returns-then-sees-clause-copied t c =
+    let on = c.in_ok-first-2.ensures.extends in
+    let g = gives_on {s = c.args.tokens.now} (plain_minus (sym c.sees.ensures ∙ c.if-sees.true)) c.in_ok-first-2.ensures.reads.answers in
+    copied_in (on_second (on_mapped (on_one at_start)) (took_counted on g.takes)) (λ v. refl) (c.expr_tail.ensures.copied g.read _ c.args.tokens.now (c.mark-start.ensures.passed, c.mark-start.ensures.copies) (built_counted on g.builds))
+
+pub inside::no_parenthesis-returns-in_err-first-3-clause-copied : goal.inside::no_parenthesis-returns-in_err-first-3-clause-copied
+inside::no_parenthesis-returns-in_err-first-3-clause-copied t c = copied_for_memory c.from_residual-in_err-first-3.ensures.1
+
+pub inside::no_parenthesis-returns-in-Some-clause-copied : goal.inside::no_parenthesis-returns-in-Some-clause-copied
+inside::no_parenthesis-returns-in-Some-clause-copied t c =
+    let literal = rw c.in-Some.is at (c.in_ok-first-3.ensures.reads c.args.levels) in
+    let on = c.in_ok-first-3.ensures.extends in
+    let g = gives_on {s = c.args.tokens.now} (plain_literal (sym c.sees.ensures ∙ c.if-sees.false) (literal_next literal.takes)) literal in
+    copied_in (on_second (on_mapped (on_one at_start)) (took_counted on g.takes)) (λ v. refl) (c.expr_tail-in-Some.ensures.copied g.read _ c.args.tokens.now (c.mark-start.ensures.passed, c.mark-start.ensures.copies) (built_counted on g.builds))
+
+pub inside::no_parenthesis-returns-in_err-first-4-clause-copied : goal.inside::no_parenthesis-returns-in_err-first-4-clause-copied
+inside::no_parenthesis-returns-in_err-first-4-clause-copied t c =
+    let s = lacks_stays (rw c.in_default.is at (c.in_ok-first-3.ensures.reads c.args.levels)) in
+    copied_exit c.from_residual-in_err-first-4.ensures.1 (on_other (on_other (on_still on_plain s.still))) (λ v. ap (λ z. z.copies + v.copies) (sym s.still)) c.in_err-first-4.ensures.copied.answers
+
+pub inside::no_parenthesis-returns-clause-copied : goal.inside::no_parenthesis-returns-clause-copied
+inside::no_parenthesis-returns-clause-copied t c =
+    let s = lacks_stays (rw c.in_default.is at (c.in_ok-first-3.ensures.reads c.args.levels)) in
+    let on = c.in_ok-first-3.ensures.extends ⨟ c.in_ok-first-4.ensures.extends in
+    let g = gives_on {s = c.args.tokens.now} (plain_named (sym c.sees.ensures ∙ c.if-sees.false) s) (gives_from (alike_stays s) c.in_ok-first-4.ensures.reads.answers) in
+    copied_in (on_second (on_mapped (on_one at_start)) (took_counted on g.takes)) (λ v. refl) (c.expr_tail-2.ensures.copied g.read _ c.args.tokens.now (c.mark-start.ensures.passed, c.mark-start.ensures.copies) (built_counted on g.builds))
+
+pub inside::in_inner-returns-in_err-first-clause-copied : goal.inside::in_inner-returns-in_err-first-clause-copied
+inside::in_inner-returns-in_err-first-clause-copied t c = λ word before count began in_at weight value.
+    copied_exit c.from_residual.ensures.1 (on_first (on_mapped (on_one (on_production grammar.in_inner at_start))) fill_set_tail) (λ v. omega (arith, value.copies)) c.in_err-first.ensures.copied.answers
+
+pub inside::in_inner-returns-in_err-query-clause-copied : goal.inside::in_inner-returns-in_err-query-clause-copied
+inside::in_inner-returns-in_err-query-clause-copied t c = λ word before count began in_at weight value.
+    let first = c.in_ok-first.ensures.reads.answers in
+    copied_exit c.from_residual-in_err-query.ensures.1 (on_second (on_mapped (on_one (on_production grammar.in_inner at_start))) first.takes) (λ v. omega (arith, value.copies)) (c.in_err-query.ensures.copied first.read c.args.tokens.now first.builds).answers
+
+pub inside::in_inner-returns-in_err-in_query-clause-copied : goal.inside::in_inner-returns-in_err-in_query-clause-copied
+inside::in_inner-returns-in_err-in_query-clause-copied t c = λ word before count began in_at weight value. copied_for_memory c.from_residual-in_err-in_query.ensures.1
+
+pub inside::in_inner-returns-in_err-first-2-clause-copied : goal.inside::in_inner-returns-in_err-first-2-clause-copied
+inside::in_inner-returns-in_err-first-2-clause-copied t c = λ word before count began in_at weight value.
+    copied_exit c.from_residual-in_err-first-2.ensures.1 (on_first (on_mapped (on_one (on_other (on_production grammar.in_inner at_start)))) (fill_none (Some 255) next_comma)) (λ v. omega (arith, value.copies)) c.in_err-first-2.ensures.copied.answers
+
+pub inside::in_inner-returns-then-not-sees-clause-copied : goal.inside::in_inner-returns-then-not-sees-clause-copied
+inside::in_inner-returns-then-not-sees-clause-copied t c = λ word before count began in_at weight value.
+    let first = c.in_ok-first-2.ensures.reads.answers in
+    copied_in (on_second (on_mapped (on_one (on_other (on_production grammar.in_inner at_start)))) first.takes) (λ v. refl) (c.members.ensures.copied before first.read count began _ weight value first.builds)
+
+pub inside::in_inner-returns-in_err-query-2-clause-copied : goal.inside::in_inner-returns-in_err-query-2-clause-copied
+inside::in_inner-returns-in_err-query-2-clause-copied t c = λ word before count began in_at weight value.
+    copied_exit c.from_residual-in_err-query-2.ensures.1 in_inner_group (λ v. omega (arith, value.copies, in_closed_price word (before, count) v)) c.in_err-query-2.ensures.copied.answers
+
+pub inside::in_inner-returns-in-Query-clause-copied : goal.inside::in_inner-returns-in-Query-clause-copied
+inside::in_inner-returns-in-Query-clause-copied t c = λ word before count began in_at weight value.
+    let q = query_read c.in_ok-query-2.ensures.extends (rw c.in-Query.is at c.in_ok-query-2.ensures.reads).answers in
+    copied_in (on_behind_first (on_other (on_other (on_production grammar.in_inner at_start))) q.takes) (λ v. refl)
+    (c.in_after_query.ensures.copied word q.open_ before q.built count _ began _ in_at weight value q.place (c.mark-start.ensures.passed, c.mark-start.ensures.copies) q.builds)
+
+pub inside::in_inner-returns-in_err-first-in-Expr-clause-copied : goal.inside::in_inner-returns-in_err-first-in-Expr-clause-copied
+inside::in_inner-returns-in_err-first-in-Expr-clause-copied t c = λ word before count began in_at weight value.
+    let x = expr_read c.in_ok-query-2.ensures.extends (rw c.in-Expr.is at c.in_ok-query-2.ensures.reads).answers in
+    copied_exit c.from_residual-in_err-first-in-Expr.ensures.1 (on_first (on_mapped (on_behind_other (on_other (on_other (on_production grammar.in_inner at_start))) x.takes)) (fill_none (Some 255) next_comma)) (λ v. omega (arith, value.copies))
+    (c.in_err-first-in-Expr.ensures.copied x.built _ c.args.tokens.now (c.mark-start.ensures.passed, c.mark-start.ensures.copies) x.builds).answers
+
+pub inside::in_inner-returns-in_ok-first-in-Expr-clause-copied : goal.inside::in_inner-returns-in_ok-first-in-Expr-clause-copied
+inside::in_inner-returns-in_ok-first-in-Expr-clause-copied t c = λ word before count began in_at weight value.
+    let x = expr_read c.in_ok-query-2.ensures.extends (rw c.in-Expr.is at c.in_ok-query-2.ensures.reads).answers in
+    let tail = (c.in_ok-first-in-Expr.ensures.reads x.built _ c.args.tokens.now (c.mark-start.ensures.passed, c.mark-start.ensures.copies) x.builds).answers in
+    copied_in (on_second (on_mapped (on_behind_other (on_other (on_other (on_production grammar.in_inner at_start))) x.takes)) tail.takes) (λ v. refl)
+    (c.members-in-Expr.ensures.copied before (tail.read (x.built, _)) count began _ weight value tail.builds)
+
+pub inside::in_after_query-returns-in_err-query-clause-copied : goal.inside::in_after_query-returns-in_err-query-clause-copied
+inside::in_after_query-returns-in_err-query-clause-copied t c = λ word opening before inside count tokens_inside began middle in_at weight value place mark built.
+    copied_exit c.from_residual.ensures.1 (on_mapped (on_one at_start)) (λ v. omega (arith, value.copies)) (some_set_tail (c.in_err-query.ensures.copied inside middle built.builds).answers)
+
+pub inside::in_after_query-returns-in_err-in_query-clause-copied : goal.inside::in_after_query-returns-in_err-in_query-clause-copied
+inside::in_after_query-returns-in_err-in_query-clause-copied t c = λ word opening before inside count tokens_inside began middle in_at weight value place mark built. copied_for_memory c.from_residual-in_err-in_query.ensures.1
+
+pub inside::in_after_query-returns-in_err-first-clause-copied : goal.inside::in_after_query-returns-in_err-first-clause-copied
+inside::in_after_query-returns-in_err-first-clause-copied t c = λ word opening before inside count tokens_inside began middle in_at weight value place mark built. copied_for_memory c.from_residual-in_err-first.ensures.1
+
+pub inside::in_after_query-returns-in_err-first-2-clause-copied : goal.inside::in_after_query-returns-in_err-first-2-clause-copied
+inside::in_after_query-returns-in_err-first-2-clause-copied t c = λ word opening before inside count tokens_inside began middle in_at weight value place mark built.
+    copied_exit c.from_residual-in_err-first-2.ensures.1 (on_first (on_mapped (on_one (on_other at_start))) (fill_none (Some 255) next_comma)) (λ v. omega (arith, value.copies))
+    (some_expr_tail (c.in_err-first-2.ensures.copied _ tokens_inside middle mark (built_sub opening c.in_ok-first.ensures place built)).answers)
+
+pub inside::in_after_query-returns-then-sees_any-2-clause-copied : goal.inside::in_after_query-returns-then-sees_any-2-clause-copied
+inside::in_after_query-returns-then-sees_any-2-clause-copied t c = λ word opening before inside count tokens_inside began middle in_at weight value place mark built.
+    let tail = (c.in_ok-first-2.ensures.reads _ tokens_inside middle mark (built_sub opening c.in_ok-first.ensures place built)).answers in
+    copied_in (on_second (on_mapped (on_one (on_other at_start))) (takes_some tail_kinds expr_tail_begins (sym c.sees_any-2.ensures ∙ c.if-sees_any-2.true) tail.takes)) (λ v. refl)
+    (c.members.ensures.copied before _ count began middle weight value tail.builds)
+
+pub inside::in_after_query-returns-in_err-first-3-clause-copied : goal.inside::in_after_query-returns-in_err-first-3-clause-copied
+inside::in_after_query-returns-in_err-first-3-clause-copied t c = λ word opening before inside count tokens_inside began middle in_at weight value place mark built. copied_for_memory c.from_residual-in_err-first-3.ensures.1
+
+pub inside::in_after_query-returns-then-sees-clause-copied : goal.inside::in_after_query-returns-then-sees-clause-copied
+inside::in_after_query-returns-then-sees-clause-copied t c = λ word opening before inside count tokens_inside began middle in_at weight value place mark built.
+    copied_in (on_mapped (on_other (on_other at_start))) (λ v. ap (λ z. began.copies + z) (listed_price word (before, count) (opening, inside) v))
+    (c.members-then-sees.ensures.copied before _ count began middle weight value (built_sub opening c.in_ok-first-3.ensures place built).builds)
+
+pub inside::in_after_query-returns-in_err-in_query-2-clause-copied : goal.inside::in_after_query-returns-in_err-in_query-2-clause-copied
+inside::in_after_query-returns-in_err-in_query-2-clause-copied t c = λ word opening before inside count tokens_inside began middle in_at weight value place mark built. copied_for_memory c.from_residual-in_err-in_query-2.ensures.1

@@ -1,5 +1,5 @@
 -- The reading functions end: the levels left fall, or with so many levels left the function does, by the order of the grammar.
-use Rattle.std.proofs.Common.{ℕ, ◌+◌, ◌*◌, List, length, ◌≡◌}
+use Rattle.std.proofs.Common.{◌+◌, ◌*◌, List, length}
 use Rattle.grammar.specs.Form.{ref}
 use Rattle.sql_model.specs.declared.tree.Entry.{Entry}
 use Rattle.sql_model.specs.declared.tree.Query.{Query}

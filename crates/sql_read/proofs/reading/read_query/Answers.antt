@@ -8,10 +8,10 @@ pub returns-in-Ok-clause-keeps : goal.returns-in-Ok-clause-keeps
 returns-in-Ok-clause-keeps c = keeps c.in-Ok.ensures.extends
 
 pub returns-in-Err-clause-refused : goal.returns-in-Err-clause-refused
-returns-in-Err-clause-refused c = refused_whole c.in-Err.ensures.reads.answers c.in-Err.ensures.extends
+returns-in-Err-clause-refused c = refused_whole c.in-Err.ensures.reads.answers c.in-Err.ensures.copied.answers c.in-Err.ensures.extends c.stop.ensures.within
 
 pub returns-in-Err-clause-stopped : goal.returns-in-Err-clause-stopped
-returns-in-Err-clause-stopped c = at_end c.stop.ensures c.in-Err.ensures.extends
+returns-in-Err-clause-stopped c = at_end c.stop.ensures.stopped c.in-Err.ensures.extends
 
 pub returns-in-Err-clause-keeps : goal.returns-in-Err-clause-keeps
-returns-in-Err-clause-keeps c = keeps_to_end c.stop.ensures c.in-Err.ensures.extends
+returns-in-Err-clause-keeps c = keeps_to_end c.stop.ensures.stopped c.in-Err.ensures.extends

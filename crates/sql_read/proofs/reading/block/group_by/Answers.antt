@@ -2,6 +2,7 @@ use Rattle.std.proofs.Common.{refl, arith, None}
 use Rattle.sql_grammar.specs.declared.kinds.Kind.TheVariants as k
 use Rattle.sql_read.proofs.Extending.{◌⨟◌, extends_misses, extends_overflows, extends_passes, extends_stays, extends_within, shorter}
 use Rattle.sql_read.proofs.ReadBlocks.{by_missed, column_refused, column_too_many, gathered, gathering, grouped_left, one_gathered}
+use Rattle.sql_read.proofs.ReadCopiedLists.{copied_at_by, copied_at_column, copied_in_column, copied_in_first_column}
 use Rattle.sql_read.proofs.ReadPassing.{overflows_alone, stays_alone, within_alone}
 use Rattle.sql_read.proofs.ReadSteps.{exits, first_part, gives, none_taken, plain_still, refuses, whole}
 use Rattle.sql_read.proofs.reading.block.group_by.Goals as goal
@@ -77,3 +78,19 @@ returns-clause-reads c = λ levels.
 
 pub returns-clause-extends : goal.returns-clause-extends
 returns-clause-extends c = let q = rw c.in_default-2.is at c.in_ok-eat_within.ensures in c.more.invariant.extends ⨟ extends_stays q
+
+-- ---- what was copied where it is refused
+
+pub returns-in_err-expect-clause-copied : goal.returns-in_err-expect-clause-copied
+returns-in_err-expect-clause-copied c = copied_at_by c.from_residual.ensures.1 c.in-Some.ensures c.in_err-expect.ensures
+
+pub returns-in_err-first-clause-copied : goal.returns-in_err-first-clause-copied
+returns-in_err-first-clause-copied c = copied_in_first_column c.from_residual-in_err-first.ensures.1 c.in-Some.ensures c.in_ok-expect.ensures c.in_err-first.ensures.copied.answers
+
+pub returns-in_err-eat_within-clause-copied : goal.returns-in_err-eat_within-clause-copied
+returns-in_err-eat_within-clause-copied c = copied_at_column c.from_residual-in_err-eat_within.ensures.1 (c.more.invariant.list 0) (overflows_alone k.Comma c.in_err-eat_within.ensures)
+
+pub returns-in_err-next-clause-copied : goal.returns-in_err-next-clause-copied
+returns-in_err-next-clause-copied c =
+    let q = within_alone k.Comma (rw c.in-Some-2.is at c.in_ok-eat_within.ensures) in
+    copied_in_column c.from_residual-in_err-next.ensures.1 (c.more.invariant.list 0) q c.in_err-next.ensures.copied.answers

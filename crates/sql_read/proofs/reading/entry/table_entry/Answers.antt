@@ -1,11 +1,7 @@
-use Rattle.std.proofs.Common.{refl, arith, []}
-use Rattle.sql_grammar.specs.Numbering.{plain}
-use Rattle.sql_grammar.specs.declared.kinds.Kind.TheVariants as k
-use Rattle.sql_grammar.specs.Kinds.{same, among}
-use Rattle.sql_read.proofs.Extending.{◌⨟◌, extends_itself, extends_misses, extends_overflows, extends_passes, extends_stays, extends_still, extends_within, shorter}
-use Rattle.sql_read.proofs.ReadBlocks.{alike_eats, extends_eats}
-use Rattle.sql_read.proofs.ReadPassing.{◌then◌, alike_passes, alike_stays, alike_within, built_from, built_until, handed_on, overflows_alone, reads_from, stays_alone, within_alone}
-use Rattle.sql_read.proofs.ReadSteps.{blocks, built_as, built_map, built_both, exits, first_part, gives, mapped, missed, eaten, plain_here, refuses, second, took_token, whole, before}
+use Rattle.std.proofs.Common.{refl}
+use Rattle.sql_read.proofs.Extending.{◌⨟◌, extends_misses, extends_passes}
+use Rattle.sql_read.proofs.ReadSteps.{blocks, built_as, exits, first_part, gives, missed, refuses, second, took_token, whole}
+use Rattle.sql_read.proofs.ReadCopiedEntries.{copied_at_table, copied_in_alias}
 use Rattle.sql_read.proofs.ReadEntries.{table_built}
 use Rattle.sql_read.proofs.reading.entry.table_entry.Goals as goal
 
@@ -45,3 +41,9 @@ returns-in_ok-listed_table-in-None-clause-reads c = λ levels.
 
 pub returns-in_ok-listed_table-in-None-clause-extends : goal.returns-in_ok-listed_table-in-None-clause-extends
 returns-in_ok-listed_table-in-None-clause-extends c = extends_passes c.in_ok-table.ensures ⨟ c.in_ok-alias.ensures.extends
+
+pub returns-in_err-table-clause-copied : goal.returns-in_err-table-clause-copied
+returns-in_err-table-clause-copied c = copied_at_table c.from_residual.ensures.1 c.in_err-table.ensures
+
+pub returns-in_err-alias-clause-copied : goal.returns-in_err-alias-clause-copied
+returns-in_err-alias-clause-copied c = copied_in_alias c.from_residual-in_err-alias.ensures.1 c.in_ok-table.ensures c.in_err-alias.ensures.copied.answers

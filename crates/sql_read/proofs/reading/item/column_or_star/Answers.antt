@@ -1,6 +1,8 @@
-use Rattle.std.proofs.Common.{inl, refl, None}
+use Rattle.std.proofs.Common.{refl, None}
+use Rattle.sql_lex.specs.Lexemes.{lexeme_of}
 use Rattle.sql_read.specs.declared.reading.item.Starred.TheVariants as starred
 use Rattle.sql_read.proofs.Extending.{◌⨟◌, extends_passes, extends_misses, extends_stays}
+use Rattle.sql_read.proofs.ReadCopiedItems.{copied_behind_dot}
 use Rattle.sql_read.proofs.ReadNames.{dot_left}
 use Rattle.sql_read.proofs.ReadPassing.{alike_passes, alike_stays, built_from, other_stays, ◌then◌}
 use Rattle.sql_read.proofs.ReadSteps.{before, blocks, built_as, built_map, by_token, exits, gives, mapped, missed, none_taken, plain_here, plain_still, refuses, starts, took_token, whole}
@@ -43,3 +45,7 @@ returns-clause-reads c = λ levels.
 
 pub returns-clause-extends : goal.returns-clause-extends
 returns-clause-extends c = extends_passes c.in-Some.ensures ⨟ extends_stays c.in_default-eat.ensures ⨟ extends_passes c.in_ok-name.ensures
+
+pub returns-in_err-name-clause-copied : goal.returns-in_err-name-clause-copied
+returns-in_err-name-clause-copied c =
+    copied_behind_dot (lexeme_of c.args.word.now) c.from_residual-in_err-name.ensures.1 c.in-Some.ensures c.in_default-eat.ensures c.in_err-name.ensures

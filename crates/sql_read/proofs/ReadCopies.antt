@@ -1,0 +1,197 @@
+-- How what a part has copied where it is refused is what the whole has copied there.
+use Rattle.std.proofs.Common.{◌≡◌, ℕ, ◌+◌, Bool, true, false, List, ◌∷◌, Option, Some, None, Result, Ok, Err, sym, ◌∙◌, ap, subst, if◌then◌else◌, map as map_list}
+use Rattle.std.specs.Result.{IsErrAnd}
+use Rattle.std.proofs.lemmas.Result.{err_from_is_err_and}
+use Rattle.grammar.specs.Completions.{Continues}
+use Rattle.grammar.specs.Reading.{Took}
+use Rattle.grammar.specs.Form.{alt, map, nest, ref, seq, token}
+use Rattle.grammar.proofs.Completing as c
+use Rattle.sql_lex.specs.declared.token.LexFault.{LexFault}
+use Rattle.sql_lex.specs.Bytes.{folded_byte}
+use Rattle.sql_lex.specs.Lexemes.{Lexeme}
+use Rattle.sql_read.specs.declared.fault.LimitKind.{LimitKind}
+use Rattle.sql_read.specs.declared.fault.LimitKind.TheVariants as limit
+use Rattle.sql_read.specs.declared.fault.ReadFault.{ReadFault}
+use Rattle.sql_read.specs.declared.fault.ReadFault.TheVariants.{Lex, Unexpected, LeftOut, TooDeep, Limit, NoMemory}
+use Rattle.sql_read.specs.Copied.{Copied, CopiedToFault, CopiesSoFar, CopiesTooMuch, Says}
+use Rattle.sql_read.specs.Cursor.{Cursor, next_of}
+use Rattle.sql_grammar.specs.QueryCopies.{most_copies}
+use Rattle.sql_read.specs.Eating.{Misses, Overflows, Passes, Refusing}
+use Rattle.sql_grammar.specs.declared.kinds.Kind.{Kind}
+use Rattle.sql_grammar.specs.Numbering.{Built}
+use Rattle.sql_grammar.specs.PlanCopies.{copies_nothing}
+use Rattle.sql_grammar.specs.QueryGrammar.{Production, Read, The}
+use Rattle.sql_grammar.specs.QueryPlan.{plan}
+use Rattle.sql_read.specs.Reads.{of_form, Takes}
+use Rattle.sql_read.specs.Refusals.{is_left_out_word, refusal_of}
+use Rattle.sql_grammar.proofs.QueryFillings.{Filled}
+use Rattle.sql_grammar.proofs.CopySteps.{plan_filled}
+use Rattle.sql_grammar.proofs.QueryTable.{planned}
+use Rattle.sql_read.proofs.ReadSteps.{took_token}
+
+-- f goes on here in a text of N that began at the start: what completes f here completes N from the start
+pub record Going {C A : Type 0} (f : The C) (here : List Lexeme) (N : The A) (start : List Lexeme) (h : C → A) : Type 0 where
+  pub goes : Continues copies_nothing (of_form None f) here (of_form None N) start h
+
+pub at_start : {A : Type 0} {N : The A} {start : List Lexeme} → Going N start N start (λ v. v)
+at_start {N = N} {start = start} = record { goes = c.continues_whole copies_nothing (of_form None N) start }
+
+module _ {A : Type 0} {N : The A} {start : List Lexeme} where
+  pub on_production : (n : Production) {here : List Lexeme} {h : Read n → A} → Going (ref n) here N start h → Going (plan n) here N start h
+  on_production n {here = here} l = record { goes = record { reaches = λ v rest r. l.goes.reaches v rest ((c.continues_production planned 0 copies_nothing n here).reaches v rest r) } }
+
+  module _ {C D : Type 0} {here : List Lexeme} where
+    pub on_mapped : {k : C → D} {f : The C} {h : D → A} → Going (map k f) here N start h → Going f here N start (λ v. h (k v))
+    on_mapped {k = k} {f = f} {h = h} l = record { goes = c.left_map planned 0 copies_nothing (of_form None N) start k f here h l.goes }
+
+    -- the second part, behind the first
+    pub on_taken : {f : The C} {g : The D} {h : C × D → A} {v : C} (d : ℕ) {mid : List Lexeme} → Going (seq f g) here N start h → Took (of_form None f) (of_form (Some d) f) here v mid → Going g mid N start (λ w. h (v, w))
+    on_taken {f = f} {g = g} {h = h} {v = v} d {mid = mid} l t = record { goes = c.left_second planned d copies_nothing (of_form None N) start f g here h l.goes v mid t }
+
+    pub on_second : {f : The C} {g : The D} {h : C × D → A} {v : C} {d : ℕ} {mid : List Lexeme} → Going (seq f g) here N start h → Takes f d here v mid → Going g mid N start (λ w. h (v, w))
+    on_second {d = d} l t = on_taken d l t.took
+
+    -- the first part, with something behind it
+    pub on_first : {f : The C} {g : The D} {h : C × D → A} {w : D} → Going (seq f g) here N start h → Filled g w → Going f here N start (λ v. h (v, w))
+    on_first {f = f} {g = g} {h = h} {w = w} l b = record { goes = c.left_first planned 0 copies_nothing (of_form None N) start f g here h l.goes w (plan_filled g w b) }
+
+  module _ {C : Type 0} {here : List Lexeme} {f g : The C} {h : C → A} where
+    pub on_one : Going (alt f g) here N start h → Going f here N start h
+    on_one l = record { goes = c.left_one planned 0 copies_nothing (of_form None N) start f g here h l.goes }
+
+    pub on_other : Going (alt f g) here N start h → Going g here N start h
+    on_other l = record { goes = c.left_other planned 0 copies_nothing (of_form None N) start f g here h l.goes }
+
+  -- behind a token
+  pub on_passed : {C : Type 0} {p : Kind → Bool} {a b : Cursor} {t : Lexeme} {g : The C} {h : Lexeme × C → A} → Going (seq (token p) g) a.tokens N start h → Passes p a t b → Going g b.tokens N start (λ w. h (t, w))
+  on_passed l q = on_second l (took_token 0 q)
+
+  pub on_nested : {C : Type 0} {here : List Lexeme} {f : The C} {h : C → A} → Going (nest f) here N start h → Going f here N start h
+  on_nested {here = here} {f = f} {h = h} l = record { goes = c.left_nest planned 0 copies_nothing (of_form None N) start f here h l.goes }
+
+-- ---- refusals
+
+-- the price of a part is that of the whole
+abbrev pub SamePrice : {C X Y : Type 0} → Cursor → (C → Built Y) → Cursor → (C → Built X) → Type 0
+SamePrice {C = C} start whole began part = (v : C) → start.copies + (whole v).copies ≡ began.copies + (part v).copies
+
+module _ {C A X Y : Type 0} {f : The C} {N : The A} {part : C → Built X} {whole : A → Built Y} {h : C → A} {began before start first after : Cursor} where
+  -- the whole has copied what its part has
+  copied_to : {fault : ReadFault} → Going f before.tokens N first.tokens h → SamePrice start (λ v. whole (h v)) began part
+      → CopiedToFault f part began before fault after → CopiedToFault N whole start first fault after
+  copied_to {fault = fault} l e s = record { says = by fault s.says }
+    where
+      so_far : CopiesSoFar f part began before after → CopiesSoFar N whole start first after
+      so_far r = record { value = h r.value; up_to = l.goes.reaches r.value after.tokens r.up_to; count = r.count ∙ sym (e r.value) }
+
+      too_much : CopiesTooMuch f part began before after → CopiesTooMuch N whole start first after
+      too_much r = record {
+        token = r.token;
+        overspends = c.overspends_from copies_nothing (of_form None f) before.tokens (of_form None N) first.tokens h l.goes (λ v. (part v).copies) (λ v. (whole v).copies) most_copies began.copies start.copies e (r.token ∷ after.tokens) r.overspends;
+      }
+
+      by : (fault : ReadFault) → Says f part began before fault after → Says N whole start first fault after
+      by (Lex fault) s = so_far s
+      by (Unexpected at) s = so_far s
+      by (LeftOut word at) s = so_far s
+      by (TooDeep at) s = so_far s
+      by (Limit limit.Copies) s = too_much s
+      by (Limit limit.Entries) s = so_far s
+      by (Limit limit.Columns) s = s
+      by (Limit limit.Relations) s = s
+      by NoMemory s = tt
+
+  pub copied_in : {B : Type 0} {result : Result B ReadFault} → Going f before.tokens N first.tokens h → SamePrice start (λ v. whole (h v)) began part
+      → Copied f part began before result after → Copied N whole start first result after
+  copied_in {result = Ok value} l e q = record { answers = tt }
+  copied_in {result = Err fault} l e q = record { answers = copied_to l e q.answers }
+
+  -- the same, at the exit of a `?`
+  pub copied_exit : {D : Type 0} {fault : ReadFault} {result : Result D ReadFault} → IsErrAnd result (λ y. y ≡ fault) → Going f before.tokens N first.tokens h → SamePrice start (λ v. whole (h v)) began part
+      → CopiedToFault f part began before fault after → Copied N whole start first result after
+  copied_exit {fault = fault} {result = result} i l e q =
+      let p = err_from_is_err_and result i in
+      subst (λ z. Copied N whole start first z after) (sym p.1) (record { answers = subst (λ z. CopiedToFault N whole start first z after) (sym p.2) (copied_to l e q) })
+
+-- a refusal that is neither of copies nor of what no query counts
+abbrev pub Other : ReadFault → Type 0
+Other (Lex fault) = Unit {0}
+Other (Unexpected at) = Unit {0}
+Other (LeftOut word at) = Unit {0}
+Other (TooDeep at) = Unit {0}
+Other (Limit limit.Entries) = Unit {0}
+Other (Limit limit.Copies) = ⊥
+Other (Limit limit.Columns) = ⊥
+Other (Limit limit.Relations) = ⊥
+Other NoMemory = Unit {0}
+
+pub record IsOther (fault : ReadFault) : Type 0 where
+  pub other : Other fault
+
+copied_of : {A Y : Type 0} {N : The A} {whole : A → Built Y} {start first after : Cursor} (fault : ReadFault) → IsOther fault → CopiesSoFar N whole start first after → CopiedToFault N whole start first fault after
+copied_of (Lex fault) o s = record { says = s }
+copied_of (Unexpected at) o s = record { says = s }
+copied_of (LeftOut word at) o s = record { says = s }
+copied_of (TooDeep at) o s = record { says = s }
+copied_of (Limit limit.Copies) o s = absurd o.other
+copied_of (Limit limit.Entries) o s = record { says = s }
+copied_of (Limit limit.Columns) o s = absurd o.other
+copied_of (Limit limit.Relations) o s = absurd o.other
+copied_of NoMemory o s = record { says = tt }
+
+-- what stands next is refused, and that is no limit
+at_token : (what : LimitKind) (left_out : Bool) (t : Lexeme) → Limit what ≡ (if left_out then LeftOut (map_list folded_byte t.text) t.start else Unexpected t.start) → ⊥
+at_token what true t e = cc
+at_token what false t e = cc
+
+no_limit : (what : LimitKind) (end : ℕ) (next : Result (Option Lexeme) LexFault) → Limit what ≡ refusal_of end next → ⊥
+no_limit what end (Ok None) e = cc
+no_limit what end (Ok (Some t)) e = at_token what (is_left_out_word t.kind t.text) t e
+no_limit what end (Err fault) e = cc
+
+missed_no_limit : (fault : ReadFault) (b : Cursor) → Refusing b fault → IsOther fault
+missed_no_limit (Limit what) b n = absurd (no_limit what b.end (next_of b) (n (λ z. cc)))
+missed_no_limit (Lex fault) b n = record { other = tt }
+missed_no_limit (Unexpected at) b n = record { other = tt }
+missed_no_limit (LeftOut word at) b n = record { other = tt }
+missed_no_limit (TooDeep at) b n = record { other = tt }
+missed_no_limit NoMemory b n = record { other = tt }
+
+-- nothing of what remains stands here
+pub copied_before : {C A D Y : Type 0} {f : The C} {N : The A} {whole : A → Built Y} {h : C → A} {start first after : Cursor} {v : C} {fault : ReadFault} {result : Result D ReadFault}
+    → IsErrAnd result (λ y. y ≡ fault) → Going f after.tokens N first.tokens h → Filled f v → after.copies ≡ start.copies + (whole (h v)).copies → IsOther fault → Copied N whole start first result after
+copied_before {f = f} {N = N} {whole = whole} {h = h} {start = start} {first = first} {after = after} {v = v} {fault = fault} {result = result} i l b e o =
+    let p = err_from_is_err_and result i in
+    subst (λ z. Copied N whole start first z after) (sym p.1)
+    (record {
+      answers = subst (λ z. CopiedToFault N whole start first z after) (sym p.2) (copied_of fault o (record {
+        value = h v;
+        up_to = c.left_filled planned 0 copies_nothing (of_form None N) first.tokens f after.tokens h l.goes v (plan_filled f v b);
+        count = e;
+      }));
+    })
+
+-- memory ran out
+pub copied_for_memory : {A D Y : Type 0} {N : The A} {whole : A → Built Y} {start first after : Cursor} {result : Result D ReadFault} → IsErrAnd result (λ y. y ≡ NoMemory) → Copied N whole start first result after
+copied_for_memory {N = N} {whole = whole} {start = start} {first = first} {after = after} {result = result} i =
+    let p = err_from_is_err_and result i in
+    subst (λ z. Copied N whole start first z after) (sym p.1) (record { answers = subst (λ z. CopiedToFault N whole start first z after) (sym p.2) (record { says = tt }) })
+
+-- ---- tokens that are missed
+
+module _ {C A D Y : Type 0} {g : The C} {N : The A} {whole : A → Built Y} {h : C → A} {start first a b : Cursor} {v : C} {fault : ReadFault} {result : Result D ReadFault} where
+  -- what stands next is refused, and it is no limit
+  copied_still : IsErrAnd result (λ y. y ≡ fault) → b ≡ a → IsOther fault → Going g a.tokens N first.tokens h → Filled g v → a.copies ≡ start.copies + (whole (h v)).copies → Copied N whole start first result b
+  copied_still i s o l f e = copied_before i (subst (λ z. Going g z.tokens N first.tokens h) (sym s) l) f (ap (λ z. z.copies) s ∙ e) o
+
+  pub copied_missed : {p : Kind → Bool} → IsErrAnd result (λ y. y ≡ fault) → Misses p a fault b → Going g a.tokens N first.tokens h → Filled g v → a.copies ≡ start.copies + (whole (h v)).copies
+      → Copied N whole start first result b
+  copied_missed i m = copied_still i m.stays.still (missed_no_limit fault b m.refusing)
+
+  pub copied_overflow : {p : Kind → Bool} {room : ℕ} → IsErrAnd result (λ y. y ≡ fault) → Overflows p room a fault b → Going g a.tokens N first.tokens h → Filled g v → a.copies ≡ start.copies + (whole (h v)).copies
+      → Copied N whole start first result b
+  copied_overflow i m = copied_still i m.still (subst IsOther (sym m.too_deep) (record { other = tt }))
+
+-- the text began here
+pub starting_at : {A : Type 0} {N : The A} {a b : Cursor} → b ≡ a → Going N b.tokens N a.tokens (λ v. v)
+starting_at {N = N} {a = a} s = subst (λ z. Going N z.tokens N a.tokens (λ v. v)) (sym s) at_start
