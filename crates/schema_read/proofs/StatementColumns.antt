@@ -31,10 +31,13 @@ columns_of_both (e ∷ es) others =
 columns_of_one : (e : Elements) (es : List Elements) → columns_in (e ∷ es) ≡ length e.columns + columns_in es
 columns_of_one e es = length-append e.columns (all_elements es).columns
 
-in_constraint : (ts : List Lexeme) (e : Elements) → (gl (skip_then (a k.Comma) g.constraint)).spells ts e → length e.columns ≡ 0
-in_constraint ts e (p, (x, y, i, c, (r, s, j)), l) = ap (λ z. length z.columns) (l ∙ j)
+pub in_rule : (ts : List Lexeme) (e : Elements) → (gl g.constraint).spells ts e → length e.columns ≡ 0
+in_rule ts e (r, s, j) = ap (λ z. length z.columns) j
 
-in_column : (ts : List Lexeme) (e : Elements) → (gl g.column).spells ts e → length e.columns ≡ 1
+in_constraint : (ts : List Lexeme) (e : Elements) → (gl (skip_then (a k.Comma) g.constraint)).spells ts e → length e.columns ≡ 0
+in_constraint ts e (p, (x, y, i, c, s), l) = ap (λ z. length z.columns) l ∙ in_rule y p.1 s
+
+pub in_column : (ts : List Lexeme) (e : Elements) → (gl g.column).spells ts e → length e.columns ≡ 1
 in_column ts e (p, s, i) = ap (λ z. length z.columns) i
 
 in_next_column : (ts : List Lexeme) (e : Elements) → (gl (skip_then (a k.Comma) g.column)).spells ts e → length e.columns ≡ 1

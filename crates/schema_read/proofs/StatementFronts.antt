@@ -2,7 +2,7 @@
 use Rattle.std.proofs.Common.{◌≡◌, ℕ, zero, suc, List, [], ◌∷◌, ◌++◌, inl, inr, refl, sym, ◌∙◌, ap, subst, append_assoc, Some, None, arith}
 use Rattle.std.proofs.lemmas.List.{append-nil}
 use Rattle.grammar.specs.Language.{Includes, HasFronts, upto_language, star_language}
-use Rattle.grammar.specs.Form.{Room, IsRoomier, alt, language}
+use Rattle.grammar.specs.Form.{Room, IsRoomier, alt, language, seq}
 use Rattle.grammar.specs.Productions.{skip_then}
 use Rattle.grammar.proofs.Fronts.{map_fronts, upto_fronts}
 use Rattle.grammar.proofs.Forms.{includes_through, includes_itself, form_grows, form_fronts, star_includes_upto}
@@ -110,14 +110,23 @@ columns_begin (suc m) ts (inr (x, y, es, i, s, inr (inr (x1, y1, e, i1, c, f))))
     more_begin ts x y es i (constraints_below.holds.spells x es s)
     (more_begin y x1 y1 (e ∷ []) i1 (x1, [], sym (append-nil x1), next_column_below.holds.spells x1 e c, refl) (columns_begin m y1 f))
 
-columns_below : (m : ℕ) → Below (few_columns m) g.elements
+pub columns_below : (m : ℕ) → Below (few_columns m) g.elements
 columns_below m = record { holds = record { spells = columns_spell m; front = columns_begin m } }
 
-narrow_below : (m : ℕ) → Below (g.statements_with (few_columns m)) g.statements
-narrow_below m =
-    below_map (λ read. each read) (below_star None None (below_then_skip (a k.Semicolon) (below_skip_then (a k.Create)
-    (below_alt (below_map (λ p. t.table p.0 p.1.0 p.1.1) (below_skip_then (a k.Table) (below_seq (itself name) (below_parens (below_seq (itself g.column) (columns_below m))))))
-    (itself (alt g.view g.index))))))
+pub listed_below : (m : ℕ) → Below (seq g.column (few_columns m)) (seq g.column g.elements)
+listed_below m = below_seq (itself g.column) (columns_below m)
+
+pub table_below : (m : ℕ) → Below (g.table_with (few_columns m)) (g.table_with g.elements)
+table_below m = below_map (λ p. t.table p.0 p.1.0 p.1.1) (below_skip_then (a k.Table) (below_seq (itself name) (below_parens (listed_below m))))
+
+pub statement_below : (m : ℕ) → Below (g.statement_with (few_columns m)) g.statement
+statement_below m = below_skip_then (a k.Create) (below_alt (table_below m) (itself (alt g.view g.index)))
+
+pub ended_below : (m : ℕ) → Below (g.ended_with (few_columns m)) (g.ended_with g.elements)
+ended_below m = below_then_skip (a k.Semicolon) (statement_below m)
+
+pub narrow_below : (m : ℕ) → Below (g.statements_with (few_columns m)) g.statements
+narrow_below m = below_map (λ read. each read) (below_star None None (ended_below m))
 
 pub narrow_included : (m : ℕ) → Includes statements (narrow_statements m)
 narrow_included m = (narrow_below m).holds

@@ -14,15 +14,17 @@ use Rattle.sql_read.specs.Eating.{Extends, Overflows, PassesWithin, Stays}
 use Rattle.sql_grammar.specs.Kinds.{same}
 use Rattle.sql_grammar.specs.Numbering.{plain}
 use Rattle.sql_grammar.specs.QueryGrammar.{The, a}
-use Rattle.sql_read.specs.Reads.{Gives, Reads, Refuses, Takes}
+use Rattle.sql_read.specs.Reads.{GivesWithin, Told, columns_too, entries_too, few_form}
 use Rattle.sql_read.proofs.Extending.{◌⨟◌, extends_within}
 use Rattle.sql_read.proofs.ReadLoops.{begins_skip, none_more, one_begins, one_taken, one_too_many}
 use Rattle.sql_read.proofs.ReadPassing.{Alike, alike_stays, alike_within, ◌then◌}
-use Rattle.sql_read.proofs.ReadSteps.{Left, refuses, took_token, whole}
+use Rattle.sql_read.proofs.ReadSteps.{LeftOf, refuses, took_token, whole}
+use Rattle.schema_read.specs.Counting.{ReadsTelling}
 use Rattle.schema_read.specs.StatementGrammar as g
 use Rattle.schema_read.specs.StatementTrees as t
 use Rattle.schema_read.specs.StatementTrees.{Elements}
-use Rattle.schema_read.proofs.Readings.{alike_built, both_taken, map_refused, plainly, second_refused, skipped_taken, value_built}
+use Rattle.schema_read.proofs.Telling.{taken_more, with_columns}
+use Rattle.schema_read.proofs.Readings.{RefusesOf, TakesOf, alike_built, both_taken, map_refused, plainly, second_refused, skipped_taken, value_built}
 
 -- ---- elements before others
 
@@ -50,8 +52,8 @@ with_column before name read {column = column} {rules = rules} e i n =
     ap (λ z. made z rules) e ∙ ap (λ z. made (before.columns ++ column ∷ []) z) i ∙ ap (λ z. made (before.columns ++ z ∷ []) (before.rules ++ t.rules_of z read)) n
 
 -- this form was read, behind the elements before it
-abbrev pub ReadsWith : The Elements → Elements → Cursor → Elements → Cursor → Type 0
-ReadsWith f before here value after = (levels : ℕ) → Reads f (suc levels) (λ read. plain (t.with_elements before read)) here here (Ok value) after
+abbrev pub ReadsWith : Told → The Elements → Elements → Cursor → Elements → Cursor → Type 0
+ReadsWith told f before here value after = (levels : ℕ) → ReadsTelling told f (suc levels) (λ read. plain (t.with_elements before read)) here here (Ok value) after
 
 -- what a rule of a table begins with, where it is no column
 abbrev pub constraint_kinds : List Kind
@@ -62,15 +64,15 @@ constraint_kinds = k.Constraint ∷ k.Primary ∷ k.Unique ∷ k.Foreign ∷ []
 abbrev next : The Elements
 next = skip_then (a k.Comma) g.element
 
-abbrev listed : The (Elements × List Elements)
+abbrev pub listed : The (Elements × List Elements)
 listed = seq g.column g.elements
 
 record AtLevels (levels : ℕ) (start here : Cursor) (room : ℕ) (elements : Elements) : Type 0 where
   first : Elements
   mid : Cursor
-  begun : Takes g.column (suc levels) start.tokens first mid.tokens
+  begun : TakesOf columns_too g.column (suc levels) start.tokens first mid.tokens
   join : List Elements → List Elements
-  remains : Left (star (Some room) next) (suc levels) here.tokens (star (Some 255) next) (suc levels) mid.tokens join
+  remains : LeftOf columns_too (star (Some room) next) (suc levels) here.tokens (star (Some 255) next) (few_form (star (Some 255) next)) (suc levels) mid.tokens join
   same_elements : (more : List Elements) → t.with_elements first (t.all_elements (join more)) ≡ t.with_elements elements (t.all_elements more)
 
 -- these elements were read, and so many more may follow
@@ -79,12 +81,12 @@ pub record Listing (start here : Cursor) (room : ℕ) (elements : Elements) : Ty
   still : Alike start here
   pub extends : Extends start here
 
-pub listing : {start here : Cursor} {first : Elements} → ReadsWith g.column t.no_elements start first here → Extends start here → Listing start here 255 first
+pub listing : {start here : Cursor} {first : Elements} → ReadsWith entries_too g.column t.no_elements start first here → Extends start here → Listing start here 255 first
 listing {here = here} r e = record {
   levelled = λ levels. let read = (r levels).answers in record {
     first = read.read;
     mid = here;
-    begun = read.takes;
+    begun = taken_more with_columns read.takes;
     join = λ more. more;
     remains = whole;
     same_elements = λ more. ap (λ z. t.with_elements z (t.all_elements more)) (sym (value_built read.builds));
@@ -95,7 +97,7 @@ listing {here = here} r e = record {
 
 module _ {start here : Cursor} {room : ℕ} {elements : Elements} (l : Listing start here room elements) where
   pub listed_elements : {after : Cursor} (levels : ℕ) → Stays (same k.Comma) here after
-      → Gives listed (suc levels) (λ read. plain (t.with_elements read.0 (t.all_elements read.1))) start start elements after
+      → GivesWithin columns_too listed (few_form listed) (suc levels) (λ read. plain (t.with_elements read.0 (t.all_elements read.1))) start start elements after
   listed_elements levels q =
       let at = l.levelled levels in record {
         read = (at.first, at.join []);
@@ -103,17 +105,17 @@ module _ {start here : Cursor} {room : ℕ} {elements : Elements} (l : Listing s
         builds = plainly (sym (at.same_elements [] ∙ with_none elements)) (l.still then alike_stays q);
       }
 
-  pub too_many_elements : {after : Cursor} {fault : ReadFault} (levels : ℕ) → Overflows (same k.Comma) room here fault after → Refuses listed (suc levels) start fault after
+  pub too_many_elements : {after : Cursor} {fault : ReadFault} (levels : ℕ) → Overflows (same k.Comma) room here fault after → RefusesOf columns_too listed (suc levels) start fault after
   too_many_elements levels q = let at = l.levelled levels in second_refused refl {b = at.mid} at.begun (one_too_many at.remains refl (begins_skip (same k.Comma) g.element) q)
 
   module _ {comma : Lexeme} {mid after : Cursor} (q : PassesWithin (same k.Comma) room here comma mid) where
-    pub next_refused : {fault : ReadFault} (levels : ℕ) → Refuses g.element (suc levels) mid fault after → Refuses listed (suc levels) start fault after
+    pub next_refused : {fault : ReadFault} (levels : ℕ) → RefusesOf columns_too g.element (suc levels) mid fault after → RefusesOf columns_too listed (suc levels) start fault after
     next_refused levels x =
         let at = l.levelled levels in
         second_refused refl {b = at.mid} at.begun
         (refuses {a = here} (one_begins at.remains refl (begins_skip (same k.Comma) g.element) q) (map_refused (λ p. p.1) (second_refused refl {b = mid} (took_token (suc levels) q.passes) x)))
 
-    pub one_more : {value : Elements} → ReadsWith g.element elements mid value after → Extends mid after → Listing start after (room - 1) value
+    pub one_more : {value : Elements} → ReadsWith columns_too g.element elements mid value after → Extends mid after → Listing start after (room - 1) value
     one_more {value = value} r e = record {
       levelled = λ levels. let at = l.levelled levels in let read = (r levels).answers in record {
         first = at.first;

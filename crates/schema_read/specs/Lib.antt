@@ -19,4 +19,6 @@ pub mod StatementGrammar
 pub mod Statements
 pub mod StatementLookahead
 pub mod StatementLimits
+pub mod CopiedStatements
+pub mod Counting
 pub mod ReadingStatements

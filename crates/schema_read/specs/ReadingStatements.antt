@@ -10,15 +10,10 @@ use Rattle.sql_read.specs.declared.fault.LimitKind.{LimitKind}
 use Rattle.sql_read.specs.declared.fault.LimitKind.TheVariants as limit
 use Rattle.sql_read.specs.Cursor.{Cursor, next}
 use Rattle.sql_grammar.specs.Numbering.{Built}
-use Rattle.sql_grammar.specs.QueryEntries.{most_further}
 use Rattle.sql_read.specs.Refusals.{refusal_of}
 use Rattle.schema_read.specs.Declarations.{IsSmall}
-use Rattle.schema_read.specs.StatementLimits.{IsEntryTooMany, few_entry_statements}
-use Rattle.schema_read.specs.Statements.{IsShallow, IsTooDeep, OfStatements, statements}
-
--- the statements in whose views no block has too many entries
-abbrev pub few_statement_entries : OfStatements
-few_statement_entries = few_entry_statements most_further
+use Rattle.schema_read.specs.StatementLimits.{CopiesFew, IsCopyTooMany, within}
+use Rattle.schema_read.specs.Statements.{IsFirstBeyond, IsShallow, IsTooDeep, statements}
 
 -- the longest list of tokens that begins statements was taken, and it spells these statements
 pub record IsRead (before : Cursor) (list : List Statement) (after : Cursor) : Type 0 where
@@ -29,13 +24,13 @@ pub record IsRead (before : Cursor) (list : List Statement) (after : Cursor) : T
   pub spelled : statements.spells taken read
   pub built : read.build before.numbers ≡ (list, after.numbers)
   pub copied : after.copies ≡ before.copies + read.copies
+  -- no limit was passed
   pub shallow : IsShallow taken
-  -- no block of a view has too many entries
-  pub few_entries : few_statement_entries.spells taken read
+  pub few : (what : LimitKind) → (within what).spells taken read
   pub fault : after.fault ≡ before.fault
   pub end : after.end ≡ before.end
   -- the statements are within the limits of a schema
-  pub few : length list ≤ 256
+  pub few_relations : length list ≤ 256
   pub small : length before.tokens < 2 ^ 31 → Each IsSmall list
 
 -- the longest list of tokens that begins statements spells none, and what stands behind it is refused
@@ -47,39 +42,55 @@ pub record IsUnfinished (before : Cursor) (fault : ReadFault) : Type 0 where
   pub unspelled : (read : Built (List Statement)) → statements.spells taken read → ⊥
   -- no limit was passed before
   pub shallow : IsShallow taken
-  pub few_entries : few_statement_entries.front taken
+  pub few : (what : LimitKind) → (within what).front taken
+  pub few_copies : CopiesFew before.copies taken
   pub refused : fault ≡ refusal_of before.end (next rest before.fault)
 
--- behind tokens that begin statements within the limits the token at this place passes them
-pub record PassesLimits (before : Cursor) (at : ℕ) : Type 0 where
+-- behind tokens that begin statements within the limits the token at this place opens too many levels, or makes a list too long
+pub record PassesDepth (before : Cursor) (at : ℕ) : Type 0 where
   pub taken : List Lexeme
   pub token : Lexeme
   pub rest : List Lexeme
   pub whole : before.tokens ≡ taken ++ token ∷ rest
   pub too_deep : IsTooDeep taken token
-  -- no entry was too many before
-  pub few_entries : few_statement_entries.front taken
+  -- no count had passed its limit before
+  pub few : (what : LimitKind) → (within what).front taken
+  pub few_copies : CopiesFew before.copies taken
   pub place : token.start ≡ at
 
--- behind tokens that begin statements the next one begins an entry too many, and is not too deep
-pub record PassesEntries (before : Cursor) : Type 0 where
+-- behind tokens that begin statements within the limits the next one passes that on this count, and is not too deep
+pub record PassesCount (before : Cursor) (what : LimitKind) : Type 0 where
   pub taken : List Lexeme
   pub token : Lexeme
   pub rest : List Lexeme
   pub whole : before.tokens ≡ taken ++ token ∷ rest
-  pub too_many : IsEntryTooMany taken token
+  pub too_many : IsFirstBeyond (within what) taken token
+  -- no other count had passed its limit before
+  pub few : (other : LimitKind) → (within other).front taken
+  pub few_copies : CopiesFew before.copies taken
   pub shallow : IsShallow (taken ++ token ∷ [])
 
--- of the other counts other clauses speak
+-- the first token of the query of a view with which more is copied than may be; it is not too deep, and passes no other limit
+pub record PassesCopies (before : Cursor) : Type 0 where
+  pub taken : List Lexeme
+  pub token : Lexeme
+  pub rest : List Lexeme
+  pub whole : before.tokens ≡ taken ++ token ∷ rest
+  pub too_many : IsCopyTooMany before.copies taken token
+  pub few : (other : LimitKind) → (within other).front (taken ++ token ∷ [])
+  pub shallow : IsShallow (taken ++ token ∷ [])
+
 abbrev pub IsLimited : Cursor → LimitKind → Type 0
-IsLimited before limit.Entries = PassesEntries before
-IsLimited before other = Unit {0}
+IsLimited before limit.Columns = PassesCount before limit.Columns
+IsLimited before limit.Entries = PassesCount before limit.Entries
+IsLimited before limit.Relations = PassesCount before limit.Relations
+IsLimited before limit.Copies = PassesCopies before
 
 -- Where each refusal comes. Want of memory may come anywhere.
 abbrev pub IsRefused : Cursor → ReadFault → Type 0
 IsRefused before (Lex fault) = IsUnfinished before (Lex fault)
 IsRefused before (Unexpected at) = IsUnfinished before (Unexpected at)
 IsRefused before (LeftOut word at) = IsUnfinished before (LeftOut word at)
-IsRefused before (TooDeep at) = PassesLimits before at
+IsRefused before (TooDeep at) = PassesDepth before at
 IsRefused before (Limit what) = IsLimited before what
 IsRefused before NoMemory = Unit {0}

@@ -1,6 +1,6 @@
 -- The limits on the columns of a table and on the number of relations, and those of the queries of views, each with the token that is one
--- too many. Each limit is a language of the statements that keep it.
-use Rattle.std.specs.Prelude.{ℕ, zero, suc, ◌+◌, ◌≡◌, ◌≤◌, ◌<◌, List, [], ◌∷◌, ◌++◌, length, None, ◌⊎◌}
+-- too many. Each limit but that on copies is a language of the statements that keep it.
+use Rattle.std.specs.Prelude.{ℕ, zero, suc, ◌+◌, ◌≡◌, List, [], ◌∷◌, ◌++◌, length, None}
 use Rattle.grammar.specs.Form.{empty, seq, alt, star, map, language, form_language}
 use Rattle.grammar.specs.Language.{map_language, upto_language}
 use Rattle.grammar.specs.Productions.{skip_then}
@@ -10,12 +10,15 @@ use Rattle.sql_model.specs.declared.statement.Statement.TheVariants as statement
 use Rattle.sql_grammar.specs.declared.kinds.Kind.TheVariants as k
 use Rattle.sql_grammar.specs.Kinds.{kind_of}
 use Rattle.sql_grammar.specs.Numbering.{each}
-use Rattle.sql_grammar.specs.QueryCopies.{copy_rules, most_copies, so_far}
+use Rattle.sql_grammar.specs.QueryCopies as queries
 use Rattle.sql_grammar.specs.QueryEntries.{few_rules, most_further}
+use Rattle.sql_grammar.specs.QueryGrammar as grammar
 use Rattle.sql_grammar.specs.QueryGrammar.{The, a}
 use Rattle.schema_read.specs.StatementTrees.{Elements}
 use Rattle.schema_read.specs.StatementGrammar as g
-use Rattle.schema_read.specs.Statements.{OfStatements, IsFirstBeyond, of_form}
+use Rattle.sql_read.specs.declared.fault.LimitKind.{LimitKind}
+use Rattle.sql_read.specs.declared.fault.LimitKind.TheVariants as limit
+use Rattle.schema_read.specs.Statements.{OfStatements, IsFirstBeyond, of_form, statements}
 
 -- ---- columns
 
@@ -66,18 +69,43 @@ few_entry_statements most = form_language kind_of (language kind_of (few_rules m
 abbrev pub IsEntryTooMany : List Lexeme → Lexeme → Type 0
 IsEntryTooMany = IsFirstBeyond (few_entry_statements most_further)
 
--- these tokens begin statements, and their views have copied so much up to the last of them
-abbrev pub CopiesOf : List Lexeme → ℕ → Type 0
-CopiesOf ts copies = ((ts ≡ []) × (copies ≡ 0)) ⊎ (form_language kind_of (language kind_of copy_rules) None (so_far g.statements)).spells ts copies
+-- ---- all counts
 
--- With so much copied before the statements, these tokens of them are within the limit, and this one passes it.
-pub record IsCopyTooMany (copied : ℕ) (before : List Lexeme) (token : Lexeme) : Type 0 where
-  pub copies_before : ℕ
-  pub so_far_before : CopiesOf before copies_before
-  pub within : copied + copies_before ≤ most_copies
-  pub copies : ℕ
-  pub so_far_with : CopiesOf (before ++ token ∷ []) copies
-  pub too_many : most_copies < copied + copies
+-- The statements that keep the limit on this count. What they copy is counted from before them, so no language of statements keeps that limit.
+abbrev pub within : LimitKind → OfStatements
+within limit.Columns = narrow_statements most_further_columns
+within limit.Entries = few_entry_statements most_further
+within limit.Relations = few_statements most_relations
+within limit.Copies = statements
+
+-- ---- what the queries of views copy
+
+-- VIEW name AS
+abbrev pub view_words : The (Lexeme × (Lexeme × Lexeme))
+view_words = seq (a k.View) (seq grammar.name (a k.As))
+
+-- CREATE VIEW name AS
+abbrev pub create_view : The (Lexeme × (Lexeme × (Lexeme × Lexeme)))
+create_view = seq (a k.Create) view_words
+
+-- Tokens of this form, which count as so much copied, and then a front of a query stand before the token, and with it the query copies more
+-- than may be, and not before.
+pub record IsTooManyBehind {A : Type 0} (head : The A) (copied : A → ℕ) (before : List Lexeme) (token : Lexeme) : Type 0 where
+  pub words : List Lexeme
+  pub of_query : List Lexeme
+  pub whole : before ≡ words ++ of_query
+  pub read : A
+  pub spelled : (of_form None head).spells words read
+  pub too_many : queries.IsCopyTooMany (copied read) of_query token
+
+-- With so much copied before the statements, the token is one of the query of a view behind whole statements, and it is the first with which
+-- more is copied than may be.
+abbrev pub IsCopyTooMany : ℕ → List Lexeme → Lexeme → Type 0
+IsCopyTooMany copied = IsTooManyBehind (seq g.statements create_view) (λ read. copied + read.0.copies)
+
+-- with none of these tokens too much is copied
+abbrev pub CopiesFew : ℕ → List Lexeme → Type 0
+CopiesFew copied ts = (before after : List Lexeme) (token : Lexeme) → ts ≡ before ++ token ∷ after → IsCopyTooMany copied before token → ⊥
 
 -- ---- what statements count
 

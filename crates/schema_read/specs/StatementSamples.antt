@@ -16,7 +16,6 @@ use Rattle.sql_model.specs.declared.tree.Block.{roll-Block}
 use Rattle.sql_model.specs.Compute.{everything}
 use Rattle.sql_grammar.specs.Kinds.{kind_of}
 use Rattle.sql_grammar.specs.Numbering.{first_numbers}
-use Rattle.sql_grammar.specs.QueryCopies.{copy_rules, so_far}
 use Rattle.sql_grammar.specs.QueryGrammar.{rules}
 use Rattle.sql_grammar.specs.QuerySamples.{tokens, is_any}
 use Rattle.schema_read.specs.StatementGrammar as g
@@ -35,9 +34,9 @@ within levels text = length (whole_values (parses kind_of (name_parses kind_of r
 abbrev pub begins_narrow : ℕ → List ℕ → Bool
 begins_narrow most text = is_any (whole_values (parses kind_of (name_parses kind_of (front_rules rules) 20) None (begun_of (λ p v. 0) (g.statements_with (few_columns most))) (tokens text)))
 
--- what the views of a front of statements have copied
+-- what the views of whole statements copy
 abbrev pub copied : List ℕ → List ℕ
-copied text = whole_values (parses kind_of (name_parses kind_of copy_rules 20) None (so_far g.statements) (tokens text))
+copied text = map (λ read. read.copies) (whole_values (parses kind_of (name_parses kind_of rules 20) None g.statements (tokens text)))
 
 -- ---- short forms
 
@@ -146,8 +145,8 @@ pub columns_of_the_next_table : begins_narrow 0 (codes "CREATE TABLE r ( a INT )
 unfolding everything
 columns_of_the_next_table = refl
 
--- the first view has copied one token, and the second is at its word BETWEEN
-pub copies_of_views : copied (codes "CREATE VIEW v AS SELECT * FROM r WHERE a BETWEEN 1 AND 2 ; CREATE VIEW w AS SELECT * FROM r WHERE a + b BETWEEN") ≡ 4 ∷ []
+-- the first view copies one token, and the second three
+pub copies_of_views : copied (codes "CREATE VIEW v AS SELECT * FROM r WHERE a BETWEEN 1 AND 2 ; CREATE VIEW w AS SELECT * FROM r WHERE a + b BETWEEN 1 AND 2 ;") ≡ 4 ∷ []
 unfolding everything
 copies_of_views = refl
 

@@ -18,4 +18,4 @@ mod tests;
 
 pub use fault::{SchemaCode, SchemaFault};
 pub use read::read_schema;
-pub use reading::read_statements;
+pub use reading::{read_inner_statements, read_statements};

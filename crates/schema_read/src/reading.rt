@@ -1,7 +1,17 @@
 //! The reader of statements: a function for each production, or for a part of one.
-ghost use Rattle.std.specs.Prelude.{IfErr, IfOk, OnErr};
+ghost use Rattle.std.specs.Prelude.{◌<◌, ◌≤◌, ◌^◌, length, IfErr, IfOk, OnErr, None};
+ghost use Rattle.data_model.specs.Lists.{Each};
+ghost use Rattle.sql_read.specs.declared.fault.LimitKind.TheVariants as limit;
+ghost use Rattle.sql_read.specs.Eating.{Extends};
+ghost use Rattle.sql_grammar.specs.Queries.{most_levels};
 ghost use Rattle.sql_read.specs.ReadingQueries.{IsAtEnd, Keeps};
+ghost use Rattle.sql_read.specs.Reads.{of_form, relations_too};
+ghost use Rattle.schema_read.specs.CopiedStatements.{Copied};
+ghost use Rattle.schema_read.specs.Counting.{Counts, ReadsTelling, few_planned, narrowly};
+ghost use Rattle.schema_read.specs.Declarations.{IsSmall};
 ghost use Rattle.schema_read.specs.ReadingStatements.{IsRead, IsRefused};
+ghost use Rattle.schema_read.specs.StatementGrammar as g;
+ghost use Rattle.schema_read.specs.StatementLimits.{IsCopyTooMany};
 
 mod columns;
 mod elements;
@@ -45,4 +55,21 @@ pub fn read_statements(alloc: Global, tokens: &mut Tokens<'_>) -> Result<List<St
             Err(fault)
         }
     }
+}
+
+/// Reads the statements of a case. After a refusal the tokens stand where it came.
+pub fn read_inner_statements(
+    alloc: Global,
+    tokens: &mut Tokens<'_>,
+) -> Result<List<Statement>, ReadFault>
+    ensures reads { ReadsTelling relations_too g.statements most_levels (λ read. read) tokens.old tokens.old result tokens.new }
+    ensures columns { Counts limit.Columns g.statements (of_form None (g.statements_with narrowly)) tokens.old result tokens.new }
+    ensures relations { Counts limit.Relations g.statements few_planned tokens.old result tokens.new }
+    ensures copied { Copied (IsCopyTooMany tokens.old.copies) tokens.old result tokens.new }
+    // What `read_schema` requires.
+    ensures few { IfOk result (λ statements. length statements ≤ 256) }
+    ensures small { IfOk result (λ statements. length tokens.old.tokens < 2 ^ 31 → Each IsSmall statements) }
+    ensures extends { Extends tokens.old tokens.new }
+{
+    statements(alloc, tokens)
 }

@@ -1,5 +1,5 @@
 //! Laws of the grammar of statements, each the contract of a function that does nothing.
-ghost use Rattle.std.specs.Prelude.{◌≡◌, ◌≤◌, ℕ, suc, ◌++◌, ◌∷◌, List, [], length};
+ghost use Rattle.std.specs.Prelude.{◌≡◌, ◌≤◌, ◌+◌, ℕ, suc, ◌++◌, ◌∷◌, List, [], length};
 ghost use Rattle.data_model.specs.Lists.{Each};
 ghost use Rattle.grammar.specs.Form.{Room};
 ghost use Rattle.grammar.specs.Language.{HasFronts, Includes, IsUnambiguous};
@@ -8,9 +8,10 @@ ghost use Rattle.sql_lex.specs.Lexemes.{Lexeme};
 ghost use Rattle.sql_model.specs.declared.statement.Statement.{Statement};
 ghost use Rattle.sql_grammar.specs.Kinds.{kind_of};
 ghost use Rattle.sql_grammar.specs.Numbering.{Built, Numbers};
+ghost use Rattle.sql_grammar.specs.QueryCopies.{most_copies};
 ghost use Rattle.sql_grammar.specs.QueryEntries.{most_further};
 ghost use Rattle.schema_read.specs.StatementGrammar as g;
-ghost use Rattle.schema_read.specs.StatementLimits.{CopiesOf, IsColumnTooMany, IsEntryTooMany, IsRelationTooMany, column_count, few_entry_statements, few_statements, narrow_statements, rule_count};
+ghost use Rattle.schema_read.specs.StatementLimits.{CopiesFew, IsColumnTooMany, IsCopyTooMany, IsEntryTooMany, IsRelationTooMany, column_count, few_entry_statements, few_statements, narrow_statements, rule_count};
 ghost use Rattle.schema_read.specs.StatementLookahead.{of_statements};
 ghost use Rattle.schema_read.specs.Statements.{Begins, IsTooDeep, Spells, SpellsIn, in_plan, of_form, shallow_statements, statements};
 
@@ -88,10 +89,10 @@ pub fn few_entries()
         length ts ≤ most → Spells before ts list after → SpellsIn (few_entry_statements most) before ts list after }
 {}
 
-/// What has copied something begins statements, what begins statements has copied something, or nothing, and whole statements have copied
-/// what they hold.
-pub fn copies()
-    ensures begins { (ts : List Lexeme) (copies : ℕ) → CopiesOf ts copies → Begins ts }
-    ensures counted { (ts : List Lexeme) → Begins ts → (copies : ℕ) × CopiesOf ts copies }
-    ensures whole { (ts : List Lexeme) (read : Built (List Statement)) → statements.spells ts read → CopiesOf ts read.copies }
+/// The limit on what views copy is passed at no more than one token of a text, and at none of statements that are within it.
+pub fn copied_too_much_once()
+    ensures once { (copied : ℕ) (x more y others : List Lexeme) (t u : Lexeme) → IsCopyTooMany copied x t → IsCopyTooMany copied y u →
+        x ++ t ∷ more ≡ y ++ u ∷ others → (x ≡ y) × (t ≡ u) }
+    ensures never { (copied : ℕ) (ts : List Lexeme) (read : Built (List Statement)) → statements.spells ts read → copied + read.copies ≤ most_copies →
+        CopiesFew copied ts }
 {}

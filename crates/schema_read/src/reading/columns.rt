@@ -5,6 +5,7 @@ ghost use Rattle.grammar.specs.Productions.{optional};
 ghost use Rattle.sql_read.specs.Eating.{Extends};
 ghost use Rattle.sql_grammar.specs.Numbering.{plain};
 ghost use Rattle.sql_read.specs.Reads.{Reads};
+ghost use Rattle.schema_read.specs.CopiedStatements.{CopiesNothing};
 ghost use Rattle.schema_read.specs.StatementGrammar as g;
 ghost use Rattle.schema_read.specs.StatementTrees as t;
 
@@ -33,6 +34,7 @@ fn alone(alloc: Global, column: &NameAt) -> Result<List<NameAt>, NoMemory>
 /// `[( name {, name} )]`
 fn names_if_any(alloc: Global, tokens: &mut Tokens<'_>) -> Result<Option<List<NameAt>>, ReadFault>
     ensures reads { (levels : ℕ) → Reads (optional g.names) (suc levels) (λ names. plain names) tokens.old tokens.old result tokens.new }
+    ensures free { CopiesNothing result }
     ensures extends { Extends tokens.old tokens.new }
 {
     match tokens.eat(Kind::Open) {
@@ -51,6 +53,7 @@ pub fn references(
     columns: List<NameAt>,
 ) -> Result<TableRule, ReadFault>
     ensures reads { (levels : ℕ) → Reads g.references (suc levels) (λ target. plain (t.foreign_key columns target)) tokens.old tokens.old result tokens.new }
+    ensures free { CopiesNothing result }
     ensures extends { Extends tokens.old tokens.new }
 {
     tokens.expect(alloc, Kind::References)?;
@@ -71,6 +74,7 @@ pub fn column_rules(
     before: List<TableRule>,
 ) -> Result<List<TableRule>, ReadFault>
     ensures reads { (levels : ℕ) → Reads (star None g.column_rule) (suc levels) (λ read. plain (before ++ t.rules_of column.now read)) tokens.old tokens.old result tokens.new }
+    ensures free { CopiesNothing result }
     ensures extends { Extends tokens.old tokens.new }
 {
     let mut rules = before;
@@ -89,6 +93,7 @@ fn column_rule(
     column: &NameAt,
 ) -> Result<Option<TableRule>, ReadFault>
     ensures reads { (levels : ℕ) → Reads g.column_rule (suc levels) (λ rule_of. plain (rule_of column.now)) tokens.old tokens.old result tokens.new }
+    ensures free { CopiesNothing result }
     ensures extends { Extends tokens.old tokens.new }
 {
     if let Some(_) = tokens.eat(Kind::Not) {

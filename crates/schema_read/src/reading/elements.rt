@@ -1,10 +1,14 @@
 //! What stands in the parentheses of a table: columns and rules.
-ghost use Rattle.std.specs.Prelude.{◌≡◌, ◌≤◌, ◌+◌, ℕ, suc, length, IfOk};
+ghost use Rattle.std.specs.Prelude.{◌≡◌, ◌≢◌, ◌≤◌, ◌+◌, ℕ, suc, length, IfOk, None};
 ghost use Rattle.grammar.specs.Form.{seq};
+ghost use Rattle.grammar.specs.Language.{no_language};
+ghost use Rattle.sql_read.specs.declared.fault.LimitKind.TheVariants as limit;
 ghost use Rattle.sql_read.specs.Eating.{Extends};
 ghost use Rattle.sql_grammar.specs.Numbering.{plain};
 ghost use Rattle.sql_grammar.specs.QueryGrammar.{parens};
-ghost use Rattle.sql_read.specs.Reads.{Reads, Refuses};
+ghost use Rattle.sql_read.specs.Reads.{Reads, RefusesWithin, columns_too, few_form, of_form};
+ghost use Rattle.schema_read.specs.CopiedStatements.{CopiesNothing};
+ghost use Rattle.schema_read.specs.Counting.{Counts, ReadsTelling, RefusesCounted, element_behind, narrowly};
 ghost use Rattle.schema_read.specs.StatementGrammar as g;
 ghost use Rattle.schema_read.specs.StatementTrees as t;
 
@@ -30,9 +34,11 @@ pub struct Elements {
 
 /// `( column {, element} )`
 pub fn table_elements(alloc: Global, tokens: &mut Tokens<'_>) -> Result<Elements, ReadFault>
-    ensures reads { (levels : ℕ) → Reads (parens (seq g.column g.elements)) (suc (suc levels)) (λ read. plain (t.with_elements read.0 (t.all_elements read.1)))
+    ensures reads { (levels : ℕ) → ReadsTelling columns_too (parens (seq g.column g.elements)) (suc (suc levels)) (λ read. plain (t.with_elements read.0 (t.all_elements read.1)))
         tokens.old tokens.old result tokens.new }
+    ensures columns { Counts limit.Columns (parens (seq g.column g.elements)) (of_form None (parens (seq g.column narrowly))) tokens.old result tokens.new }
     ensures narrow { IfOk result (λ elements. length elements.columns ≤ 32) }
+    ensures free { CopiesNothing result }
     ensures extends { Extends tokens.old tokens.new }
 {
     tokens.expect(alloc, Kind::Open)?;
@@ -43,8 +49,10 @@ pub fn table_elements(alloc: Global, tokens: &mut Tokens<'_>) -> Result<Elements
 
 /// `column {, element}`
 fn listed_elements(alloc: Global, tokens: &mut Tokens<'_>) -> Result<Elements, ReadFault>
-    ensures reads { (levels : ℕ) → Reads (seq g.column g.elements) (suc levels) (λ read. plain (t.with_elements read.0 (t.all_elements read.1))) tokens.old tokens.old result tokens.new }
+    ensures reads { (levels : ℕ) → ReadsTelling columns_too (seq g.column g.elements) (suc levels) (λ read. plain (t.with_elements read.0 (t.all_elements read.1))) tokens.old tokens.old result tokens.new }
+    ensures columns { Counts limit.Columns (seq g.column g.elements) (of_form None (seq g.column narrowly)) tokens.old result tokens.new }
     ensures narrow { IfOk result (λ elements. length elements.columns ≤ 32) }
+    ensures free { CopiesNothing result }
     ensures extends { Extends tokens.old tokens.new }
 {
     let none = Elements {
@@ -63,8 +71,10 @@ fn listed_elements(alloc: Global, tokens: &mut Tokens<'_>) -> Result<Elements, R
 /// `column | [CONSTRAINT name] tablerule`, behind the elements before it.
 fn element(alloc: Global, tokens: &mut Tokens<'_>, before: Elements) -> Result<Elements, ReadFault>
     requires { length before.columns ≤ 32 }
-    ensures reads { (levels : ℕ) → Reads g.element (suc levels) (λ read. plain (t.with_elements before read)) tokens.old tokens.old result tokens.new }
+    ensures reads { (levels : ℕ) → ReadsTelling columns_too g.element (suc levels) (λ read. plain (t.with_elements before read)) tokens.old tokens.old result tokens.new }
+    ensures columns { Counts limit.Columns g.element (element_behind (length before.columns)) tokens.old result tokens.new }
     ensures narrow { IfOk result (λ elements. length elements.columns ≤ 32) }
+    ensures free { CopiesNothing result }
     ensures extends { Extends tokens.old tokens.new }
 {
     if tokens.sees_any(&CONSTRAINT_KINDS) {
@@ -78,7 +88,9 @@ fn element(alloc: Global, tokens: &mut Tokens<'_>, before: Elements) -> Result<E
 
 /// The refusal of what stands next where no column may follow: of a column, or of what is none.
 fn no_column(alloc: Global, tokens: &Tokens<'_>) -> ReadFault
-    ensures { (levels : ℕ) → Refuses g.column (suc levels) tokens.now result tokens.now }
+    ensures refuses { (levels : ℕ) → RefusesWithin columns_too g.column (few_form g.column) (suc levels) tokens.now result tokens.now }
+    ensures columns { RefusesCounted limit.Columns g.column no_language tokens.now result tokens.now }
+    ensures free { result ≢ ReadFault.Limit LimitKind.Copies }
 {
     if tokens.sees_any(&NAME_KINDS) {
         return ReadFault::Limit {
@@ -96,6 +108,7 @@ fn rule_element(
 ) -> Result<Elements, ReadFault>
     ensures reads { (levels : ℕ) → Reads g.constraint (suc levels) (λ read. plain (t.with_elements before read)) tokens.old tokens.old result tokens.new }
     ensures same { IfOk result (λ elements. elements.columns ≡ before.columns) }
+    ensures free { CopiesNothing result }
     ensures extends { Extends tokens.old tokens.new }
 {
     let Elements { columns, mut rules } = before;
@@ -108,6 +121,7 @@ fn rule_element(
 fn column(alloc: Global, tokens: &mut Tokens<'_>, before: Elements) -> Result<Elements, ReadFault>
     ensures reads { (levels : ℕ) → Reads g.column (suc levels) (λ read. plain (t.with_elements before read)) tokens.old tokens.old result tokens.new }
     ensures one { IfOk result (λ elements. length elements.columns ≡ length before.columns + 1) }
+    ensures free { CopiesNothing result }
     ensures extends { Extends tokens.old tokens.new }
 {
     let Elements { mut columns, rules } = before;

@@ -7,6 +7,7 @@ ghost use Rattle.sql_grammar.specs.Numbering.{plain};
 ghost use Rattle.sql_grammar.specs.QueryGrammar as query;
 ghost use Rattle.sql_grammar.specs.QueryTrees.{is_given};
 ghost use Rattle.sql_read.specs.Reads.{Gives, Reads};
+ghost use Rattle.schema_read.specs.CopiedStatements.{CopiesNothing};
 ghost use Rattle.schema_read.specs.StatementGrammar as g;
 ghost use Rattle.schema_read.specs.StatementLimits.{column_count};
 
@@ -31,6 +32,7 @@ fn unique_word(tokens: &mut Tokens<'_>) -> bool
 pub fn index(alloc: Global, tokens: &mut Tokens<'_>) -> Result<Statement, ReadFault>
     ensures reads { (levels : ℕ) → Reads g.index (suc levels) (λ read. read) tokens.old tokens.old result tokens.new }
     ensures narrow { IfOk result (λ statement. column_count statement ≤ 32) }
+    ensures free { CopiesNothing result }
     ensures extends { Extends tokens.old tokens.new }
 {
     let unique = unique_word(tokens);

@@ -7,6 +7,7 @@ ghost use Rattle.sql_read.specs.Eating.{Extends};
 ghost use Rattle.sql_grammar.specs.Numbering.{plain};
 ghost use Rattle.sql_grammar.specs.QueryGrammar as query;
 ghost use Rattle.sql_read.specs.Reads.{Gives, Reads};
+ghost use Rattle.schema_read.specs.CopiedStatements.{CopiesNothing};
 ghost use Rattle.schema_read.specs.StatementGrammar as g;
 ghost use Rattle.schema_read.specs.StatementTrees as t;
 
@@ -58,6 +59,7 @@ fn named(alloc: Global, token: &Token<'_>) -> Result<NameAt, NoMemory>
 
 pub fn name(alloc: Global, tokens: &mut Tokens<'_>) -> Result<NameAt, ReadFault>
     ensures reads { (levels : ℕ) → Reads query.name levels (λ token. plain (t.named token)) tokens.old tokens.old result tokens.new }
+    ensures free { CopiesNothing result }
     ensures extends { Extends tokens.old tokens.new }
 {
     let token = tokens.expect_any(alloc, &NAME_KINDS)?;
@@ -67,6 +69,7 @@ pub fn name(alloc: Global, tokens: &mut Tokens<'_>) -> Result<NameAt, ReadFault>
 /// `( name {, name} )`
 pub fn names(alloc: Global, tokens: &mut Tokens<'_>) -> Result<List<NameAt>, ReadFault>
     ensures reads { (levels : ℕ) → Reads g.names (suc levels) (λ names. plain names) tokens.old tokens.old result tokens.new }
+    ensures free { CopiesNothing result }
     ensures extends { Extends tokens.old tokens.new }
 {
     tokens.expect(alloc, Kind::Open)?;
@@ -76,6 +79,7 @@ pub fn names(alloc: Global, tokens: &mut Tokens<'_>) -> Result<List<NameAt>, Rea
 /// `name {, name} )`: names behind their parenthesis.
 pub fn names_behind(alloc: Global, tokens: &mut Tokens<'_>) -> Result<List<NameAt>, ReadFault>
     ensures reads { (levels : ℕ) → Reads (then_skip (query.listed query.name) (query.a k.Close)) levels (λ names. plain (t.names names)) tokens.old tokens.old result tokens.new }
+    ensures free { CopiesNothing result }
     ensures extends { Extends tokens.old tokens.new }
 {
     let names = listed_names(alloc, tokens)?;
@@ -86,6 +90,7 @@ pub fn names_behind(alloc: Global, tokens: &mut Tokens<'_>) -> Result<List<NameA
 /// `name {, name}`
 fn listed_names(alloc: Global, tokens: &mut Tokens<'_>) -> Result<List<NameAt>, ReadFault>
     ensures reads { (levels : ℕ) → Reads (query.listed query.name) levels (λ names. plain (t.names names)) tokens.old tokens.old result tokens.new }
+    ensures free { CopiesNothing result }
     ensures extends { Extends tokens.old tokens.new }
 {
     let first = name(alloc, tokens)?;
@@ -103,6 +108,7 @@ fn listed_names(alloc: Global, tokens: &mut Tokens<'_>) -> Result<List<NameAt>, 
 /// A type, of which nothing is kept.
 pub fn type_name(alloc: Global, tokens: &mut Tokens<'_>) -> Result<(), ReadFault>
     ensures reads { (levels : ℕ) → Reads g.type (suc levels) (λ nothing. plain (tt {0})) tokens.old tokens.old result tokens.new }
+    ensures free { CopiesNothing result }
     ensures extends { Extends tokens.old tokens.new }
 {
     tokens.expect_any(alloc, &WORD_KINDS)?;
@@ -123,6 +129,7 @@ fn more_words(tokens: &mut Tokens<'_>)
 /// `[( number [, number] )]`
 fn sizes(alloc: Global, tokens: &mut Tokens<'_>) -> Result<(), ReadFault>
     ensures reads { (levels : ℕ) → Reads g.sizes (suc levels) (λ nothing. plain (tt {0})) tokens.old tokens.old result tokens.new }
+    ensures free { CopiesNothing result }
     ensures extends { Extends tokens.old tokens.new }
 {
     match tokens.eat(Kind::Open) {
@@ -138,6 +145,7 @@ fn sizes(alloc: Global, tokens: &mut Tokens<'_>) -> Result<(), ReadFault>
 /// `number [, number]`
 fn sizes_inside(alloc: Global, tokens: &mut Tokens<'_>) -> Result<(), ReadFault>
     ensures reads { (levels : ℕ) → Reads g.sizes_inside levels (λ nothing. plain (tt {0})) tokens.old tokens.old result tokens.new }
+    ensures free { CopiesNothing result }
     ensures extends { Extends tokens.old tokens.new }
 {
     tokens.expect(alloc, Kind::Number)?;

@@ -4,6 +4,7 @@ ghost use Rattle.grammar.specs.Productions.{skip_then};
 ghost use Rattle.sql_read.specs.Eating.{Extends};
 ghost use Rattle.sql_grammar.specs.Numbering.{plain};
 ghost use Rattle.sql_read.specs.Reads.{Reads};
+ghost use Rattle.schema_read.specs.CopiedStatements.{CopiesNothing};
 ghost use Rattle.schema_read.specs.StatementGrammar as g;
 
 use super::columns::{key, references};
@@ -16,6 +17,7 @@ use std::alloc::Global;
 /// `[CONSTRAINT name] tablerule`
 pub fn constraint(alloc: Global, tokens: &mut Tokens<'_>) -> Result<TableRule, ReadFault>
     ensures reads { (levels : ℕ) → Reads (skip_then g.constraint_name g.table_rule) (suc levels) (λ rule. plain rule) tokens.old tokens.old result tokens.new }
+    ensures free { CopiesNothing result }
     ensures extends { Extends tokens.old tokens.new }
 {
     constraint_name(alloc, tokens)?;
@@ -25,6 +27,7 @@ pub fn constraint(alloc: Global, tokens: &mut Tokens<'_>) -> Result<TableRule, R
 /// `[CONSTRAINT name]`, of which nothing is kept.
 fn constraint_name(alloc: Global, tokens: &mut Tokens<'_>) -> Result<(), ReadFault>
     ensures reads { (levels : ℕ) → Reads g.constraint_name levels (λ words. plain (tt {0})) tokens.old tokens.old result tokens.new }
+    ensures free { CopiesNothing result }
     ensures extends { Extends tokens.old tokens.new }
 {
     match tokens.eat(Kind::Constraint) {
@@ -38,6 +41,7 @@ fn constraint_name(alloc: Global, tokens: &mut Tokens<'_>) -> Result<(), ReadFau
 
 fn table_rule(alloc: Global, tokens: &mut Tokens<'_>) -> Result<TableRule, ReadFault>
     ensures reads { (levels : ℕ) → Reads g.table_rule (suc levels) (λ rule. plain rule) tokens.old tokens.old result tokens.new }
+    ensures free { CopiesNothing result }
     ensures extends { Extends tokens.old tokens.new }
 {
     if let Some(word) = tokens.eat(Kind::Primary) {
@@ -55,6 +59,7 @@ fn table_rule(alloc: Global, tokens: &mut Tokens<'_>) -> Result<TableRule, ReadF
 /// `FOREIGN KEY names REFERENCES name [names]`
 fn foreign_key(alloc: Global, tokens: &mut Tokens<'_>) -> Result<TableRule, ReadFault>
     ensures reads { (levels : ℕ) → Reads g.foreign_key (suc levels) (λ rule. plain rule) tokens.old tokens.old result tokens.new }
+    ensures free { CopiesNothing result }
     ensures extends { Extends tokens.old tokens.new }
 {
     tokens.expect(alloc, Kind::Foreign)?;

@@ -1,11 +1,14 @@
 //! Statements.
-ghost use Rattle.std.specs.Prelude.{◌≤◌, ℕ, suc, length, IfOk};
+ghost use Rattle.std.specs.Prelude.{◌≤◌, ℕ, suc, length, IfOk, None};
 ghost use Rattle.data_model.specs.Lists.{Each};
+ghost use Rattle.sql_read.specs.declared.fault.LimitKind.TheVariants as limit;
 ghost use Rattle.sql_read.specs.Eating.{Extends};
 ghost use Rattle.sql_grammar.specs.Queries.{most_levels};
-ghost use Rattle.sql_read.specs.Reads.{Reads};
+ghost use Rattle.sql_read.specs.Reads.{Reads, columns_too, of_form, relations_too};
+ghost use Rattle.schema_read.specs.CopiedStatements.{Copied, CopiesNothing};
+ghost use Rattle.schema_read.specs.Counting.{Counts, ReadsTelling, few_planned, narrowly};
 ghost use Rattle.schema_read.specs.StatementGrammar as g;
-ghost use Rattle.schema_read.specs.StatementLimits.{column_count};
+ghost use Rattle.schema_read.specs.StatementLimits.{IsCopyTooMany, IsTooManyBehind, column_count, create_view, view_words};
 
 use super::elements::{Elements, table_elements};
 use super::index::index;
@@ -19,7 +22,10 @@ use std::alloc::Global;
 
 /// `{statement ;}`
 pub fn statements(alloc: Global, tokens: &mut Tokens<'_>) -> Result<List<Statement>, ReadFault>
-    ensures reads { Reads g.statements most_levels (λ read. read) tokens.old tokens.old result tokens.new }
+    ensures reads { ReadsTelling relations_too g.statements most_levels (λ read. read) tokens.old tokens.old result tokens.new }
+    ensures columns { Counts limit.Columns g.statements (of_form None (g.statements_with narrowly)) tokens.old result tokens.new }
+    ensures relations { Counts limit.Relations g.statements few_planned tokens.old result tokens.new }
+    ensures copied { Copied (IsCopyTooMany tokens.old.copies) tokens.old result tokens.new }
     ensures few { IfOk result (λ statements. length statements ≤ 256) }
     ensures narrow { IfOk result (λ statements. Each (λ statement. column_count statement ≤ 32) statements) }
     ensures extends { Extends tokens.old tokens.new }
@@ -39,7 +45,9 @@ pub fn statements(alloc: Global, tokens: &mut Tokens<'_>) -> Result<List<Stateme
 
 /// `statement ;`
 fn ended_statement(alloc: Global, tokens: &mut Tokens<'_>) -> Result<Statement, ReadFault>
-    ensures reads { Reads (g.ended_with g.elements) most_levels (λ read. read) tokens.old tokens.old result tokens.new }
+    ensures reads { ReadsTelling columns_too (g.ended_with g.elements) most_levels (λ read. read) tokens.old tokens.old result tokens.new }
+    ensures columns { Counts limit.Columns (g.ended_with g.elements) (of_form None (g.ended_with narrowly)) tokens.old result tokens.new }
+    ensures copied { Copied (IsTooManyBehind create_view (λ words. tokens.old.copies)) tokens.old result tokens.new }
     ensures narrow { IfOk result (λ statement. column_count statement ≤ 32) }
     ensures extends { Extends tokens.old tokens.new }
 {
@@ -50,7 +58,9 @@ fn ended_statement(alloc: Global, tokens: &mut Tokens<'_>) -> Result<Statement, 
 
 /// `CREATE`, and what is created.
 fn statement(alloc: Global, tokens: &mut Tokens<'_>) -> Result<Statement, ReadFault>
-    ensures reads { Reads g.statement most_levels (λ read. read) tokens.old tokens.old result tokens.new }
+    ensures reads { ReadsTelling columns_too g.statement most_levels (λ read. read) tokens.old tokens.old result tokens.new }
+    ensures columns { Counts limit.Columns g.statement (of_form None (g.statement_with narrowly)) tokens.old result tokens.new }
+    ensures copied { Copied (IsTooManyBehind create_view (λ words. tokens.old.copies)) tokens.old result tokens.new }
     ensures narrow { IfOk result (λ statement. column_count statement ≤ 32) }
     ensures extends { Extends tokens.old tokens.new }
 {
@@ -66,8 +76,10 @@ fn statement(alloc: Global, tokens: &mut Tokens<'_>) -> Result<Statement, ReadFa
 
 /// `TABLE name ( column {, element} )`
 fn table(alloc: Global, tokens: &mut Tokens<'_>) -> Result<Statement, ReadFault>
-    ensures reads { (levels : ℕ) → Reads (g.table_with g.elements) (suc (suc levels)) (λ read. read) tokens.old tokens.old result tokens.new }
+    ensures reads { (levels : ℕ) → ReadsTelling columns_too (g.table_with g.elements) (suc (suc levels)) (λ read. read) tokens.old tokens.old result tokens.new }
+    ensures columns { Counts limit.Columns (g.table_with g.elements) (of_form None (g.table_with narrowly)) tokens.old result tokens.new }
     ensures narrow { IfOk result (λ statement. column_count statement ≤ 32) }
+    ensures free { CopiesNothing result }
     ensures extends { Extends tokens.old tokens.new }
 {
     tokens.expect(alloc, Kind::Table)?;
@@ -83,6 +95,7 @@ fn table(alloc: Global, tokens: &mut Tokens<'_>) -> Result<Statement, ReadFault>
 /// `VIEW name AS query`
 fn view(alloc: Global, tokens: &mut Tokens<'_>) -> Result<Statement, ReadFault>
     ensures reads { Reads g.view most_levels (λ read. read) tokens.old tokens.old result tokens.new }
+    ensures copied { Copied (IsTooManyBehind view_words (λ words. tokens.old.copies)) tokens.old result tokens.new }
     ensures narrow { IfOk result (λ statement. column_count statement ≤ 32) }
     ensures extends { Extends tokens.old tokens.new }
 {

@@ -103,6 +103,11 @@ fn told(rt: &impl Abort, alloc: Global, text: &[u8]) -> Result<String, NoMemory>
                 what: LimitKind::Relations,
             },
         ) => format!(in alloc; "relations"),
+        Err(
+            ReadFault::Limit {
+                what: LimitKind::Copies,
+            },
+        ) => format!(in alloc; "copies"),
         Err(ReadFault::Limit { .. }) => format!(in alloc; "another limit"),
         Err(ReadFault::NoMemory) => Err(NoMemory),
     }
@@ -286,6 +291,25 @@ fn limits_are_passed_at_their_tokens(rt: HostRuntime) -> Result<(), Fail> {
             Some(expected) => assert_eq!(rt; found.as_str(), expected),
             None => assert!(rt; found.as_str().ends_with("; ")),
         }
+    }
+    Ok(())
+}
+
+/// A view whose query copies 900,981: values before BETWEEN in one another, which weigh 49, 104, ...
+fn copying_view(alloc: Global) -> Result<String, NoMemory> {
+    let opened = "(".repeat(alloc, 14)?;
+    let value = "a + ".repeat(alloc, 22)?;
+    let closed = " BETWEEN 1 AND 2)".repeat(alloc, 14)?;
+    format!(in alloc; "CREATE VIEW v AS SELECT a FROM r WHERE {opened}({value}(a)){closed};")
+}
+
+#[test]
+fn views_copy_together(rt: HostRuntime) -> Result<(), Fail> {
+    let view = copying_view(rt.alloc())?;
+    for (times, expected) in [(1, "view 12; "), (2, "copies")] {
+        let text = view.repeat(rt.alloc(), times)?;
+        let found = told(&rt, rt.alloc(), text.as_bytes())?;
+        assert_eq!(rt; found.as_str(), expected);
     }
     Ok(())
 }

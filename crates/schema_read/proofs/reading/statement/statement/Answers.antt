@@ -3,7 +3,13 @@ use Rattle.sql_grammar.specs.declared.kinds.Kind.TheVariants as k
 use Rattle.sql_grammar.specs.Kinds.{same}
 use Rattle.sql_read.proofs.ReadPassing.{alike_passes, first_next, handed_on, other_unless, reads_from}
 use Rattle.sql_read.proofs.ReadSteps.{exits, first_part, mapped, missed, refuses, whole}
+use Rattle.schema_read.proofs.CountParts.{create_holds, index_left, table_left, view_left}
+use Rattle.schema_read.proofs.CountSteps.{answers_on, counted_exits, held, part_counted, part_refused, rest_of, token_taken}
+use Rattle.schema_read.proofs.Telling.{reads_more, with_columns}
 use Rattle.schema_read.proofs.StatementParts.{created, table_begins, view_begins}
+use Rattle.schema_read.proofs.CopiedParts.{copied_exit, copied_in, copied_unless, none_passed, told}
+use Rattle.schema_read.proofs.CopiedViews.{no_view, not_next, unlike_next, view_part}
+use Rattle.schema_read.proofs.NoCopies.{missed_other}
 use Rattle.schema_read.proofs.reading.statement.statement.Goals as goal
 
 pub returns-in_err-expect-clause-reads : goal.returns-in_err-expect-clause-reads
@@ -18,10 +24,39 @@ pub returns-then-sees-2-clause-reads : goal.returns-then-sees-2-clause-reads
 returns-then-sees-2-clause-reads c =
     let create = c.in_ok-expect.ensures in
     let others = other_unless (same k.Table) (created create) refl refl (sym c.sees.ensures ∙ c.if-sees.false) in
-    handed_on (first_next (same k.View) others refl view_begins (sym c.sees-2.ensures ∙ c.if-sees-2.true)) (reads_from (alike_passes create) c.view.ensures.reads)
+    reads_more with_columns (handed_on (first_next (same k.View) others refl view_begins (sym c.sees-2.ensures ∙ c.if-sees-2.true)) (reads_from (alike_passes create) c.view.ensures.reads))
 
 pub returns-clause-reads : goal.returns-clause-reads
 returns-clause-reads c =
     let create = c.in_ok-expect.ensures in
     let others = other_unless (same k.Table) (created create) refl refl (sym c.sees.ensures ∙ c.if-sees.false) in
-    handed_on (other_unless (same k.View) others refl refl (sym c.sees-2.ensures ∙ c.if-sees-2.false)) (reads_from (alike_passes create) (c.index.ensures.reads 63))
+    reads_more with_columns (handed_on (other_unless (same k.View) others refl refl (sym c.sees-2.ensures ∙ c.if-sees-2.false)) (reads_from (alike_passes create) (c.index.ensures.reads 63)))
+
+pub returns-in_err-expect-clause-columns : goal.returns-in_err-expect-clause-columns
+returns-in_err-expect-clause-columns c = counted_exits c.from_residual.ensures.1 (held create_holds (part_refused (missed {d = 0} c.in_err-expect.ensures)))
+
+pub returns-then-sees-clause-columns : goal.returns-then-sees-clause-columns
+returns-then-sees-clause-columns c = answers_on (rest_of (table_left (token_taken c.in_ok-expect.ensures) (sym c.sees.ensures ∙ c.if-sees.true))) c.table.ensures.columns
+
+pub returns-then-sees-2-clause-columns : goal.returns-then-sees-2-clause-columns
+returns-then-sees-2-clause-columns c =
+    part_counted (rest_of (view_left (token_taken c.in_ok-expect.ensures) (sym c.sees.ensures ∙ c.if-sees.false) (sym c.sees-2.ensures ∙ c.if-sees-2.true))) c.view.ensures.reads
+
+pub returns-clause-columns : goal.returns-clause-columns
+returns-clause-columns c =
+    part_counted (rest_of (index_left (token_taken c.in_ok-expect.ensures) (sym c.sees.ensures ∙ c.if-sees.false) (sym c.sees-2.ensures ∙ c.if-sees-2.false))) (c.index.ensures.reads 0)
+
+-- ---- what was copied
+
+pub returns-in_err-expect-clause-copied : goal.returns-in_err-expect-clause-copied
+returns-in_err-expect-clause-copied c = copied_exit c.from_residual.ensures.1 (told _ (missed_other c.in_err-expect.ensures) (none_passed c.in_err-expect.ensures.stays.still))
+
+pub returns-then-sees-clause-copied : goal.returns-then-sees-clause-copied
+returns-then-sees-clause-copied c =
+    copied_unless c.table.result c.table.ensures.free (no_view c.in_ok-expect.ensures (unlike_next (same k.Table) refl _ (sym c.sees.ensures ∙ c.if-sees.true)))
+
+pub returns-then-sees-2-clause-copied : goal.returns-then-sees-2-clause-copied
+returns-then-sees-2-clause-copied c = copied_in (view_part c.in_ok-expect.ensures) c.view.result c.view.ensures.copied
+
+pub returns-clause-copied : goal.returns-clause-copied
+returns-clause-copied c = copied_unless c.index.result c.index.ensures.free (no_view c.in_ok-expect.ensures (not_next _ (sym c.sees-2.ensures ∙ c.if-sees-2.false)))
