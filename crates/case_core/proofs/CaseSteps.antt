@@ -1,0 +1,223 @@
+-- The steps of the reader of a case: statements, the first query and the second, and what it answers behind each.
+use Rattle.std.proofs.Common.{◌≡◌, ◌≤◌, ℕ, true, List, [], ◌∷◌, ◌++◌, Some, None, inl, inr, refl, sym, ◌∙◌, ap, subst, append_assoc}
+use Rattle.std.proofs.lemmas.Bool.{false≢true}
+use Rattle.std.proofs.lemmas.List.{append-nil}
+use Rattle.grammar.specs.Reading.{Stops, Took}
+use Rattle.grammar.proofs.Begun.{nothing_began}
+use Rattle.grammar.proofs.Longest.{stops_at_longest}
+use Rattle.sql_lex.specs.Lexemes.{Lexeme}
+use Rattle.sql_model.specs.declared.statement.Statement.{Statement}
+use Rattle.sql_model.specs.declared.tree.Query.{Query}
+use Rattle.sql_read.specs.declared.fault.LimitKind.{LimitKind}
+use Rattle.sql_read.specs.declared.fault.ReadFault.{ReadFault}
+use Rattle.sql_read.specs.Cursor.{Cursor, next}
+use Rattle.sql_read.specs.Eating.{Extends, IsNextAt, is_next}
+use Rattle.sql_grammar.specs.Kinds.{among}
+use Rattle.sql_grammar.specs.Numbering.{Built}
+use Rattle.sql_grammar.specs.Queries.{most_levels}
+use Rattle.sql_grammar.specs.QueryCopies as queries
+use Rattle.sql_grammar.specs.QueryCopies.{most_copies}
+use Rattle.sql_grammar.specs.QueryGrammar.{The}
+use Rattle.sql_read.specs.Reads.{Refuses, few_form, relations_too}
+use Rattle.sql_read.specs.Refusals.{refusal}
+use Rattle.sql_read.proofs.Extending.{◌⨟◌}
+use Rattle.sql_read.proofs.ReadSteps.{LeftOf, blocks, built_both, built_map, entries_within, first_part, mapped as mapped_left, refuses, second, takes, whole}
+use Rattle.schema_read.specs.CopiedStatements.{CopiedToFault}
+use Rattle.schema_read.specs.StatementGrammar.{statements}
+use Rattle.schema_read.specs.Statements.{of_form}
+use Rattle.schema_read.proofs.StatementFronts.{form_has_fronts, roomier}
+use Rattle.schema_read.proofs.Telling.{refused_more, taken_more, with_both}
+use Rattle.case_core.specs.declared.fault.CaseFault.{CaseFault}
+use Rattle.case_core.specs.declared.fault.CaseFault.TheVariants.{Read, Schema, Scope, QueriesDiffer, NotTwoQueries, NoMemory}
+use Rattle.case_core.specs.declared.text.CaseText.{CaseText}
+use Rattle.case_core.specs.CaseGrammar as g
+use Rattle.case_core.specs.Cases.{IsShallow, KeepsCounts, cases, shallow_cases, within}
+use Rattle.case_core.specs.ReadingCases.{IsEnded, IsMore, IsNoEnd, IsTrailing, RefusesCase, TakesCase}
+use Rattle.case_core.specs.Refusals.{GoesOnBehind, Says}
+use Rattle.case_core.specs.Wrapping.{of_read}
+use Rattle.case_core.proofs.CaseCopies.{CopiedAll, few_copies, first_copied, none_behind, none_behind_first, none_behind_second, second_copied}
+use Rattle.case_core.proofs.CaseCounts.{CountsRefused, ReadsQuery, StatementsRead, first_counted, keeps_behind, keeps_behind_first, keeps_counts, second_counted, taken_within, within_fronts}
+use Rattle.case_core.proofs.CaseFronts.{fronts, kept_to, shallow_fronts, shallow_included, third_there}
+use Rattle.case_core.proofs.Outcomes.{Behind, RefusesAll, TakesAll, more_behind, not_two_excluded, refusal_here, refused, says_next, took}
+
+behind : {V : Type 0} {part : The V} {before here : Cursor} {value : V} → TakesAll part before.tokens value here.tokens → Extends before here → IsMore here → Behind part before
+behind {here = here} {value = value} t x more = record { value = value; here = here; takes = t; fault = x.fault; more = more }
+
+-- no tokens behind what was taken
+all_taken : (ts taken rest : List Lexeme) → ts ≡ taken ++ rest → rest ≡ [] → ts ≡ taken
+all_taken ts taken rest e n = e ∙ (ap (λ z. taken ++ z) n ∙ append-nil taken)
+
+stops_at_end : (taken rest : List Lexeme) → rest ≡ [] → Stops cases taken rest
+stops_at_end taken rest e = subst (λ z. Stops cases taken z) (sym e) tt
+
+-- ---- statements
+
+pub statements_refused : {a b : Cursor} {fault : ReadFault} → RefusesAll statements a fault b → CountsRefused a fault b → CopiedAll a fault b → Extends a b → RefusesCase a (of_read fault) b
+statements_refused r n c x = refused (refuses (first_part (mapped_left whole) refl) r) n c x (inr r) (inr (refuses (first_part whole refl) r))
+
+module _ {a b : Cursor} {list : List Statement} (s : StatementsRead a list b) (x : Extends a b) where
+  -- the queries are still to come
+  queries_left : LeftOf relations_too g.two_queries most_levels b.tokens g.case (few_form g.case) most_levels a.tokens (λ queries. g.case_of (s.reads.read, queries))
+  queries_left = second (mapped_left (whole {N = g.case} {e = most_levels} {start = a.tokens})) refl s.reads.takes
+
+  pub no_query : IsEnded b → {end : ℕ} → end ≡ a.end → RefusesCase a (NotTwoQueries 0 end) b
+  no_query n e = record {
+    says = λ most.
+        let t = took statements s.reads.takes in let all = all_taken a.tokens t.taken b.tokens t.whole n.tokens in
+        let begun : shallow_cases.front t.taken = inr (t.taken, [], s.reads.read, sym (append-nil t.taken), t.spelled, (form_has_fronts (Some most_levels) g.two_queries).empty) in
+        let entries = (queries_left.few tt).began b.tokens (nothing_began (few_form g.two_queries) (entries_within g.two_queries).fronts b.tokens) in
+        record {
+          counted = inl (
+            refl,
+            record {
+              value = s.reads.read;
+              whole = subst (λ z. (of_form None statements).spells z s.reads.read) (sym all) ((roomier (Some most_levels) None tt statements).spells t.taken s.reads.read t.spelled);
+              last = sym x.fault ∙ n.fault;
+              place = e;
+            },
+          );
+          shallow = kept_to shallow_cases shallow_fronts a.tokens t.taken [] (all ∙ sym (append-nil t.taken)) begun tt;
+          few = keeps_counts (keeps_behind s entries) t.taken t.whole (stops_at_end t.taken b.tokens n.tokens);
+          few_copies = few_copies a.tokens (sym (append-nil a.tokens) ∙ ap (λ z. a.tokens ++ z) (sym n.tokens)) (none_behind s) most;
+        };
+  }
+
+  pub first_refused : IsMore b → {c : Cursor} {fault : ReadFault} → Refuses g.ended_query most_levels b fault c → CopiedToFault (queries.IsCopyTooMany b.copies) b fault c → Extends b c → RefusesCase a (of_read fault) c
+  first_refused more r m y =
+      refused (refuses (first_part queries_left refl) (refused_more with_both r)) (first_counted s r) (first_copied s y _ r m) (x ⨟ y) (inl (behind s.reads.takes x more))
+      (inr (refuses (blocks (second whole refl s.reads.takes)) (refused_more with_both r)))
+
+-- ---- one query
+
+module _ {a b c : Cursor} {list : List Statement} {left : Query} (s : StatementsRead a list b) (p : ReadsQuery b left c) where
+  one_taken : TakesAll g.one_query a.tokens (s.reads.read, p.read) c.tokens
+  one_taken = takes (second (whole {N = g.one_query} {e = most_levels} {start = a.tokens}) refl s.reads.takes) (taken_more with_both p.takes)
+
+  -- the second query is still to come
+  query_left : Extends a b → LeftOf relations_too g.ended_query most_levels c.tokens g.case (few_form g.case) most_levels a.tokens (λ right. g.case_of (s.reads.read, (p.read, right)))
+  query_left x = second (queries_left s x) refl (taken_more with_both p.takes)
+
+  module _ (x : Extends a b) (y : Extends b c) where
+    pub no_second : IsEnded c → {end : ℕ} → end ≡ a.end → RefusesCase a (NotTwoQueries 1 end) c
+    no_second n e = record {
+      says = λ most.
+          let t = took g.one_query one_taken in let all = all_taken a.tokens t.taken c.tokens t.whole n.tokens in
+          let parts = t.spelled in
+          let begun : shallow_cases.front t.taken =
+          inr (parts.0, parts.1, s.reads.read, parts.2, parts.3, inr (parts.1, [], p.read, sym (append-nil parts.1), parts.4, (form_has_fronts (Some most_levels) g.ended_query).empty)) in
+          let entries = ((query_left x).few tt).began c.tokens (nothing_began (few_form g.ended_query) (entries_within g.ended_query).fronts c.tokens) in
+          record {
+            counted = inr (inl (
+              refl,
+              record {
+                value = (s.reads.read, p.read);
+                whole = subst (λ z. (of_form None g.one_query).spells z (s.reads.read, p.read)) (sym all)
+                    ((roomier (Some most_levels) None tt g.one_query).spells t.taken (s.reads.read, p.read) t.spelled);
+                last = sym (x ⨟ y).fault ∙ n.fault;
+                place = e;
+              },
+            ));
+            shallow = kept_to shallow_cases shallow_fronts a.tokens t.taken [] (all ∙ sym (append-nil t.taken)) begun tt;
+            few = keeps_counts (keeps_behind_first s p entries) t.taken t.whole (stops_at_end t.taken c.tokens n.tokens);
+            few_copies = none_behind_first s p n.tokens most;
+          };
+    }
+
+    pub second_refused : IsMore b → IsMore c → {d : Cursor} {fault : ReadFault} → Refuses g.ended_query most_levels c fault d → CopiedToFault (queries.IsCopyTooMany c.copies) c fault d → Extends c d → RefusesCase a (of_read fault) d
+    second_refused first_more more r m z =
+        refused (refuses (blocks (query_left x)) (refused_more with_both r)) (second_counted s p r) (second_copied s p z _ r m) ((x ⨟ y) ⨟ z) (inl (behind s.reads.takes x first_more))
+        (inl (behind one_taken (x ⨟ y) more))
+
+-- ---- two queries
+
+module _ {a b c d : Cursor} {list : List Statement} {left right : Query} (s : StatementsRead a list b) (p : ReadsQuery b left c) (q : ReadsQuery c right d) where
+  abbrev value : Built CaseText
+  value = g.case_of (s.reads.read, (p.read, q.read))
+
+  case_taken : TakesAll g.case a.tokens value d.tokens
+  case_taken =
+      takes (second (second (mapped_left (whole {N = g.case} {e = most_levels} {start = a.tokens})) refl s.reads.takes) refl (taken_more with_both p.takes)) (taken_more with_both q.takes)
+
+  the_case : Took cases shallow_cases a.tokens value d.tokens
+  the_case = took g.case case_taken
+
+  the_few : (what : LimitKind) → Took cases (within what) a.tokens value d.tokens
+  the_few = taken_within s p q case_taken
+
+  abbrev taken : List Lexeme
+  taken = the_case.taken
+
+  spelled : cases.spells taken value
+  spelled = shallow_included.spells taken value the_case.spelled
+
+  is_shallow : IsShallow a.tokens
+  is_shallow = kept_to shallow_cases shallow_fronts a.tokens taken d.tokens the_case.whole (shallow_fronts.spelled taken value the_case.spelled) the_case.stops
+
+  is_counted : KeepsCounts a.tokens
+  is_counted what =
+      let f = within_fronts what in let t = the_few what in kept_to (within what) f a.tokens t.taken d.tokens t.whole (f.spelled t.taken value t.spelled) t.stops
+
+  module _ (x : Extends a b) (y : Extends b c) (z : Extends c d) where
+    pub all_read : IsEnded d → TakesCase a (record { statements = list; left = left; right = right }) d
+    all_read n =
+        let all = all_taken a.tokens taken d.tokens the_case.whole n.tokens in
+        let builds = built_map g.text_of (built_both s.reads.builds (built_both p.builds q.builds)) in
+        record {
+          last = sym ((x ⨟ y) ⨟ z).fault ∙ n.fault;
+          value = value;
+          spelled = subst (λ u. cases.spells u value) (sym all) spelled;
+          shallow = is_shallow;
+          few = λ what. let t = the_few what in subst (λ u. (within what).spells u value) (sym (all_taken a.tokens t.taken d.tokens t.whole n.tokens)) t.spelled;
+          built = builds.numbers;
+          copied = builds.copies;
+        }
+
+    trailing : IsMore b → IsMore c → {fault : ReadFault} → IsTrailing d fault → fault ≡ refusal d → d.copies ≤ most_copies → Says a.copies a.tokens a.fault a.end (Read fault)
+    trailing first_more second_more {fault = fault} t e most =
+        let whole_way = (x ⨟ y) ⨟ z in
+        subst (λ u. Says a.copies a.tokens a.fault a.end (Read u)) (sym (e ∙ refusal_here whole_way)) (says_next a.copies a.tokens a.fault a.end a.end (next d.tokens a.fault) (record {
+          taken = taken;
+          rest = d.tokens;
+          parts = the_case.whole;
+          leading = stops_at_longest cases fronts a.tokens taken d.tokens the_case.whole (fronts.spelled taken value spelled) the_case.stops;
+          unspelled = more_behind (behind case_taken whole_way t.more);
+          not_counted = not_two_excluded a (more_behind (behind s.reads.takes x first_more)) (more_behind (behind (one_taken s p) (x ⨟ y) second_more)) (λ at third. no_third third);
+          shallow = is_shallow;
+          few = is_counted;
+          few_copies = λ u v t i. none_behind_second s p q most u (v ++ d.tokens) t (the_case.whole ∙ (ap (λ k. k ++ d.tokens) i ∙ append_assoc u (t ∷ v) d.tokens));
+          refusal = refl;
+        }))
+      where
+        no_third : {at : ℕ} → GoesOnBehind a.tokens at → ⊥
+        no_third third =
+            let there = third_there value the_case.whole spelled third in
+            false≢true (sym t.no_query ∙ (ap (λ ts. is_next (among g.query_kinds) ts) there ∙ third.begins))
+
+    third_behind : (at : ℕ) (rest : List Lexeme) → d.tokens ≡ rest → is_next (among g.query_kinds) rest ≡ true → IsNextAt at rest → GoesOnBehind a.tokens at
+    third_behind at [] e n i = absurd i
+    third_behind at (t ∷ after) e n i = record {
+      before = taken;
+      third = t;
+      after = after;
+      parts = the_case.whole ∙ ap (λ u. taken ++ u) e;
+      value = value;
+      whole = spelled;
+      begins = n;
+      place = sym i;
+    }
+
+    says_no_end : IsMore b → IsMore c → (fault : CaseFault) → IsNoEnd d fault → d.copies ≤ most_copies → Says a.copies a.tokens a.fault a.end fault
+    says_no_end first_more second_more (Read fault) n most = trailing first_more second_more n.0 (n.0.refusal n.1) most
+    says_no_end first_more second_more (Schema fault) n most = n
+    says_no_end first_more second_more (Scope fault) n most = n
+    says_no_end first_more second_more (QueriesDiffer one other) n most = n
+    says_no_end first_more second_more (NotTwoQueries count at) n most = record {
+      counted = inr (inr (n.0, third_behind at d.tokens refl n.1.begins n.1.place));
+      shallow = is_shallow;
+      few = is_counted;
+      few_copies = none_behind_second s p q most;
+    }
+    says_no_end first_more second_more NoMemory n most = tt
+
+    pub no_end : IsMore b → IsMore c → (fault : CaseFault) → IsNoEnd d fault → RefusesCase a fault d
+    no_end first_more second_more fault n = record { says = says_no_end first_more second_more fault n }

@@ -1,0 +1,5 @@
+use Rattle.case_core.proofs.CaseFronts.{shallow_included}
+use Rattle.case_core.proofs.laws.limits.Goals as goal
+
+pub returns : goal.returns
+returns c = shallow_included

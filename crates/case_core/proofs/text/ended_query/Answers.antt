@@ -1,0 +1,38 @@
+use Rattle.std.proofs.Common.{refl}
+use Rattle.case_core.proofs.CaseFewCopies.{no_second_behind}
+use Rattle.sql_grammar.specs.Queries.{most_levels}
+use Rattle.sql_read.proofs.Extending.{◌⨟◌, extends_misses, extends_passes}
+use Rattle.sql_read.proofs.ReadSteps.{before, blocks, exits, first_part, gives, mapped, missed, refuses, second, took_token, whole}
+use Rattle.schema_read.proofs.CopiedParts.{copied_exit, told}
+use Rattle.schema_read.proofs.CopiedQueries.{query_copied}
+use Rattle.schema_read.proofs.NoCopies.{missed_other}
+use Rattle.case_core.proofs.CaseCopies.{none_in_query}
+use Rattle.case_core.proofs.text.ended_query.Goals as goal
+
+pub returns-in_err-query-clause-reads : goal.returns-in_err-query-clause-reads
+returns-in_err-query-clause-reads c = exits c.from_residual.ensures.1 (refuses (first_part (mapped whole) refl) c.in_err-query.ensures.reads.answers)
+
+pub returns-in_err-expect-clause-reads : goal.returns-in_err-expect-clause-reads
+returns-in_err-expect-clause-reads c =
+    exits c.from_residual-in_err-expect.ensures.1 (refuses (blocks (second (mapped whole) refl c.in_ok-query.ensures.reads.answers.takes)) (missed c.in_err-expect.ensures))
+
+pub returns-in_err-expect-clause-extends : goal.returns-in_err-expect-clause-extends
+returns-in_err-expect-clause-extends c = c.in_ok-query.ensures.extends ⨟ extends_misses c.in_err-expect.ensures
+
+pub returns-clause-reads : goal.returns-clause-reads
+returns-clause-reads c =
+    let query = c.in_ok-query.ensures.reads.answers in let end = c.in_ok-expect.ensures in
+    record { answers = gives (second (mapped whole) refl query.takes) _ (took_token most_levels end) (before query.builds end) }
+
+pub returns-clause-extends : goal.returns-clause-extends
+returns-clause-extends c = c.in_ok-query.ensures.extends ⨟ extends_passes c.in_ok-expect.ensures
+
+-- ---- what was copied
+
+pub returns-in_err-query-clause-copied : goal.returns-in_err-query-clause-copied
+returns-in_err-query-clause-copied c = copied_exit c.from_residual.ensures.1 (query_copied _ c.in_err-query.ensures.copied.answers)
+
+pub returns-in_err-expect-clause-copied : goal.returns-in_err-expect-clause-copied
+returns-in_err-expect-clause-copied c =
+    copied_exit c.from_residual-in_err-expect.ensures.1
+    (told _ (missed_other c.in_err-expect.ensures) (none_in_query c.in_ok-query.ensures.reads.answers c.in_err-expect.ensures.stays.still))

@@ -1,0 +1,31 @@
+//! Laws of the definitions, each the contract of a function that does nothing.
+ghost use Rattle.std.specs.Prelude.{◌≡◌, ◌++◌, List, [], ℕ};
+ghost use Rattle.grammar.specs.Form.{Room};
+ghost use Rattle.grammar.specs.Language.{HasFronts, Includes, IsUnambiguous};
+ghost use Rattle.sql_lex.specs.Lexemes.{Lexeme};
+ghost use Rattle.sql_grammar.specs.Numbering.{Built, Numbers};
+ghost use Rattle.schema_read.specs.Statements.{of_form};
+ghost use Rattle.case_core.specs.declared.text.CaseText.{CaseText as Written};
+ghost use Rattle.case_core.specs.CaseGrammar as g;
+ghost use Rattle.case_core.specs.Cases.{BeginsCase, SpellsCase, cases, shallow_cases};
+
+/// No text spells two cases, and no list of tokens two values of one.
+pub fn one_case()
+    ensures texts { (text : List ℕ) (one other : Written) (numbers numbers_too : Numbers) →
+        SpellsCase text one numbers → SpellsCase text other numbers_too → (one ≡ other) × (numbers ≡ numbers_too) }
+    ensures values { (room : Room) → IsUnambiguous (of_form room g.case) }
+{}
+
+/// A text may go on after no tokens, after fewer tokens than it may go on after, and after a whole case; there nothing goes on.
+pub fn fronts()
+    ensures empty { BeginsCase [] }
+    ensures shorter { (x y : List Lexeme) → BeginsCase (x ++ y) → BeginsCase x }
+    ensures spelled { (tokens : List Lexeme) (read : Built Written) → cases.spells tokens read → BeginsCase tokens }
+    ensures last { (x y : List Lexeme) (read : Built Written) → cases.spells x read → BeginsCase (x ++ y) → y ≡ [] }
+    ensures limited { (room : Room) → HasFronts (of_form room g.case) }
+{}
+
+/// What is spelled within the limits is spelled, and a front within them is a front.
+pub fn limits()
+    ensures { Includes cases shallow_cases }
+{}

@@ -1,0 +1,16 @@
+//! A whole case: the text of statements and two queries to a schema and two resolved queries of one width over it.
+#![tactic(auto)]
+
+mod case;
+mod facts;
+mod fault;
+pub mod laws;
+mod read;
+#[cfg(test)]
+mod tests;
+mod text;
+
+pub use case::Case;
+pub use facts::facts_of;
+pub use fault::CaseFault;
+pub use read::read_case;
