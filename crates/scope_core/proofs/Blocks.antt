@@ -1,5 +1,5 @@
 -- A block as code resolves it: its fault and its tree, by the fields of the block.
-use Rattle.std.proofs.Common.{◌≡◌, ℕ, Bool, List, [], ◌∷◌, ◌++◌, map, Option, Some, None, refl, ap, subst, ◌∙◌}
+use Rattle.std.proofs.Common.{◌≡◌, Bool, List, [], ◌∷◌, ◌++◌, map, Option, Some, None, refl, ap, subst, ◌∙◌}
 use Rattle.std.specs.Prelude.{◌||◌, is_some}
 use Rattle.std.specs.Option.{option_or}
 use Rattle.sql_model.specs.Syntax as n
@@ -10,7 +10,7 @@ use Rattle.scope_core.specs.declared.fault.ScopeFault.{ScopeFault}
 use Rattle.scope_core.specs.declared.tree.RBlock.{roll-RBlock}
 use Rattle.scope_core.specs.Compute.{resolving}
 use Rattle.scope_core.specs.Syntax.{RBlock, Grouping}
-use Rattle.scope_core.specs.FirstFault.{fault_at, first_fault}
+use Rattle.scope_core.specs.FirstFault.{first_fault}
 use Rattle.scope_core.specs.Lent.{entries_row, items_row, row_of, entries_headings, items_have_aggregate_listed}
 use Rattle.scope_core.specs.Parts.{block_fault, entries_fault, on_fault, items_fault, truth_fault, columns_fault, written_fault, group_by_fault, entries_listed, on_listed, items_listed, places_listed, written_listed, having_listed, grouping_listed}
 use Rattle.scope_core.specs.Resolving.{resolved_block}

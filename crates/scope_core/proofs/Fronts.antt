@@ -11,7 +11,7 @@ use Rattle.sql_model.specs.Syntax as n
 use Rattle.sql_model.specs.declared.tree.Entry.{Entry, out-Entry, roll-Entry, roll-out-Entry}
 use Rattle.sql_model.specs.Headings.{Heading, columns_of, item_columns, source_columns}
 use Rattle.scope_core.specs.Compute.{resolving}
-use Rattle.scope_core.specs.FirstFault.{fault_at, first_fault}
+use Rattle.scope_core.specs.FirstFault.{fault_at}
 use Rattle.scope_core.specs.Lent.{entries_headings, entries_row, items_row}
 use Rattle.scope_core.specs.Parts.{entries_fault, entries_listed, item_fault, items_fault, items_listed, on_fault, on_listed, source_fault, truth_fault, written_fault, written_listed}
 use Rattle.scope_core.specs.Resolving.{alias_star, entry_columns, star, entry_of, resolved_item, resolved_source}

@@ -1,5 +1,5 @@
 -- Whether a tree groups rows, as code seeks it.
-use Rattle.std.proofs.Common.{◌≡◌, ℕ, ◌+◌, ◌<◌, ◌≤◌, Bool, true, false, List, [], ◌∷◌, length, drop, get_or, Option, Some, None, refl, subst, ◌∙◌}
+use Rattle.std.proofs.Common.{◌≡◌, ℕ, ◌+◌, ◌<◌, ◌≤◌, Bool, false, List, [], ◌∷◌, length, drop, get_or, Option, Some, None, refl, subst, ◌∙◌}
 use Rattle.std.specs.Prelude.{◌||◌}
 use Rattle.sql_model.specs.Syntax.{AggFun, SetOp}
 use Rattle.scope_core.specs.declared.tree.RVal.TheVariants as v
@@ -8,7 +8,7 @@ use Rattle.scope_core.specs.declared.tree.RSource.TheVariants as s
 use Rattle.scope_core.specs.declared.tree.RQuery.TheVariants as q
 use Rattle.scope_core.specs.declared.tree.RBlock.{roll-RBlock, out-RBlock, roll-out-RBlock}
 use Rattle.scope_core.specs.declared.tree.REntry.{REntry}
-use Rattle.scope_core.specs.Syntax.{RVal, RCond, RSource, RBlock, RQuery, Grouping}
+use Rattle.scope_core.specs.Syntax.{RVal, RCond, RBlock, RQuery, Grouping}
 use Rattle.scope_core.specs.Grouped.{block_groups, condition_groups, conditions_group_listed, entries_group_listed, groups, source_groups, value_groups, values_group_listed}
 use Rattle.scope_core.specs.Plain.{is_grouping}
 use Rattle.scope_core.specs.Compute.{everything}

@@ -1,6 +1,6 @@
 -- Columns of GROUP BY as code resolves them.
-use Rattle.std.proofs.Common.{◌≡◌, ℕ, ◌+◌, ◌<◌, ◌≤◌, Bool, true, false, List, [], ◌∷◌, length, drop, get_or, Option, Some, None, refl, ap, sym, ◌∙◌, not, arith}
-use Rattle.std.specs.Prelude.{◌&&◌, ◌||◌, if◌then◌else◌, is_some, is_none}
+use Rattle.std.proofs.Common.{◌≡◌, ℕ, ◌+◌, ◌<◌, ◌≤◌, Bool, true, false, List, [], ◌∷◌, length, drop, get_or, Option, Some, None, refl, ap, sym, ◌∙◌, not}
+use Rattle.std.specs.Prelude.{◌||◌, if◌then◌else◌, is_some}
 use Rattle.std.specs.Option.{option_or}
 use Rattle.sql_model.specs.Syntax as n
 use Rattle.sql_model.specs.declared.tree.Expr.TheVariants as expr
@@ -10,11 +10,11 @@ use Rattle.scope_core.specs.declared.fault.ScopeFault.TheVariants as fault
 use Rattle.scope_core.specs.declared.fault.ScopeCode.TheVariants as code
 use Rattle.scope_core.specs.Answer.{IsCause}
 use Rattle.scope_core.specs.Compute.{resolving}
-use Rattle.scope_core.specs.Faults.{block_meant, is_here, lacks_column, lacks_alias, names_two, is_outer}
+use Rattle.scope_core.specs.Faults.{block_meant, is_here, lacks_column, names_two}
 use Rattle.scope_core.specs.FirstFault.{refused}
 use Rattle.scope_core.specs.Parts.{group_fault, columns_fault, places_listed}
 use Rattle.scope_core.specs.Resolving.{group_place}
-use Rattle.scope_core.specs.Scope.{Level, Levels, place_in, rows_level}
+use Rattle.scope_core.specs.Scope.{Levels, place_in}
 use Rattle.scope_core.specs.Sites.{AGroupColumn}
 use Rattle.scope_core.proofs.Lists.{at-head, at-end}
 use Rattle.scope_core.proofs.Columns.{causes, cause-is, alias_is_known}

@@ -1,5 +1,5 @@
 -- Items of a list that is made of parts, and lists that are mapped.
-use Rattle.std.proofs.Common.{◌≡◌, ℕ, zero, suc, ◌<◌, ◌+◌, ◌-◌, ◌||◌, Bool, true, false, List, [], ◌∷◌, ◌++◌, map, filter, length, get_or, take, drop, ◌≤◌, Option, Some, None, option_map, cond, refl, ap, sym, ◌∙◌, arith}
+use Rattle.std.proofs.Common.{◌≡◌, ℕ, zero, suc, ◌<◌, ◌+◌, ◌-◌, ◌||◌, Bool, true, false, List, [], ◌∷◌, ◌++◌, map, filter, length, get_or, take, drop, ◌≤◌, Some, None, cond, refl, ap, sym, ◌∙◌, arith}
 use Rattle.std.specs.Prelude.{count_by, position}
 use Rattle.std.specs.List.{position_or_len, list_any}
 use Rattle.std.proofs.lemmas.List.{drop-take, length-map, length-append, append-nil, append_assoc, drop_all}

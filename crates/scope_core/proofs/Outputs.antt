@@ -6,8 +6,8 @@ use Rattle.sql_model.specs.declared.tree.Source.TheVariants as source
 use Rattle.sql_model.specs.declared.tree.Entry.{Entry}
 use Rattle.sql_model.specs.declared.tree.Block.{out-Block, roll-Block, roll-out-Block}
 use Rattle.sql_model.specs.Compute.{everything}
-use Rattle.sql_model.specs.Headings.{Heading, columns_of, block_columns, item_columns, items_columns, output_columns, headings, source_columns}
-use Rattle.scope_core.specs.Lent.{entries_headings, entries_row, items_row, list_columns}
+use Rattle.sql_model.specs.Headings.{Heading, columns_of, block_columns, item_columns, output_columns, source_columns}
+use Rattle.scope_core.specs.Lent.{entries_headings, list_columns}
 
 pub output-Block : (b : n.Block) (relations : List Heading) → output_columns (q.Block b) relations ≡ block_columns b relations
 unfolding everything

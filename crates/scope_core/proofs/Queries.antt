@@ -1,34 +1,23 @@
 -- Queries as code resolves them.
-use Rattle.std.proofs.Common.{◌≡◌, ℕ, zero, suc, ◌+◌, ◌<◌, ◌≤◌, Bool, true, false, List, [], ◌∷◌, ◌++◌, map, length, drop, get_or, Option, Some, None, refl, ap, sym, ◌∙◌, not, arith}
-use Rattle.std.specs.Prelude.{if◌then◌else◌}
+use Rattle.std.proofs.Common.{◌≡◌, ℕ, List, [], ◌∷◌, map, length, Option, None, refl}
 use Rattle.std.specs.Option.{option_or}
 use Rattle.sql_model.specs.Syntax as n
-use Rattle.sql_model.specs.declared.tree.Expr.TheVariants as expr
 use Rattle.sql_model.specs.declared.tree.Query.TheVariants as query
 use Rattle.sql_model.specs.declared.tree.Item.TheVariants as item
 use Rattle.sql_model.specs.declared.tree.Source.TheVariants as source
-use Rattle.sql_model.specs.declared.tree.Entry.{Entry}
-use Rattle.sql_model.specs.Headings.{Heading, output_columns, item_columns, source_columns}
+use Rattle.sql_model.specs.Headings.{output_columns}
 use Rattle.scope_core.specs.declared.fault.ScopeFault.{ScopeFault}
-use Rattle.scope_core.specs.declared.fault.ScopeFault.TheVariants as fault
-use Rattle.scope_core.specs.declared.fault.ScopeCode.TheVariants as code
-use Rattle.scope_core.specs.declared.tree.RVal.TheVariants as v
-use Rattle.scope_core.specs.declared.tree.RCond.TheVariants as c
 use Rattle.scope_core.specs.declared.tree.RQuery.TheVariants as q
 use Rattle.scope_core.specs.declared.tree.RSource.TheVariants as s
 use Rattle.scope_core.specs.Answer.{IsCause}
 use Rattle.scope_core.specs.Compute.{resolving}
-use Rattle.scope_core.specs.FirstFault.{fault_at, first_fault, place_of, refused}
-use Rattle.scope_core.specs.Lent.{row_of}
-use Rattle.scope_core.specs.Parts.{IsSingle, is_scalar_block, value_fault, values_fault, truth_fault, truths_fault, fault_within, block_fault, source_fault, entries_fault, on_fault, item_fault, items_fault, values_listed, conjuncts_listed, conditions_listed, entries_listed, on_listed, items_listed, argument_fault, argument_listed}
-use Rattle.scope_core.specs.Resolving.{alias_star, star, source_named, conjunction, conjuncts, conjuncts_of_each, only_block, resolved, resolved_block, resolved_item, resolved_source, resolved_value}
-use Rattle.scope_core.specs.Scope.{Known, heading, Level, Levels, headings_here, member_levels, resolved_column, sight_here}
-use Rattle.scope_core.specs.Faults.{is_group, is_in_group, is_scalar}
-use Rattle.scope_core.proofs.Booleans.{and-false}
-use Rattle.scope_core.specs.Sites.{AValue, ATruth, ASource, AnAlias, AColumn, AStar, AnAliasStar, AnExpression, TwoWidths, Outputs, value_sites, values_sites, truth_sites, truths_sites, sites}
-use Rattle.scope_core.proofs.Lists.{at-head, at-end}
+use Rattle.scope_core.specs.FirstFault.{fault_at}
+use Rattle.scope_core.specs.Parts.{value_fault, values_fault, truth_fault, truths_fault, fault_within, block_fault, source_fault, entries_fault, on_fault, item_fault, items_fault, values_listed, conjuncts_listed, conditions_listed, entries_listed, on_listed, items_listed}
+use Rattle.scope_core.specs.Resolving.{alias_star, star, source_named, resolved, resolved_block, resolved_item, resolved_source, resolved_value}
+use Rattle.scope_core.specs.Scope.{Known, heading, Levels, headings_here}
+use Rattle.scope_core.specs.Sites.{ASource, AStar, AnAliasStar, TwoWidths, sites}
 use Rattle.scope_core.proofs.Columns.{causes, cause-is}
-use Rattle.scope_core.proofs.Walks.{first_fault-append, first_fault-one, first_fault-three, cause-first, cause-second, cause-same, no-fault-both}
+use Rattle.scope_core.proofs.Walks.{first_fault-one, first_fault-three, cause-first, cause-second, cause-same}
 
 module _ (known : List Known) (levels : Levels) where
   pub fault-Block : (b : n.Block) → fault_within known levels (query.Block b) ≡ block_fault known levels b

@@ -1,5 +1,5 @@
 -- Which blocks stand for a value.
-use Rattle.std.proofs.Common.{◌≡◌, ℕ, Bool, true, false, List, [], ◌∷◌, suc, length, get_or, Option, Some, None, refl, subst, not, arith}
+use Rattle.std.proofs.Common.{◌≡◌, Bool, true, false, List, [], ◌∷◌, suc, length, get_or, Option, Some, None, refl, subst, not, arith}
 use Rattle.std.specs.Prelude.{◌&&◌, ◌||◌, is_some}
 use Rattle.sql_model.specs.Syntax as n
 use Rattle.sql_model.specs.declared.tree.Entry.{Entry}

@@ -1,9 +1,7 @@
 -- The relations of a schema as code knows them, and the two calls.
-use Rattle.std.proofs.Common.{◌≡◌, ℕ, ◌+◌, ◌≤◌, zero, suc, Bool, true, false, List, [], ◌∷◌, ◌++◌, map, length, Option, Some, None, Result, Ok, Err, refl, ap, sym, subst, ◌∙◌, arith}
+use Rattle.std.proofs.Common.{◌≡◌, ℕ, ◌+◌, ◌≤◌, true, false, List, [], ◌∷◌, map, length, Option, Some, None, Result, Ok, Err, refl, ap, sym, subst, ◌∙◌, arith}
 use Rattle.std.specs.Prelude.{IfErr, IfOk}
-use Rattle.std.specs.Option.{option_or}
 use Rattle.std.proofs.lemmas.List.{length-append}
-use Rattle.data_model.specs.Lists.{Each}
 use Rattle.sql_model.specs.declared.schema.Schema.{Schema}
 use Rattle.sql_model.specs.declared.schema.Relation.TheVariants as relation
 use Rattle.sql_model.specs.Syntax.{Name, Query}
@@ -19,26 +17,26 @@ use Rattle.scope_core.specs.declared.heading.Stored.TheVariants as stored
 use Rattle.scope_core.specs.declared.tree.RSource.TheVariants as s
 use Rattle.scope_core.specs.Answer.{IsCause}
 use Rattle.scope_core.specs.Faults.{name_twice}
-use Rattle.scope_core.specs.FirstFault.{first_fault, name_fault, query_fault, relation_fault, relations_fault, schema_fault}
-use Rattle.scope_core.specs.Fitting.{AreSoundViews, IsSoundOver}
-use Rattle.scope_core.specs.Lent.{relation_of, relations_of, source_of}
+use Rattle.scope_core.specs.FirstFault.{first_fault, query_fault, relation_fault}
+use Rattle.scope_core.specs.Fitting.{IsSoundOver}
+use Rattle.scope_core.specs.Lent.{relations_of, source_of}
 use Rattle.scope_core.specs.Literals.{QueryFits, TreeFits}
 use Rattle.scope_core.specs.Parts.{fault_within, name_twice_fault}
 use Rattle.scope_core.specs.Plain.{is_plain, is_plain_tree}
-use Rattle.scope_core.specs.Relations.{count_views, known_of, known_relation, known_relations, known_with, trees_with, view_trees, views_of, Resolves, tree_of}
+use Rattle.scope_core.specs.Relations.{count_views, known_of, known_relation, trees_with, views_of, Resolves, tree_of}
 use Rattle.scope_core.specs.Resolving.{resolved}
 use Rattle.scope_core.specs.Scope.{Known, heading}
 use Rattle.scope_core.specs.Sites.{sites}
 use Rattle.scope_core.specs.Sound.{IsSound, IsSoundAlone, IsSoundSource, SeenBlocks}
 use Rattle.scope_core.specs.Syntax.{RQuery}
-use Rattle.scope_core.specs.WellFormed.{SchemaWellFormed, SchemaWithinWidth, WellFormed, WithinWidth}
+use Rattle.scope_core.specs.WellFormed.{SchemaWellFormed, WellFormed, WithinWidth}
 use Rattle.scope_core.specs.Width.{width}
 use Rattle.scope_core.proofs.Columns.{cause-memory, causes}
-use Rattle.scope_core.proofs.NoFault.{no-first, query_fault-none, schema_fault-none}
+use Rattle.scope_core.proofs.NoFault.{no-first, query_fault-none}
 use Rattle.scope_core.proofs.PlainTrees.{tree-plain}
 use Rattle.scope_core.proofs.Resolvability.{well_formed-resolvable}
 use Rattle.scope_core.proofs.Soundness.{OkSources, query-sound}
-use Rattle.scope_core.proofs.SoundTrees.{tree-sound, tree-width, views-sound}
+use Rattle.scope_core.proofs.SoundTrees.{tree-sound, tree-width}
 use Rattle.scope_core.proofs.SymbolLaws.{tree-fits}
 use Rattle.scope_core.proofs.Walks.{cause-first, cause-same, cause-second, no-fault-both}
 

@@ -1,5 +1,5 @@
 -- The width of a resolved tree, and whether it is plain, as code seeks them.
-use Rattle.std.proofs.Common.{◌≡◌, ℕ, suc, Bool, true, false, not, ◌&&◌, ◌||◌, List, [], ◌∷◌, length, Option, Some, None, refl, ap, sym, subst, ◌∙◌}
+use Rattle.std.proofs.Common.{◌≡◌, ℕ, suc, Bool, true, false, not, ◌&&◌, ◌||◌, List, [], ◌∷◌, length, Option, Some, None, refl, ap, sym, subst}
 use Rattle.std.specs.List.{list_all}
 use Rattle.std.specs.Prelude.{is_some}
 use Rattle.scope_core.specs.declared.tree.RCond.TheBlock as t
@@ -10,7 +10,7 @@ use Rattle.scope_core.specs.declared.tree.RQuery.TheVariants as q
 use Rattle.scope_core.specs.declared.tree.Grouping.TheVariants as g
 use Rattle.scope_core.specs.declared.tree.RBlock.{roll-RBlock, out-RBlock, roll-out-RBlock}
 use Rattle.scope_core.specs.declared.tree.REntry.{REntry}
-use Rattle.scope_core.specs.Syntax.{RVal, RCond, RSource, RBlock, RQuery, Grouping}
+use Rattle.scope_core.specs.Syntax.{RVal, RCond, RBlock, RQuery, Grouping}
 use Rattle.sql_model.specs.Syntax.{AggFun, SetOp}
 use Rattle.scope_core.specs.Plain.{are_tree_equalities, are_tree_points, are_tree_tables, is_grouping, is_plain_tree, is_table, is_tree_equality, is_tree_point}
 use Rattle.scope_core.specs.Width.{count_values, width}

@@ -1,5 +1,5 @@
 -- Expressions that are their own conjuncts.
-use Rattle.std.proofs.Common.{◌≡◌, ℕ, Bool, List, Option, refl}
+use Rattle.std.proofs.Common.{ℕ, Bool, List, Option, refl}
 use Rattle.sql_model.specs.Syntax as n
 use Rattle.sql_model.specs.declared.tree.Expr.TheVariants as expr
 use Rattle.scope_core.specs.Compute.{resolving}

@@ -1,5 +1,5 @@
 -- The literals of a resolved tree are literals of its query.
-use Rattle.std.proofs.Common.{◌≡◌, ℕ, suc, ◌<◌, Bool, true, false, List, [], ◌∷◌, ◌++◌, map, length, Option, Some, None, option_map, unwrap_or, cond, refl, sym, subst}
+use Rattle.std.proofs.Common.{ℕ, suc, ◌<◌, Bool, true, false, List, [], ◌∷◌, ◌++◌, map, length, Option, Some, None, option_map, unwrap_or, cond}
 use Rattle.std.specs.Prelude.{find, if◌then◌else◌}
 use Rattle.data_model.specs.Lists.{Each}
 use Rattle.sql_model.specs.Syntax as n
@@ -10,9 +10,6 @@ use Rattle.sql_model.specs.Headings.{Heading, headings, source_columns}
 use Rattle.sql_model.specs.Relations.{Relation}
 use Rattle.sql_model.specs.declared.schema.Schema.{Schema}
 use Rattle.sql_model.specs.declared.schema.Relation.TheVariants as relation
-use Rattle.scope_core.specs.declared.heading.Known.{Known as LentKnown}
-use Rattle.scope_core.specs.declared.heading.Stored.{Stored}
-use Rattle.scope_core.specs.declared.heading.Stored.TheVariants as stored
 use Rattle.scope_core.specs.declared.tree.RBlock.{roll-RBlock}
 use Rattle.scope_core.specs.declared.tree.RCond.TheBlock as t
 use Rattle.scope_core.specs.declared.tree.RVal.TheVariants as v
@@ -22,7 +19,6 @@ use Rattle.scope_core.specs.declared.tree.RQuery.TheVariants as q
 use Rattle.scope_core.specs.Syntax.{RVal, RCond, RSource, RBlock, RQuery, Grouping}
 use Rattle.scope_core.specs.Scope.{Known, heading, Sight, AsRows, AsGroup, AsMember, Level, Levels, Place, place_at, column_at, column_from, rows_level, output_level, member_levels, on_level, no_entry, headings_here}
 use Rattle.scope_core.specs.Resolving.{grouping_of, source_named, entry_of, nothing, star, entry_columns, alias_star, conjunction, resolved_value, resolved_values, resolved_argument, only_block, conjuncts, conjuncts_of_each, resolved_conditions, conjuncts_written, resolved_having, resolved, resolved_block, resolved_entries, resolved_source, on_conjuncts, resolved_items, resolved_item}
-use Rattle.scope_core.specs.Lent.{relations_of, source_of}
 use Rattle.scope_core.specs.Literals.{QueryFits, BlockFits, EntriesFit, SourceFits, WrittenFits, ItemsFit, ItemFits, ExprFits, ExprsFit, ArgumentFits, RelationFits, SchemaFits, TreeFits, TreeBlockFits, TreeEntriesFit, TreeSourceFits, TreeConditionFits, TreeConditionsFit, TreeValueFits, TreeValuesFit}
 use Rattle.scope_core.specs.Relations.{known_with, trees_with, known_relations, view_trees, known_of, views_of, tree_of}
 use Rattle.scope_core.specs.Compute.{everything}

@@ -1,5 +1,5 @@
 -- What the code lends on its way through a query, as the definitions have it.
-use Rattle.std.specs.Prelude.{ℕ, nat_lt, Bool, false, not, List, [], ◌∷◌, map, Option, Some, None}
+use Rattle.std.specs.Prelude.{nat_lt, Bool, false, not, List, [], ◌∷◌, map, Option, Some, None}
 use Rattle.std.specs.List.{flat_map, list_any}
 use Rattle.scope_core.specs.declared.heading.Known.{Known as LentKnown}
 use Rattle.scope_core.specs.declared.heading.Stored.{Stored}
@@ -17,7 +17,7 @@ use Rattle.sql_model.specs.Columns.{is_called}
 use Rattle.sql_model.specs.Headings.{Heading, columns_of, headings, items_columns}
 use Rattle.sql_model.specs.Grouping.{items_have_aggregate, some_has_aggregate}
 use Rattle.scope_core.specs.Syntax.{RSource}
-use Rattle.scope_core.specs.Scope.{Known, heading, Sight, AsRows, AsGroup, AsMember, Level, Levels, Place, place_at}
+use Rattle.scope_core.specs.Scope.{Known, heading, Sight, AsRows, AsGroup, AsMember, Levels, Place, place_at}
 use Rattle.scope_core.specs.Faults.{count_called}
 use Rattle.scope_core.specs.declared.tree.RSource.TheVariants as s
 

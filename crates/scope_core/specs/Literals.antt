@@ -1,5 +1,5 @@
 -- Whether each literal of a query, of a schema or of a tree is one of the first `count` literals.
-use Rattle.std.specs.Prelude.{ℕ, ◌<◌, List}
+use Rattle.std.specs.Prelude.{ℕ, ◌<◌}
 use Rattle.data_model.specs.Lists.{Each}
 use Rattle.sql_model.specs.Syntax as n
 use Rattle.sql_model.specs.declared.schema.Schema.{Schema}

@@ -1,5 +1,4 @@
-use Rattle.std.proofs.Common.{◌≡◌, true, false, arith}
-use Rattle.scope_core.specs.Lent.{list_has_aggregate}
+use Rattle.std.proofs.Common.{arith}
 use Rattle.scope_core.proofs.Aggregates.{list_has-drop}
 use Rattle.scope_core.proofs.checks.+aggregates.Goals as goal
 

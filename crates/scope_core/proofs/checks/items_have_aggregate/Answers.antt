@@ -1,4 +1,4 @@
-use Rattle.std.proofs.Common.{◌≡◌, true, false, arith}
+use Rattle.std.proofs.Common.{arith}
 use Rattle.scope_core.proofs.Aggregates.{items_have-drop}
 use Rattle.scope_core.proofs.checks.items_have_aggregate.Goals as goal
 

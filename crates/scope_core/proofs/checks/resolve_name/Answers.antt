@@ -1,4 +1,4 @@
-use Rattle.std.proofs.Common.{◌≡◌, List, ◌∙◌}
+use Rattle.std.proofs.Common.{List, ◌∙◌}
 use Rattle.std.specs.Prelude.{find}
 use Rattle.sql_model.specs.Columns.{same_name}
 use Rattle.scope_core.specs.declared.heading.Known.{Known}

@@ -1,4 +1,4 @@
-use Rattle.std.proofs.Common.{◌≡◌, true, false, arith}
+use Rattle.std.proofs.Common.{arith}
 use Rattle.scope_core.proofs.GroupLaws.{conditions-drop, entries-drop, values-drop}
 use Rattle.scope_core.proofs.grouped.+groups.Goals as goal
 

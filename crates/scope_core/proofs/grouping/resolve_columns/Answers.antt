@@ -1,7 +1,7 @@
-use Rattle.std.proofs.Common.{◌≡◌, ◌++◌, ◌∷◌, [], ap, sym, ◌∙◌}
+use Rattle.std.proofs.Common.{◌++◌, ◌∷◌, [], ap, sym, ◌∙◌}
 use Rattle.scope_core.specs.Lent.{levels_of}
 use Rattle.scope_core.specs.Answer.{IsCause}
-use Rattle.scope_core.specs.Parts.{columns_fault, group_fault, places_listed}
+use Rattle.scope_core.specs.Parts.{columns_fault, places_listed}
 use Rattle.scope_core.specs.Resolving.{group_place}
 use Rattle.scope_core.specs.Scope.{rows_level}
 use Rattle.scope_core.proofs.Lists.{walk-step, walk-end}

@@ -1,4 +1,4 @@
-use Rattle.std.proofs.Common.{◌≡◌, ◌+◌, true, false, map, option_map, drop, ap, sym, ◌∙◌}
+use Rattle.std.proofs.Common.{◌+◌, map, option_map, drop, ap, sym, ◌∙◌}
 use Rattle.std.specs.Prelude.{◌||◌}
 use Rattle.std.proofs.lemmas.List.{take_rest}
 use Rattle.scope_core.specs.Faults.{is_repeated, name_twice}

@@ -1,5 +1,5 @@
-use Rattle.std.proofs.Common.{◌≡◌, ◌++◌, ◌∷◌, [], List, refl, arith, sym, ◌∙◌, drop, ap}
-use Rattle.sql_model.specs.Headings.{Heading, item_columns, source_columns}
+use Rattle.std.proofs.Common.{◌++◌, ◌∷◌, [], sym, ◌∙◌, ap}
+use Rattle.sql_model.specs.Headings.{item_columns, source_columns}
 use Rattle.scope_core.specs.Lent.{entries_headings, headings_of, list_columns}
 use Rattle.scope_core.proofs.Lists.{walk-step, walk-end}
 use Rattle.scope_core.proofs.Outputs.{block_columns-fields, list_columns-cons, list_columns-nil, entries_headings-cons, entries_headings-nil}

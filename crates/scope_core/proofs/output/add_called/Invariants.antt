@@ -1,4 +1,4 @@
-use Rattle.std.proofs.Common.{◌≡◌, ◌++◌, drop}
+use Rattle.std.proofs.Common.{◌≡◌, drop}
 use Rattle.sql_model.specs.Headings.{columns_of}
 use Rattle.scope_core.proofs.output.add_called.Given as goal
 
