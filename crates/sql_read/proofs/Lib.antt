@@ -18,6 +18,7 @@ pub mod ReadInInner
 pub mod Places
 pub mod ReadLoops
 pub mod ReadUnlimited
+pub mod RefusedNext
 pub mod ReadChains
 pub mod ReadLists
 pub mod ReadExprs

@@ -1,15 +1,12 @@
 -- How what a part has copied where it is refused is what the whole has copied there.
-use Rattle.std.proofs.Common.{◌≡◌, ℕ, ◌+◌, Bool, true, false, List, ◌∷◌, Option, Some, None, Result, Ok, Err, sym, ◌∙◌, ap, subst, if◌then◌else◌, map as map_list}
+use Rattle.std.proofs.Common.{◌≡◌, ℕ, ◌+◌, Bool, List, ◌∷◌, Some, None, Result, Ok, Err, sym, ◌∙◌, ap, subst}
 use Rattle.std.specs.Result.{IsErrAnd}
 use Rattle.std.proofs.lemmas.Result.{err_from_is_err_and}
 use Rattle.grammar.specs.Completions.{Continues}
 use Rattle.grammar.specs.Reading.{Took}
 use Rattle.grammar.specs.Form.{alt, map, nest, ref, seq, token}
 use Rattle.grammar.proofs.Completing as c
-use Rattle.sql_lex.specs.declared.token.LexFault.{LexFault}
-use Rattle.sql_lex.specs.Bytes.{folded_byte}
 use Rattle.sql_lex.specs.Lexemes.{Lexeme}
-use Rattle.sql_read.specs.declared.fault.LimitKind.{LimitKind}
 use Rattle.sql_read.specs.declared.fault.LimitKind.TheVariants as limit
 use Rattle.sql_read.specs.declared.fault.ReadFault.{ReadFault}
 use Rattle.sql_read.specs.declared.fault.ReadFault.TheVariants.{Lex, Unexpected, LeftOut, TooDeep, Limit, NoMemory}
@@ -23,11 +20,11 @@ use Rattle.sql_grammar.specs.PlanCopies.{copies_nothing}
 use Rattle.sql_grammar.specs.QueryGrammar.{Production, Read, The}
 use Rattle.sql_grammar.specs.QueryPlan.{plan}
 use Rattle.sql_read.specs.Reads.{of_form, Takes}
-use Rattle.sql_read.specs.Refusals.{is_left_out_word, refusal_of}
 use Rattle.sql_grammar.proofs.QueryFillings.{Filled}
 use Rattle.sql_grammar.proofs.CopySteps.{plan_filled}
 use Rattle.sql_grammar.proofs.QueryTable.{planned}
 use Rattle.sql_read.proofs.ReadSteps.{took_token}
+use Rattle.sql_read.proofs.RefusedNext.{no_limit}
 
 -- f goes on here in a text of N that began at the start: what completes f here completes N from the start
 pub record Going {C A : Type 0} (f : The C) (here : List Lexeme) (N : The A) (start : List Lexeme) (h : C → A) : Type 0 where
@@ -140,17 +137,8 @@ copied_of (Limit limit.Relations) o s = absurd o.other
 copied_of NoMemory o s = record { says = tt }
 
 -- what stands next is refused, and that is no limit
-at_token : (what : LimitKind) (left_out : Bool) (t : Lexeme) → Limit what ≡ (if left_out then LeftOut (map_list folded_byte t.text) t.start else Unexpected t.start) → ⊥
-at_token what true t e = cc
-at_token what false t e = cc
-
-no_limit : (what : LimitKind) (end : ℕ) (next : Result (Option Lexeme) LexFault) → Limit what ≡ refusal_of end next → ⊥
-no_limit what end (Ok None) e = cc
-no_limit what end (Ok (Some t)) e = at_token what (is_left_out_word t.kind t.text) t e
-no_limit what end (Err fault) e = cc
-
 missed_no_limit : (fault : ReadFault) (b : Cursor) → Refusing b fault → IsOther fault
-missed_no_limit (Limit what) b n = absurd (no_limit what b.end (next_of b) (n (λ z. cc)))
+missed_no_limit (Limit what) b n = absurd (no_limit b.end what (next_of b) (n (λ z. cc)))
 missed_no_limit (Lex fault) b n = record { other = tt }
 missed_no_limit (Unexpected at) b n = record { other = tt }
 missed_no_limit (LeftOut word at) b n = record { other = tt }

@@ -2,7 +2,6 @@
 use Rattle.std.proofs.Common.{◌≡◌, ℕ, zero, suc, ◌+◌, ◌==◌, Bool, true, false, not, ◌&&◌, ◌||◌, List, [], ◌∷◌, ◌++◌, length, length-append, ◌⊎◌, inl, inr, Some, None, Result, Ok, Err, if◌then◌else◌, refl, sym, ◌∙◌, ap, subst, append_assoc, arith}
 use Rattle.std.specs.Result.{IsErrAnd}
 use Rattle.std.proofs.lemmas.Bool.{eqb-true}
-use Rattle.std.proofs.lemmas.List.{append_cancel_right}
 use Rattle.std.proofs.lemmas.Result.{err_from_is_err_and}
 use Rattle.grammar.specs.Form.{ref}
 use Rattle.grammar.specs.Language.{Language, no_language}
@@ -40,7 +39,7 @@ use Rattle.sql_grammar.proofs.QueryTable.{planned}
 use Rattle.sql_read.proofs.ReadEntryLists.{comma_entry, list_begins, entry_read, join_halts, join_read, joins, list_ended}
 use Rattle.sql_read.proofs.ReadEntries.{join_begins, join_kinds}
 use Rattle.sql_read.proofs.ReadLoops.{IsFirst, first_there}
-use Rattle.sql_read.proofs.ReadSteps.{Halts, absent_where, deep_within, fewer_within}
+use Rattle.sql_read.proofs.ReadSteps.{Halts, absent_where, deep_within, fewer_within, same_taken}
 
 -- ---- what may begin an entry
 
@@ -310,9 +309,6 @@ begun_froms ts f = f
 froms_begun : (ts : List Lexeme) → few.front ts → (few_form few_list).front ts
 unfolding few_form
 froms_begun ts f = f
-
-same_taken : (start rest x y : List Lexeme) → start ≡ x ++ rest → start ≡ y ++ rest → x ≡ y
-same_taken start rest x y e i = append_cancel_right x y rest (sym e ∙ i)
 
 -- one value is read
 same_read : (ts : List Lexeme) (v : Froms) (w : Built Listed × List Further) → (of_form None froms).spells ts v → (few_form few_list).spells ts w → v ≡ items_of w

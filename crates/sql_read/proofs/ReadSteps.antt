@@ -1,7 +1,8 @@
 -- The steps of the reader: what its calls for single tokens and for parts do, as steps through the form that is read.
-use Rattle.std.proofs.Common.{◌≡◌, ◌≢◌, ℕ, zero, suc, ◌+◌, ◌-◌, ◌<◌, Bool, true, false, not, ◌&&◌, ◌||◌, List, [], ◌∷◌, inr, Option, Some, None, Result, Ok, Err, refl, sym, ◌∙◌, ap, subst, arith, if◌then◌else◌, map as map_list}
+use Rattle.std.proofs.Common.{◌≡◌, ◌≢◌, ℕ, zero, suc, ◌+◌, ◌-◌, ◌<◌, Bool, true, false, not, ◌&&◌, ◌||◌, List, [], ◌∷◌, ◌++◌, inr, Option, Some, None, Result, refl, sym, ◌∙◌, ap, subst, arith}
 use Rattle.std.specs.List.{list_all}
 use Rattle.std.specs.Result.{IsErrAnd}
+use Rattle.std.proofs.lemmas.List.{append_cancel_right}
 use Rattle.std.proofs.lemmas.Result.{err_from_is_err_and}
 use Rattle.grammar.specs.Form.{empty, language, token, seq, alt, nest, map, ref}
 use Rattle.grammar.specs.Language.{Language, seq_language, token_language}
@@ -15,7 +16,6 @@ use Rattle.grammar.proofs.Predictions.{ok, ahead, bounded_within, produced, with
 use Rattle.grammar.proofs.Remaining as r
 use Rattle.grammar.proofs.Sets.{and_left, and_right, and_both}
 use Rattle.grammar.proofs.Steps.{IsWithin, Same, empty_took, token_took, token_ended, token_failed}
-use Rattle.sql_lex.specs.declared.token.LexFault.{LexFault}
 use Rattle.sql_lex.specs.Lexemes.{Lexeme}
 use Rattle.sql_read.specs.declared.fault.ReadFault.{ReadFault}
 use Rattle.sql_read.specs.declared.fault.ReadFault.TheVariants.{Lex, Unexpected, LeftOut, TooDeep, Limit, NoMemory}
@@ -30,12 +30,12 @@ use Rattle.sql_grammar.specs.QueryGrammar.{Production, Read, The}
 use Rattle.sql_grammar.specs.QueryEntries.{most_further}
 use Rattle.sql_grammar.specs.QueryPlan.{few_plan, of_plan, plan}
 use Rattle.sql_read.specs.Reads.{Told, entries_too, TellsEntries, of_form, few_form, Builds, TakesWithin, GivesWithin, Fills, Says, SaysLimit, RefusesWithin, ReadsWithin}
-use Rattle.sql_lex.specs.Bytes.{folded_byte}
-use Rattle.sql_read.specs.Refusals.{is_left_out_word, refusal, refusal_of}
+use Rattle.sql_read.specs.Refusals.{refusal}
 use Rattle.sql_grammar.proofs.EveryKind.{every_kind_is_there}
 use Rattle.sql_grammar.proofs.FewPlan.{few_within}
 use Rattle.sql_grammar.proofs.QueryTable.{planned}
 use Rattle.sql_grammar.proofs.QueryWords.{Below, itself}
+use Rattle.sql_read.proofs.RefusedNext.{no_limit, not_too_deep}
 
 abbrev pub FailedForm : {C : Type 0} → The C → ℕ → List Lexeme → List Lexeme → Type 0
 FailedForm f d here rest = Failed (of_form None f) (of_form (Some d) f) here rest
@@ -68,6 +68,10 @@ pub record BlocksOf {C A : Type 0} (told : Told) (f : The C) (B : Language Lexem
 
 abbrev pub Blocks : {C A : Type 0} → The C → ℕ → List Lexeme → The A → ℕ → List Lexeme → Type 0
 Blocks f d here N e start = BlocksOf entries_too f (few_form f) d here N (few_form N) e start
+
+-- what stands before one rest is one list
+pub same_taken : (start rest x y : List Lexeme) → start ≡ x ++ rest → start ≡ y ++ rest → x ≡ y
+same_taken start rest x y e i = append_cancel_right x y rest (sym e ∙ i)
 
 -- ---- languages within the plan's
 
@@ -269,26 +273,6 @@ module _ {A : Type 0} {told : Told} {N : The A} {NB : Language Lexeme A} {e : �
 
 -- ---- refusals
 
--- what stands next is never too deep
-at_token : (left_out : Bool) (t : Lexeme) (at : ℕ) → TooDeep at ≡ (if left_out then LeftOut (map_list folded_byte t.text) t.start else Unexpected t.start) → ⊥
-at_token true t at e = cc
-at_token false t at e = cc
-
-not_too_deep : (end at : ℕ) (next : Result (Option Lexeme) LexFault) → TooDeep at ≡ refusal_of end next → ⊥
-not_too_deep end at (Ok None) e = cc
-not_too_deep end at (Ok (Some t)) e = at_token (is_left_out_word t.kind t.text) t at e
-not_too_deep end at (Err fault) e = cc
-
--- nor does it pass a limit on counts
-no_limit_at : (left_out : Bool) (t : Lexeme) (what : LimitKind) → Limit what ≡ (if left_out then LeftOut (map_list folded_byte t.text) t.start else Unexpected t.start) → ⊥
-no_limit_at true t what e = cc
-no_limit_at false t what e = cc
-
-not_a_limit : (end : ℕ) (what : LimitKind) (next : Result (Option Lexeme) LexFault) → Limit what ≡ refusal_of end next → ⊥
-not_a_limit end what (Ok None) e = cc
-not_a_limit end what (Ok (Some t)) e = no_limit_at (is_left_out_word t.kind t.text) t what e
-not_a_limit end what (Err fault) e = cc
-
 -- a fault that is neither a limit nor want of memory
 module _ {C : Type 0} (told : Told) (f : The C) (B : Language Lexeme C) (d : ℕ) (a b : Cursor) where
   pub fails : (fault : ReadFault) → FailedForm f d a.tokens b.tokens → (TellsEntries told → Failed (of_form None f) B a.tokens b.tokens) → (fault ≢ NoMemory → fault ≡ refusal b)
@@ -297,7 +281,7 @@ module _ {C : Type 0} (told : Told) (f : The C) (B : Language Lexeme C) (d : ℕ
   fails (Unexpected at) t u n = record { failed = t; few = u; refused = n (λ z. cc) }
   fails (LeftOut word at) t u n = record { failed = t; few = u; refused = n (λ z. cc) }
   fails (TooDeep at) t u n = absurd (not_too_deep b.end at (next_of b) (n (λ z. cc)))
-  fails (Limit what) t u n = absurd (not_a_limit b.end what (next_of b) (n (λ z. cc)))
+  fails (Limit what) t u n = absurd (no_limit b.end what (next_of b) (n (λ z. cc)))
   fails NoMemory t u n = tt
 
 none_there : (p : Kind → Bool) (ts : List Lexeme) → is_next p ts ≡ false → Failed (token_language kind_of p) (token_language kind_of p) ts ts

@@ -1,6 +1,6 @@
 -- What the function for queries reads is read of the grammar.
-use Rattle.std.proofs.Common.{◌≡◌, ℕ, List, [], ◌∷◌, ◌++◌, Some, None, refl, sym, ◌∙◌, ap, subst, append_assoc, arith, ◌≤◌}
-use Rattle.std.proofs.lemmas.List.{append_cancel_right}
+use Rattle.std.proofs.Common.{◌≡◌, ℕ, List, [], ◌∷◌, ◌++◌, length, length-append, Some, None, Result, Ok, Err, sym, ◌∙◌, ap, subst, append_assoc, arith, ◌≤◌}
+use Rattle.std.specs.Prelude.{IfErr, IfOk, OnOk}
 use Rattle.grammar.specs.Completions.{Reaches}
 use Rattle.grammar.specs.Form.{ref, language}
 use Rattle.grammar.specs.Reading.{Exceeded, Passes}
@@ -15,7 +15,7 @@ use Rattle.sql_read.specs.declared.fault.ReadFault.TheVariants.{Lex, Unexpected,
 use Rattle.sql_read.specs.declared.fault.LimitKind.{LimitKind}
 use Rattle.sql_read.specs.Cursor.{Cursor, next}
 use Rattle.sql_grammar.specs.QueryCopies.{most_copies}
-use Rattle.sql_read.specs.Copied.{CopiedToFault, CopiesSoFar, CopiesTooMuch}
+use Rattle.sql_read.specs.Copied.{Copied, CopiedToFault, CopiesSoFar, CopiesTooMuch}
 use Rattle.sql_read.specs.Eating.{Extends, IsNextAt}
 use Rattle.sql_grammar.specs.Kinds.{kind_of}
 use Rattle.sql_grammar.specs.Numbering.{Built}
@@ -24,13 +24,14 @@ use Rattle.sql_grammar.specs.PlanCopies.{copies_nothing}
 use Rattle.sql_grammar.specs.QueryGrammar.{query, rules}
 use Rattle.sql_grammar.specs.QueryPlan.{plan}
 use Rattle.sql_grammar.specs.QueryEntries.{few_queries, most_further}
-use Rattle.sql_read.specs.ReadingQueries.{IsAtEnd, IsLimited, IsRead, IsRefused, IsUnfinished, Keeps, PassesLimits, CopiesWithin, PassesCopies}
-use Rattle.sql_read.specs.Reads.{entries_too, few_form, of_form, Fails, Exceeds, Gives, Refuses, SaysLimit, Spends}
+use Rattle.sql_read.specs.ReadingQueries.{IsLimited, IsRead, IsRefused, IsUnfinished, PassesDepth, CopiesWithin, PassesCopies}
+use Rattle.sql_read.specs.Reads.{entries_too, few_form, of_form, Fails, Exceeds, Gives, Reads, Refuses, SaysLimit, Spends}
 use Rattle.sql_read.specs.Refusals.{refusal_of}
 use Rattle.sql_grammar.proofs.FewPlan.{few_plan_includes, few_rules_include}
 use Rattle.sql_grammar.proofs.CopyLimits.{reached_copies, too_many_here}
 use Rattle.sql_grammar.proofs.PlanKnown.{grammar_includes}
 use Rattle.sql_grammar.proofs.QueryKnown.{plan_includes}
+use Rattle.sql_read.proofs.ReadSteps.{same_taken}
 
 free_same : Same (language kind_of plan None query) queries
 free_same = record { there = grammar_includes None query; back = plan_includes None query }
@@ -55,11 +56,8 @@ is_shallow : (taken : List Lexeme) → shallow_queries.front taken → IsShallow
 is_shallow taken s x y t e d =
     let f = name_fronts kind_of rules (Some most_levels) query in d.too_deep (f.shorter (x ++ t ∷ []) y (subst shallow_queries.front (e ∙ sym (append_assoc x (t ∷ []) y)) s))
 
-same_taken : (start rest x y : List Lexeme) → start ≡ x ++ rest → start ≡ y ++ rest → x ≡ y
-same_taken start rest x y e i = append_cancel_right x y rest (sym e ∙ i)
-
-pub read_whole : {before after : Cursor} {q : Query} → Gives (ref query) most_levels (λ read. read) before before q after → Extends before after → IsRead before q after
-read_whole {before} {after} g x =
+pub read_whole : {before after : Cursor} {q : Query} → Gives (ref query) most_levels (λ read. read) before before q after → Extends before after → after.copies ≤ most_copies → IsRead before q after
+read_whole {before} {after} g x most =
     let t = took_in _ _ _ _ free_same shallow_same before.tokens g.read after.tokens g.takes.took in
     let few = g.takes.few tt in
     record {
@@ -70,8 +68,10 @@ read_whole {before} {after} g x =
       spelled = (name_grows kind_of rules (Some most_levels) None tt query).spells t.taken g.read t.spelled;
       built = g.builds.numbers;
       copied = g.builds.copies;
+      passed = omega (arith, x.counted, ap length t.whole, length-append t.taken after.tokens);
       shallow = is_shallow t.taken ((name_fronts kind_of rules (Some most_levels) query).spelled t.taken g.read t.spelled);
       few = subst (λ z. few_queries.spells z g.read) (same_taken before.tokens after.tokens few.taken t.taken few.whole t.whole) (few_spelled few.taken g.read few.spelled);
+      few_copies = most;
       fault = x.fault;
       end = x.end;
     }
@@ -123,7 +123,7 @@ unfinished {before} {after} r x c l =
     }
 
 passes : (before : Cursor) (taken rest : List Lexeme) (at : ℕ) → before.tokens ≡ taken ++ rest → shallow_queries.front taken → Passes queries shallow_queries taken rest → few_queries.front taken
-    → CopiesWithin before taken → IsNextAt at rest → PassesLimits before at
+    → CopiesWithin before taken → IsNextAt at rest → PassesDepth before at
 passes before taken [] at e f p i c n = absurd p
 passes before taken (t ∷ rest) at e f p i c n = record {
   taken = taken;
@@ -136,7 +136,7 @@ passes before taken (t ∷ rest) at e f p i c n = record {
   place = n;
 }
 
-passed : {before after : Cursor} {at : ℕ} → Exceeds entries_too (ref query) (few_form (ref query)) most_levels before at after → SoFar before after → after.copies ≤ most_copies → PassesLimits before at
+passed : {before after : Cursor} {at : ℕ} → Exceeds entries_too (ref query) (few_form (ref query)) most_levels before at after → SoFar before after → after.copies ≤ most_copies → PassesDepth before at
 passed {before} {after} {at} r c l =
     let t = exceeded_in _ _ _ _ free_same shallow_same before.tokens after.tokens r.exceeded in
     let few = r.few tt in
@@ -180,15 +180,22 @@ refused_whole {fault = TooDeep at} r c x l = passed r.says c.says l
 refused_whole {before} {after} {fault = Limit what} r c x l = limited before after what r.says c l
 refused_whole {fault = NoMemory} r c x l = tt
 
-pub keeps : {before after : Cursor} → Extends before after → Keeps before after
-keeps x = record { literals = x.literals; symbols = x.symbols; copies = x.copies }
+-- ---- what is handed on
 
--- the cursor at the end of the text
-abbrev pub stopped_at : Cursor → Cursor
-stopped_at cursor = record cursor { tokens = []; fault = None }
+-- what is handed on is what was read of a query, with all that was copied within the limit
+module _ {before after : Cursor} {read handed : Result Query ReadFault} (same : handed ≡ read) (r : Reads (ref query) most_levels (λ read. read) before before read after) (x : Extends before after)
+    (most : after.copies ≤ most_copies) where
+  pub query_read : (end : Cursor) → OnOk handed (end ≡ after) → IfOk handed (λ q. IsRead before q end)
+  query_read end still = by handed (subst (λ z. Reads (ref query) most_levels (λ read. read) before before z after) (sym same) r) still
+    where
+      by : (result : Result Query ReadFault) → Reads (ref query) most_levels (λ read. read) before before result after → OnOk result (end ≡ after) → IfOk result (λ q. IsRead before q end)
+      by (Ok q) r still = subst (λ z. IsRead before q z) (sym still) (read_whole r.answers x most)
+      by (Err fault) r still = tt
 
-pub at_end : {before after end : Cursor} → end ≡ stopped_at after → Extends before after → IsAtEnd before end
-at_end {before} {after} e x = subst (λ z. IsAtEnd before z) (sym e) (record { tokens = refl; fault = refl; end = x.end })
-
-pub keeps_to_end : {before after end : Cursor} → end ≡ stopped_at after → Extends before after → Keeps before end
-keeps_to_end {before} {after} e x = subst (λ z. Keeps before z) (sym e) (record { literals = x.literals; symbols = x.symbols; copies = x.copies })
+  pub query_refused : Copied (ref query) (λ read. read) before before read after → IfErr handed (λ fault. IsRefused before fault)
+  query_refused c = subst (λ z. IfErr z (λ fault. IsRefused before fault)) (sym same) (by read r c)
+    where
+      by : (result : Result Query ReadFault) → Reads (ref query) most_levels (λ read. read) before before result after → Copied (ref query) (λ read. read) before before result after
+          → IfErr result (λ fault. IsRefused before fault)
+      by (Ok q) r c = tt
+      by (Err fault) r c = refused_whole r.answers c.answers x most

@@ -1,5 +1,5 @@
 -- What `read_query` does with the tokens that are still to come.
-use Rattle.std.specs.Prelude.{ℕ, ◌+◌, ◌≡◌, ◌≤◌, List, [], ◌∷◌, ◌++◌, None}
+use Rattle.std.specs.Prelude.{ℕ, ◌+◌, ◌≡◌, ◌≤◌, List, [], ◌∷◌, ◌++◌, length, None}
 use Rattle.grammar.specs.Reading.{IsLongestFront}
 use Rattle.sql_lex.specs.Lexemes.{Lexeme}
 use Rattle.sql_model.specs.declared.tree.Query.{Query}
@@ -24,9 +24,11 @@ pub record IsRead (before : Cursor) (q : Query) (after : Cursor) : Type 0 where
   pub spelled : queries.spells taken read
   pub built : read.build before.numbers ≡ (q, after.numbers)
   pub copied : after.copies ≡ before.copies + read.copies
+  pub passed : after.passed ≡ before.passed + length taken
+  -- no limit was passed
   pub shallow : IsShallow taken
-  -- no block has too many entries
   pub few : few_queries.spells taken read
+  pub few_copies : after.copies ≤ most_copies
   pub fault : after.fault ≡ before.fault
   pub end : after.end ≡ before.end
 
@@ -49,8 +51,8 @@ pub record IsUnfinished (before : Cursor) (fault : ReadFault) : Type 0 where
   pub copied : CopiesWithin before taken
   pub refused : fault ≡ refusal_of before.end (next rest before.fault)
 
--- behind tokens that begin a query within the limits the token at this place passes them
-pub record PassesLimits (before : Cursor) (at : ℕ) : Type 0 where
+-- behind tokens that begin a query within the limits the token at this place opens too many levels, or makes a chain too long
+pub record PassesDepth (before : Cursor) (at : ℕ) : Type 0 where
   pub taken : List Lexeme
   pub token : Lexeme
   pub rest : List Lexeme
@@ -93,7 +95,7 @@ abbrev pub IsRefused : Cursor → ReadFault → Type 0
 IsRefused before (Lex fault) = IsUnfinished before (Lex fault)
 IsRefused before (Unexpected at) = IsUnfinished before (Unexpected at)
 IsRefused before (LeftOut word at) = IsUnfinished before (LeftOut word at)
-IsRefused before (TooDeep at) = PassesLimits before at
+IsRefused before (TooDeep at) = PassesDepth before at
 IsRefused before (Limit what) = IsLimited before what
 IsRefused before NoMemory = Unit {0}
 
@@ -103,8 +105,9 @@ pub record IsAtEnd (before after : Cursor) : Type 0 where
   pub fault : after.fault ≡ None
   pub end : after.end ≡ before.end
 
--- what had a number has it still, and no copy was forgotten
+-- what had a number has it still, and no copy and no token was forgotten
 pub record Keeps (before after : Cursor) : Type 0 where
   pub literals : GoesOn before.numbers.literals after.numbers.literals
   pub symbols : GoesOn before.numbers.symbols after.numbers.symbols
   pub copies : before.copies ≤ after.copies
+  pub passed : before.passed ≤ after.passed

@@ -33,7 +33,7 @@ const MOST_SEPARATORS: u8 = 255;
 /// Levels that may be open at once.
 const MOST_LEVELS: u8 = 64;
 
-/// Reads the longest query that begins at the next token. A lexical fault that follows a whole query is left to the next call.
+/// Reads the longest list of tokens that begins a query. A lexical fault that follows a whole query is left to the next call.
 /// After a refusal the tokens stand at the end of the text.
 pub fn read_query(alloc: Global, tokens: &mut Tokens<'_>) -> Result<Query, ReadFault>
     ensures read { IfOk result (λ query. IsRead tokens.old query tokens.new) }
@@ -41,13 +41,8 @@ pub fn read_query(alloc: Global, tokens: &mut Tokens<'_>) -> Result<Query, ReadF
     ensures stopped { OnErr result (IsAtEnd tokens.old tokens.new) }
     ensures keeps { Keeps tokens.old tokens.new }
 {
-    match query(alloc, tokens, MOST_LEVELS) {
-        Ok(query) => Ok(query),
-        Err(fault) => {
-            tokens.stop();
-            Err(fault)
-        }
-    }
+    let read = query(alloc, tokens, MOST_LEVELS);
+    tokens.stop_on_fault(read)
 }
 
 /// Reads the query of a view, where so many levels may be opened. After a refusal the tokens stand where it came.

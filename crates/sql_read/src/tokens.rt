@@ -1,5 +1,5 @@
 //! The tokens of a text, with what has been numbered and counted on the way.
-ghost use Rattle.std.specs.Prelude.{◌≡◌, ◌≢◌, ◌≤◌, ◌<◌, ◌^◌, [], drop, length, IfOk, IfSome, None};
+ghost use Rattle.std.specs.Prelude.{◌≡◌, ◌≢◌, ◌≤◌, ◌<◌, ◌+◌, ◌^◌, [], drop, length, IfOk, IfSome, None, OnErr, OnOk};
 ghost use Rattle.sql_lex.specs.Lexemes.{lexeme_of};
 ghost use Rattle.sql_read.specs.Refusals.{IsLeftOut, refusal_at};
 
@@ -15,7 +15,7 @@ mod eating;
 #[cfg(test)]
 mod tests;
 
-pub use counting::Mark;
+pub(crate) use counting::Mark;
 pub use eating::place;
 
 /// The tokens of a text that are still to come, the numbers of its symbols and literals, the weight of the values that were
@@ -50,7 +50,7 @@ impl<'a> Model for Tokens<'a> {
 
 impl<'a> Tokens<'a> {
     ghost use Rattle.sql_lex.specs.Tokens.{Lexes};
-    ghost use Rattle.sql_read.specs.Cursor.{behind_next, lent, next_of, numbers_of};
+    ghost use Rattle.sql_read.specs.Cursor.{behind_next, lent, most_tokens, next_of, numbers_of};
     ghost use Rattle.sql_grammar.specs.QueryCopies.{most_copies};
     ghost use Rattle.sql_grammar.specs.Numbering.{first_numbers};
     ghost use Rattle.sql_read.specs.Refusals.{refusal};
@@ -98,12 +98,26 @@ impl<'a> Tokens<'a> {
         self.passed += 1;
     }
 
-    /// Passes all that is left, so that nothing stands next. No more was copied than may be.
+    /// Passes all that is left, so that nothing stands next.
     pub fn stop(&mut self)
-        ensures stopped { self.new ≡ record self.old { tokens = []; fault = None } }
-        ensures within { self.old.copies ≤ most_copies }
+        ensures { self.new ≡ record self.old { tokens = []; fault = None } }
     {
         self.next = None;
+    }
+
+    /// Hands on what was read; where it was refused, nothing is left. No more was copied than may be, and the text had no more
+    /// tokens than bytes.
+    pub fn stop_on_fault<T>(&mut self, read: Result<T, ReadFault>) -> Result<T, ReadFault>
+        ensures same { result ≡ read }
+        ensures still { OnOk result (self.new ≡ self.old) }
+        ensures stopped { OnErr result (self.new ≡ record self.old { tokens = []; fault = None }) }
+        ensures within { self.old.copies ≤ most_copies }
+        ensures counted { self.old.passed + length self.old.tokens ≤ most_tokens }
+    {
+        if read.is_err() {
+            self.next = None;
+        }
+        read
     }
 
     /// Hands on the symbols and literals numbered so far. No more was copied than may be.

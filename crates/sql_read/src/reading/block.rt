@@ -23,6 +23,7 @@ use sql_grammar::Kind;
 use sql_model::{Block, Expr, Item, Query};
 use std::alloc::Global;
 
+/// `SELECT [DISTINCT] items FROM entries [WHERE expr] [GROUP BY columns] [HAVING expr]`
 #[cycle(read)]
 pub fn block(alloc: Global, tokens: &mut Tokens<'_>, levels: u8) -> Result<Query, ReadFault>
     ensures reads { Reads (ref grammar.block) levels (λ read. read) tokens.old tokens.old result tokens.new }
@@ -50,6 +51,7 @@ pub fn block(alloc: Global, tokens: &mut Tokens<'_>, levels: u8) -> Result<Query
     })
 }
 
+/// `item {, item}`
 #[cycle(read)]
 fn items(alloc: Global, tokens: &mut Tokens<'_>, levels: u8) -> Result<List<Item>, ReadFault>
     ensures reads { Reads (listed (ref grammar.item)) levels (λ items. each (all_of items)) tokens.old tokens.old result tokens.new }

@@ -21,6 +21,7 @@ use sql_grammar::kinds::{Kind, kind_of};
 use sql_model::Expr;
 use std::alloc::Global;
 
+/// `conj {OR conj}`
 #[cycle(read)]
 pub fn expr(alloc: Global, tokens: &mut Tokens<'_>, levels: u8) -> Result<Expr, ReadFault>
     ensures reads { Reads (ref grammar.expr) levels (λ read. read) tokens.old tokens.old result tokens.new }
@@ -31,6 +32,7 @@ pub fn expr(alloc: Global, tokens: &mut Tokens<'_>, levels: u8) -> Result<Expr, 
     ors(alloc, tokens, levels, first)
 }
 
+/// `neg {AND neg}`
 #[cycle(read)]
 fn conj(alloc: Global, tokens: &mut Tokens<'_>, levels: u8) -> Result<Expr, ReadFault>
     ensures reads { Reads (ref grammar.conj) levels (λ read. read) tokens.old tokens.old result tokens.new }
@@ -41,6 +43,7 @@ fn conj(alloc: Global, tokens: &mut Tokens<'_>, levels: u8) -> Result<Expr, Read
     ands(alloc, tokens, levels, first)
 }
 
+/// `NOT neg`, or a test.
 #[cycle(read)]
 pub fn neg(alloc: Global, tokens: &mut Tokens<'_>, levels: u8) -> Result<Expr, ReadFault>
     ensures reads { Reads (ref grammar.neg) levels (λ read. read) tokens.old tokens.old result tokens.new }
@@ -56,6 +59,7 @@ pub fn neg(alloc: Global, tokens: &mut Tokens<'_>, levels: u8) -> Result<Expr, R
     }
 }
 
+/// `term {(+ | - | ||) term}`
 #[cycle(read)]
 pub fn value(alloc: Global, tokens: &mut Tokens<'_>, levels: u8) -> Result<Expr, ReadFault>
     ensures reads { Reads (ref grammar.value) levels (λ read. read) tokens.old tokens.old result tokens.new }
@@ -66,6 +70,7 @@ pub fn value(alloc: Global, tokens: &mut Tokens<'_>, levels: u8) -> Result<Expr,
     sums(alloc, tokens, levels, first)
 }
 
+/// `unary {(* | /) unary}`
 #[cycle(read)]
 fn term(alloc: Global, tokens: &mut Tokens<'_>, levels: u8) -> Result<Expr, ReadFault>
     ensures reads { Reads (ref grammar.term) levels (λ read. read) tokens.old tokens.old result tokens.new }
@@ -76,6 +81,7 @@ fn term(alloc: Global, tokens: &mut Tokens<'_>, levels: u8) -> Result<Expr, Read
     products(alloc, tokens, levels, first)
 }
 
+/// `- unary`, or a primary expression.
 #[cycle(read)]
 fn unary(alloc: Global, tokens: &mut Tokens<'_>, levels: u8) -> Result<Expr, ReadFault>
     ensures reads { Reads (ref grammar.unary) levels (λ read. read) tokens.old tokens.old result tokens.new }

@@ -53,6 +53,7 @@ pub enum Starred {
     First(Expr),
 }
 
+/// `*`, `name.*`, or an expression with or without an alias.
 #[cycle(read)]
 pub fn item(alloc: Global, tokens: &mut Tokens<'_>, levels: u8) -> Result<Item, ReadFault>
     ensures reads { Reads (ref grammar.item) levels (λ read. read) tokens.old tokens.old result tokens.new }

@@ -48,6 +48,7 @@ const EXPR_KINDS: [Kind; 16] = [
     Kind::Minus,
 ];
 
+/// A literal, a column, a call, or what stands in parentheses.
 #[cycle(read)]
 pub fn primary(alloc: Global, tokens: &mut Tokens<'_>, levels: u8) -> Result<Expr, ReadFault>
     ensures reads { Reads (ref grammar.primary) levels (λ read. read) tokens.old tokens.old result tokens.new }

@@ -21,6 +21,7 @@ use sql_grammar::Kind;
 use sql_model::{Query, SetOp};
 use std::alloc::Global;
 
+/// `part {(UNION [ALL] | EXCEPT) part}`
 #[cycle(read)]
 pub fn query(alloc: Global, tokens: &mut Tokens<'_>, levels: u8) -> Result<Query, ReadFault>
     ensures reads { Reads (ref grammar.query) levels (λ read. read) tokens.old tokens.old result tokens.new }
@@ -31,6 +32,7 @@ pub fn query(alloc: Global, tokens: &mut Tokens<'_>, levels: u8) -> Result<Query
     unions(alloc, tokens, levels, first)
 }
 
+/// `operand {INTERSECT operand}`
 #[cycle(read)]
 fn part(alloc: Global, tokens: &mut Tokens<'_>, levels: u8) -> Result<Query, ReadFault>
     ensures reads { Reads (ref grammar.part) levels (λ read. read) tokens.old tokens.old result tokens.new }
@@ -41,6 +43,7 @@ fn part(alloc: Global, tokens: &mut Tokens<'_>, levels: u8) -> Result<Query, Rea
     intersects(alloc, tokens, levels, first)
 }
 
+/// `( query )`, or a block.
 #[cycle(read)]
 fn operand(alloc: Global, tokens: &mut Tokens<'_>, levels: u8) -> Result<Query, ReadFault>
     ensures reads { Reads (ref grammar.operand) levels (λ read. read) tokens.old tokens.old result tokens.new }

@@ -62,6 +62,7 @@ pub struct Sought {
     pub in_at: u32,
 }
 
+/// `EXISTS ( query )`, or a value, with or without a test of it.
 #[cycle(read)]
 pub fn test(alloc: Global, tokens: &mut Tokens<'_>, levels: u8) -> Result<Expr, ReadFault>
     ensures reads { Reads (ref grammar.test) levels (λ read. read) tokens.old tokens.old result tokens.new }

@@ -3,6 +3,7 @@ mod limits;
 mod shapes;
 
 use crate::{LimitKind, ReadFault, Tokens, read_query};
+use sql_lex::{LexCode, LexFault};
 use sql_model::NoMemory;
 use std::alloc::Global;
 use std::process::Abort;
@@ -26,9 +27,18 @@ fn told_end(alloc: Global, tokens: &Tokens<'_>) -> Result<String, NoMemory> {
 
 fn told_fault(alloc: Global, fault: &ReadFault) -> Result<String, NoMemory> {
     match fault {
+        ReadFault::Lex(
+            LexFault {
+                code: LexCode::OpenString,
+                at,
+            },
+        ) => format!(in alloc; "open string at {at}"),
         ReadFault::Lex(fault) => format!(in alloc; "lexical at {}", fault.at),
         ReadFault::Unexpected { at } => format!(in alloc; "unexpected at {at}"),
-        ReadFault::LeftOut { at, .. } => format!(in alloc; "left out at {at}"),
+        ReadFault::LeftOut { word, at } => {
+            let word = str::from_utf8(word.as_bytes()).unwrap_or("?");
+            format!(in alloc; "left out {word} at {at}")
+        }
         ReadFault::TooDeep { at } => format!(in alloc; "too deep at {at}"),
         ReadFault::Limit {
             what: LimitKind::Entries,
@@ -48,7 +58,7 @@ fn told(rt: &impl Abort, alloc: Global, text: &str) -> Result<String, NoMemory> 
 }
 
 /// Texts, and what becomes of them.
-const TEXTS: [(&str, &str); 56] = [
+const TEXTS: [(&str, &str); 61] = [
     ("SELECT * FROM r", "read"),
     ("SELECT *, x.* FROM r x", "read"),
     (
@@ -76,13 +86,18 @@ const TEXTS: [(&str, &str); 56] = [
     ("SELECT a FROM r WHERE a = b = c", "read up to 28"),
     ("SELECT a FROM r WHERE a IS NULL", "read up to 24"),
     ("SELECT a FROM r LEFT JOIN s", "read up to 16"),
+    ("SELECT a FROM r LEFT", "read up to 16"),
+    ("(SELECT a FROM r", "unexpected at 16"),
+    ("SELECT NULL FROM r", "left out null at 7"),
+    ("SELECT a FROM r WHERE", "unexpected at 21"),
+    ("SELECT 'x", "open string at 7"),
     ("", "unexpected at 0"),
     ("SELECT FROM 'x", "unexpected at 7"),
-    ("SELECT a FROM 'x", "lexical at 14"),
+    ("SELECT a FROM 'x", "open string at 14"),
     ("SELECT a FROM r WHERE a = 1.x", "lexical at 26"),
     ("SELECT a FROM", "unexpected at 13"),
-    ("SELECT ALL a FROM r", "left out at 7"),
-    ("SELECT a WINDOW", "left out at 9"),
+    ("SELECT ALL a FROM r", "left out all at 7"),
+    ("SELECT a WINDOW", "left out window at 9"),
     ("SELECT a AS FROM r", "unexpected at 12"),
     ("SELECT a b c FROM r", "unexpected at 11"),
     ("SELECT a.b.c FROM r", "unexpected at 10"),
@@ -107,7 +122,7 @@ const TEXTS: [(&str, &str); 56] = [
     ),
     (
         "SELECT a FROM r INTERSECT ALL SELECT a FROM r",
-        "left out at 26",
+        "left out all at 26",
     ),
     ("SELECT a FROM (SELECT * FROM r)", "unexpected at 31"),
     ("SELECT a FROM (r) x", "unexpected at 15"),
@@ -130,7 +145,7 @@ const TEXTS: [(&str, &str); 56] = [
         "unexpected at 48",
     ),
     ("SELECT a FROM r WHERE a NOT = 1", "unexpected at 28"),
-    ("SELECT a FROM r WHERE a NOT NULL", "left out at 28"),
+    ("SELECT a FROM r WHERE a NOT NULL", "left out null at 28"),
     ("SELECT a FROM r WHERE a BETWEEN 1 OR 2", "unexpected at 34"),
     ("SELECT x.* y FROM r", "unexpected at 11"),
     (

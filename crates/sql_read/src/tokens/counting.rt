@@ -12,7 +12,7 @@ const MOST_COPIES: u32 = 1_000_000;
 
 /// How far a reading had come: the tokens that it had passed, and the weight that it had copied.
 #[derive(Clone, Copy)]
-pub struct Mark {
+pub(crate) struct Mark {
     pub passed: u32,
     pub copies: u32,
 }
@@ -25,7 +25,8 @@ fn number_at(place: usize) -> Result<u32, NoMemory>
 }
 
 impl<'a> Tokens<'a> {
-    pub fn mark(&self) -> Mark
+    /// How far the reading has come.
+    pub(crate) fn mark(&self) -> Mark
         ensures passed { result.passed ≡ self.now.passed }
         ensures copies { result.copies ≡ self.now.copies }
     {
@@ -36,7 +37,7 @@ impl<'a> Tokens<'a> {
     }
 
     /// What a copy of all since then weighs: its tokens, and the copies that were made in it.
-    pub fn weight_since(&self, mark: Mark) -> u32
+    pub(crate) fn weight_since(&self, mark: Mark) -> u32
         requires passed { mark.passed ≤ self.now.passed }
         requires copies { mark.copies ≤ self.now.copies }
         ensures { result + (mark.passed + mark.copies) ≡ self.now.passed + self.now.copies }
@@ -45,7 +46,7 @@ impl<'a> Tokens<'a> {
     }
 
     /// Counts a copy of this weight.
-    pub fn add_copy(&mut self, weight: u32) -> Result<(), ReadFault>
+    pub(crate) fn add_copy(&mut self, weight: u32) -> Result<(), ReadFault>
         ensures { Copies weight self.old result self.new }
     {
         match self.copies.checked_add(weight) {
@@ -60,7 +61,7 @@ impl<'a> Tokens<'a> {
     }
 
     /// The number of a literal: its own, or the next one.
-    pub fn literal_number(&mut self, literal: Lit) -> Result<u32, NoMemory>
+    pub(crate) fn literal_number(&mut self, literal: Lit) -> Result<u32, NoMemory>
         ensures number { IfOk result (λ number. Numbers (literal_number literal) self.old number self.new) }
         ensures extends { Extends self.old self.new }
     {
@@ -69,7 +70,7 @@ impl<'a> Tokens<'a> {
     }
 
     /// The number of a called name: its own, or the next one.
-    pub fn symbol_number(&mut self, name: Name) -> Result<u32, NoMemory>
+    pub(crate) fn symbol_number(&mut self, name: Name) -> Result<u32, NoMemory>
         ensures number { IfOk result (λ number. Numbers (symbol_number name) self.old number self.new) }
         ensures extends { Extends self.old self.new }
     {

@@ -1,17 +1,8 @@
-use Rattle.sql_read.proofs.WholeQueries.{at_end, keeps, keeps_to_end, read_whole, refused_whole}
+use Rattle.sql_read.proofs.WholeQueries.{query_read, query_refused}
 use Rattle.sql_read.proofs.reading.read_query.Goals as goal
 
-pub returns-in-Ok-clause-read : goal.returns-in-Ok-clause-read
-returns-in-Ok-clause-read c = read_whole c.in-Ok.ensures.reads.answers c.in-Ok.ensures.extends
+pub returns-clause-read : goal.returns-clause-read
+returns-clause-read c = let read = c.query-read.ensures in let handed = c.stop_on_fault.ensures in query_read handed.same read.reads read.extends handed.within _ handed.still
 
-pub returns-in-Ok-clause-keeps : goal.returns-in-Ok-clause-keeps
-returns-in-Ok-clause-keeps c = keeps c.in-Ok.ensures.extends
-
-pub returns-in-Err-clause-refused : goal.returns-in-Err-clause-refused
-returns-in-Err-clause-refused c = refused_whole c.in-Err.ensures.reads.answers c.in-Err.ensures.copied.answers c.in-Err.ensures.extends c.stop.ensures.within
-
-pub returns-in-Err-clause-stopped : goal.returns-in-Err-clause-stopped
-returns-in-Err-clause-stopped c = at_end c.stop.ensures.stopped c.in-Err.ensures.extends
-
-pub returns-in-Err-clause-keeps : goal.returns-in-Err-clause-keeps
-returns-in-Err-clause-keeps c = keeps_to_end c.stop.ensures.stopped c.in-Err.ensures.extends
+pub returns-clause-refused : goal.returns-clause-refused
+returns-clause-refused c = let read = c.query-read.ensures in let handed = c.stop_on_fault.ensures in query_refused handed.same read.reads read.extends handed.within read.copied

@@ -199,8 +199,15 @@ const LIMITS: [(Parts, usize, &str); 33] = [
     ),
 ];
 
+/// A block with 32 entries, and the first token of another one.
+const CROWDED: &str =
+    "SELECT a FROM r, r, r, r, r, r, r, r, r, r, r, r, r, r, r, r, r, r, r, r, r, r, r, r, r, r, r, r, r, r, r, r, (";
+
 /// Other texts, with how often their part is repeated.
-const OTHERS: [(Parts, usize, &str); 3] = [
+const OTHERS: [(Parts, usize, &str); 5] = [
+    // The token that is an entry too many is too deep besides.
+    (("", "(", CROWDED, "", ""), 63, "entries"),
+    (("", "(", CROWDED, "", ""), 64, "too deep at 174"),
     (("", "(", "", "", ""), MOST_BYTES, "too deep at 64"),
     (
         ("SELECT a FROM r", ", r", "", "", ", 1"),

@@ -118,7 +118,7 @@ fn told_query(alloc: Global, query: &Query) -> Result<String, NoMemory> {
 }
 
 /// Texts, and the tops of their trees: each node with its number and the place where it begins.
-const SHAPES: [(&str, &str); 31] = [
+const SHAPES: [(&str, &str); 32] = [
     (
         "SELECT a FROM r UNION SELECT a FROM r INTERSECT SELECT a FROM r",
         "union@16 block intersect@38",
@@ -142,6 +142,10 @@ const SHAPES: [(&str, &str); 31] = [
     (
         "SELECT a FROM r WHERE a > b",
         "pred:0@22 col:26@26 col:22@22",
+    ),
+    (
+        "SELECT a FROM r WHERE a >= 12",
+        "pred:1@22 lit:1@27 col:22@22",
     ),
     ("SELECT (a >= r.b) FROM r", "pred:1@8 col:15@13 col:8@8"),
     (
