@@ -1,7 +1,6 @@
 -- How what is told of a limit on a count goes from the parts of a form to the form.
-use Rattle.std.proofs.Common.{◌≡◌, ℕ, Bool, true, List, [], ◌∷◌, ◌++◌, None, Result, Ok, Err, sym, ◌∙◌, subst}
+use Rattle.std.proofs.Common.{◌≡◌, ℕ, Bool, true, List, [], ◌∷◌, None, Result, Ok, Err, sym, subst}
 use Rattle.std.specs.Result.{IsErrAnd}
-use Rattle.std.proofs.lemmas.List.{append_cancel_right}
 use Rattle.std.proofs.lemmas.Result.{err_from_is_err_and}
 use Rattle.grammar.specs.Form.{alt, language, map, nest, seq, token}
 use Rattle.grammar.specs.Language.{Language}
@@ -26,7 +25,7 @@ use Rattle.sql_grammar.specs.Numbering.{Built}
 use Rattle.sql_grammar.specs.QueryGrammar.{The}
 use Rattle.sql_grammar.specs.QueryPlan.{plan}
 use Rattle.sql_grammar.proofs.QueryTable.{planned}
-use Rattle.sql_read.proofs.ReadSteps.{deep_within, entries_within, took_token}
+use Rattle.sql_read.proofs.ReadSteps.{deep_within, entries_within, same_taken, took_token}
 use Rattle.schema_read.specs.Counting.{Counts, IsPlaced, RefusesCounted}
 use Rattle.schema_read.proofs.StatementFronts.{known_includes, planned_includes}
 use Rattle.schema_read.proofs.Unlimited.{Below, gl}
@@ -98,9 +97,6 @@ module _ {A : Type 0} {f : The A} {d : ℕ} {a b : Cursor} {fault : ReadFault} w
   statement_refused t = record { begun = begun_free tt fault t; passed = λ e. absurd (no_relations t e) }
 
 -- ---- one reading
-
-pub same_taken : (start rest x y : List Lexeme) → start ≡ x ++ rest → start ≡ y ++ rest → x ≡ y
-same_taken start rest x y e i = append_cancel_right x y rest (sym e ∙ i)
 
 -- what is read within two limits is one value
 pub same_read : {A : Type 0} (f : The A) → ok planned f ≡ true → {B C : Language Lexeme A} → IsWithin (free f) B → IsWithin (free f) C → {here rest : List Lexeme} {v w : A}

@@ -1,6 +1,6 @@
 -- What the function for statements reads is read of the published grammar.
-use Rattle.std.proofs.Common.{◌≡◌, ◌≤◌, ◌<◌, ◌^◌, ℕ, List, [], ◌∷◌, ◌++◌, length, length-append, Some, None, Result, Ok, Err, refl, sym, ◌∙◌, ap, subst, append_assoc, arith}
-use Rattle.std.specs.Prelude.{IfOk}
+use Rattle.std.proofs.Common.{◌≡◌, ◌≤◌, ◌<◌, ◌^◌, ◌+◌, ℕ, List, [], ◌∷◌, ◌++◌, length, length-append, Some, None, Result, Ok, Err, refl, sym, ◌∙◌, ap, subst, append_assoc, arith}
+use Rattle.std.specs.Prelude.{IfErr, IfOk, OnOk}
 use Rattle.data_model.specs.Lists.{Each}
 use Rattle.grammar.specs.Form.{Room, IsRoomier, form_language, language}
 use Rattle.grammar.specs.Language.{Includes, Language, map_language, upto_language}
@@ -17,7 +17,7 @@ use Rattle.sql_read.specs.declared.fault.ReadFault.{ReadFault}
 use Rattle.sql_read.specs.declared.fault.ReadFault.TheVariants.{Lex, Unexpected, LeftOut, TooDeep, Limit, NoMemory}
 use Rattle.sql_read.specs.declared.fault.LimitKind.{LimitKind}
 use Rattle.sql_read.specs.declared.fault.LimitKind.TheVariants as limit
-use Rattle.sql_read.specs.Cursor.{Cursor, next}
+use Rattle.sql_read.specs.Cursor.{Cursor, most_tokens, next}
 use Rattle.sql_read.specs.Eating.{Extends, IsNextAt}
 use Rattle.sql_grammar.specs.Numbering.{Built, each}
 use Rattle.sql_grammar.specs.Kinds.{kind_of}
@@ -29,15 +29,16 @@ use Rattle.sql_grammar.specs.QueryPlan.{few_plan}
 use Rattle.sql_read.specs.Reads.{Fails, Exceeds, GivesWithin, RefusesWithin, Spends, few_form, relations_too}
 use Rattle.sql_read.specs.Refusals.{refusal_of}
 use Rattle.sql_grammar.proofs.FewPlan.{few_plan_includes, few_rules_include}
-use Rattle.schema_read.specs.CopiedStatements.{CopiedToFault, LastTooMany}
+use Rattle.sql_read.proofs.ReadSteps.{same_taken}
+use Rattle.schema_read.specs.CopiedStatements.{Copied, CopiedToFault, LastTooMany}
 use Rattle.schema_read.specs.Declarations.{IsSmall}
-use Rattle.schema_read.specs.Counting.{IsPlaced, ReadsTelling, RefusesCounted, TakesCounted, few_planned, narrowly}
+use Rattle.schema_read.specs.Counting.{Counts, IsPlaced, ReadsTelling, RefusesCounted, TakesCounted, few_planned, narrowly}
 use Rattle.schema_read.specs.ReadingStatements.{IsLimited, IsRead, IsRefused, IsUnfinished, PassesCopies, PassesCount, PassesDepth}
 use Rattle.schema_read.specs.StatementGrammar as g
 use Rattle.schema_read.specs.StatementLimits.{CopiesFew, IsCopyTooMany, column_count, most_further_columns, most_relations, rule_count, within}
 use Rattle.schema_read.specs.Statements.{IsShallow, OfStatements, in_plan, shallow_statements, statements}
 use Rattle.schema_read.proofs.CopiedLists.{few_copies}
-use Rattle.schema_read.proofs.CountSteps.{begun_free, below_within, same_read, same_taken, took_free}
+use Rattle.schema_read.proofs.CountSteps.{begun_free, below_within, same_read, took_free}
 use Rattle.schema_read.proofs.StatedCounts.{few_within}
 use Rattle.schema_read.proofs.Unlimited.{itself}
 use Rattle.schema_read.proofs.StatementCounts.{few_rules_spelled}
@@ -81,7 +82,7 @@ planned_within limit.Entries = few_form g.statements
 planned_within limit.Relations = few_planned
 planned_within limit.Copies = in_plan None g.statements
 
-few_included : {L M : Language Lexeme (Built Statement)} → Includes M L
+pub few_included : {L M : Language Lexeme (Built Statement)} → Includes M L
     → Includes (map_language (λ read. each read) (upto_language most_relations M)) (map_language (λ read. each read) (upto_language most_relations L))
 few_included {L = L} {M = M} m = map_in (upto_language most_relations L) (upto_language most_relations M) (repeated_grows L M m (Some most_relations) (Some 0) (Some 0) (omega arith)) (λ read. each read)
 
@@ -150,8 +151,8 @@ module _ {before after : Cursor} {list : List Statement} (s : GivesAll before li
   taken_within limit.Relations = counted_taken limit.Relations (map_within kind_of (λ read. each read) _ _ (few_within most_relations)) relations
   taken_within limit.Copies = free_taken
 
-  pub read_whole : Extends before after → length list ≤ 256 → Each (λ s. column_count s ≤ 32) list → IsRead before list after
-  read_whole x few narrow =
+  pub read_whole : Extends before after → after.copies ≤ most_copies → after.passed + length after.tokens ≤ most_tokens → length list ≤ 256 → Each (λ s. column_count s ≤ 32) list → IsRead before list after
+  read_whole x most counted few narrow =
       let t = took_in _ _ _ _ free_same shallow_same before.tokens s.read after.tokens s.takes.took in
       let spelled = (roomier (Some most_levels) None tt g.statements).spells t.taken s.read t.spelled in
       let f = form_has_fronts None g.statements in
@@ -163,13 +164,15 @@ module _ {before after : Cursor} {list : List Statement} (s : GivesAll before li
         spelled = spelled;
         built = s.builds.numbers;
         copied = s.builds.copies;
+        passed = omega (arith, x.counted, ap length t.whole, length-append t.taken after.tokens);
         shallow = is_shallow t.taken ((form_has_fronts (Some most_levels) g.statements).spelled t.taken s.read t.spelled);
         few = λ what. let u = taken_within what in
             subst (λ z. (within what).spells z s.read) (same_taken before.tokens after.tokens u.taken t.taken u.whole t.whole) ((within_same what).there.spells u.taken s.read u.spelled);
+        few_copies = most;
         fault = x.fault;
         end = x.end;
         few_relations = few;
-        small = taken_small s narrow;
+        small = taken_small s narrow (omega (arith, x.counted, counted));
       }
 
 -- ---- what is refused
@@ -308,3 +311,28 @@ module _ {before after : Cursor} (most : after.copies ≤ most_copies) where
   refused_whole {fault = TooDeep at} r c n p x = passed r.says (few_before r c n tt (r.says.few tt)) (λ taken i. few_copies taken i p.says most)
   refused_whole {fault = Limit what} r c n p x = limited what r c n p
   refused_whole {fault = NoMemory} r c n p x = tt
+
+-- ---- what is handed on
+
+-- what is handed on is what was read of statements, with all that was copied within the limit
+module _ {before after : Cursor} {read handed : Result (List Statement) ReadFault} (same : handed ≡ read) (r : ReadsTelling relations_too g.statements most_levels (λ read. read) before before read after)
+    (columns : Counts limit.Columns g.statements (planned_within limit.Columns) before read after) (relations : Counts limit.Relations g.statements (planned_within limit.Relations) before read after) (x : Extends before after)
+    (most : after.copies ≤ most_copies) where
+  pub statements_read : after.passed + length after.tokens ≤ most_tokens → (end : Cursor) → OnOk handed (end ≡ after) → IfOk read (λ list. length list ≤ 256) → IfOk read (λ list. Each (λ s. column_count s ≤ 32) list) → IfOk handed (λ list. IsRead before list end)
+  statements_read counted end still few narrow = rw same (by read r columns relations (subst (λ z. OnOk z (end ≡ after)) same still) few narrow)
+    where
+      by : (result : Result (List Statement) ReadFault) → ReadsTelling relations_too g.statements most_levels (λ read. read) before before result after
+          → Counts limit.Columns g.statements (planned_within limit.Columns) before result after → Counts limit.Relations g.statements (planned_within limit.Relations) before result after
+          → OnOk result (end ≡ after) → IfOk result (λ list. length list ≤ 256) → IfOk result (λ list. Each (λ s. column_count s ≤ 32) list) → IfOk result (λ list. IsRead before list end)
+      by (Ok list) r columns relations still few narrow =
+          subst (λ z. IsRead before list z) (sym still) (read_whole r.answers columns.answers relations.answers x most counted few narrow)
+      by (Err fault) r columns relations still few narrow = tt
+
+  pub statements_refused : Copied (IsCopyTooMany before.copies) before read after → IfErr handed (λ fault. IsRefused before fault)
+  statements_refused copied = rw same (by read r columns relations copied)
+    where
+      by : (result : Result (List Statement) ReadFault) → ReadsTelling relations_too g.statements most_levels (λ read. read) before before result after
+          → Counts limit.Columns g.statements (planned_within limit.Columns) before result after → Counts limit.Relations g.statements (planned_within limit.Relations) before result after
+          → Copied (IsCopyTooMany before.copies) before result after → IfErr result (λ fault. IsRefused before fault)
+      by (Ok list) r columns relations copied = tt
+      by (Err fault) r columns relations copied = refused_whole most r.answers columns.answers relations.answers copied.answers x

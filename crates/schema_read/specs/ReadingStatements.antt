@@ -1,5 +1,5 @@
 -- What `read_statements` does with the tokens that are still to come.
-use Rattle.std.specs.Prelude.{ℕ, ◌+◌, ◌≡◌, ◌≤◌, ◌<◌, ◌^◌, List, [], ◌∷◌, ◌++◌, length}
+use Rattle.std.specs.Prelude.{ℕ, ◌+◌, ◌≡◌, ◌≤◌, List, [], ◌∷◌, ◌++◌, length}
 use Rattle.data_model.specs.Lists.{Each}
 use Rattle.grammar.specs.Reading.{IsLongestFront}
 use Rattle.sql_lex.specs.Lexemes.{Lexeme}
@@ -10,6 +10,7 @@ use Rattle.sql_read.specs.declared.fault.LimitKind.{LimitKind}
 use Rattle.sql_read.specs.declared.fault.LimitKind.TheVariants as limit
 use Rattle.sql_read.specs.Cursor.{Cursor, next}
 use Rattle.sql_grammar.specs.Numbering.{Built}
+use Rattle.sql_grammar.specs.QueryCopies.{most_copies}
 use Rattle.sql_read.specs.Refusals.{refusal_of}
 use Rattle.schema_read.specs.Declarations.{IsSmall}
 use Rattle.schema_read.specs.StatementLimits.{CopiesFew, IsCopyTooMany, within}
@@ -24,14 +25,16 @@ pub record IsRead (before : Cursor) (list : List Statement) (after : Cursor) : T
   pub spelled : statements.spells taken read
   pub built : read.build before.numbers ≡ (list, after.numbers)
   pub copied : after.copies ≡ before.copies + read.copies
+  pub passed : after.passed ≡ before.passed + length taken
   -- no limit was passed
   pub shallow : IsShallow taken
   pub few : (what : LimitKind) → (within what).spells taken read
+  pub few_copies : after.copies ≤ most_copies
   pub fault : after.fault ≡ before.fault
   pub end : after.end ≡ before.end
   -- the statements are within the limits of a schema
   pub few_relations : length list ≤ 256
-  pub small : length before.tokens < 2 ^ 31 → Each IsSmall list
+  pub small : Each IsSmall list
 
 -- the longest list of tokens that begins statements spells none, and what stands behind it is refused
 pub record IsUnfinished (before : Cursor) (fault : ReadFault) : Type 0 where

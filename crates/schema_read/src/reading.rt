@@ -48,13 +48,8 @@ pub fn read_statements(alloc: Global, tokens: &mut Tokens<'_>) -> Result<List<St
     ensures stopped { OnErr result (IsAtEnd tokens.old tokens.new) }
     ensures keeps { Keeps tokens.old tokens.new }
 {
-    match statements(alloc, tokens) {
-        Ok(statements) => Ok(statements),
-        Err(fault) => {
-            tokens.stop();
-            Err(fault)
-        }
-    }
+    let read = statements(alloc, tokens);
+    tokens.stop_on_fault(read)
 }
 
 /// Reads the statements of a case. After a refusal the tokens stand where it came.

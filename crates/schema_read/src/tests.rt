@@ -1,250 +1,123 @@
-ghost use Rattle.std.specs.Prelude.{◌≤◌, length, IsTrue};
-ghost use Rattle.data_model.specs.Lists.{Each};
-ghost use Rattle.schema_read.specs.Declarations.{IsSmall};
-
-use crate::{SchemaCode, SchemaFault, read_schema};
-use plain_data::List;
-use sql_model::{Expr, Item, Name, NameAt, Query, Relation, Schema, Statement, TableRule};
+use crate::{SchemaCode, SchemaFault, read_schema, read_statements};
+use sql_model::{Expr, Item, Query, Relation, Schema};
+use sql_read::{ReadFault, Tokens};
 use std::alloc::{AllocError, Global};
 use std::process::Abort;
 use std::test::Fail;
 
-fn is_small(statement: &Statement) -> bool
-    ensures { IsTrue result → IsSmall statement.now }
-{
-    match statement {
-        Statement::Table { columns, rules, .. } => columns.len() <= 32 && rules.len() <= 1_000_000,
-        Statement::View { .. } => true,
-        Statement::Index { .. } => true,
-    }
-}
+const MOST_BYTES: usize = 1_048_576;
 
-fn are_small(statements: &[Statement]) -> bool
-    ensures { IsTrue result → Each IsSmall statements.now }
-{
-    for statement in statements {
-        if !is_small(statement) {
-            return false;
-        }
-    }
-    true
-}
-
-fn read(
+/// The schema of statements that are read.
+fn schema_of(
     rt: &impl Abort,
     alloc: Global,
-    statements: &List<Statement>,
-) -> Result<Schema, SchemaFault> {
-    assert!(rt; statements.len() <= 256);
-    assert!(rt; are_small(statements.as_slice()));
-    read_schema(alloc, statements)
+    text: &str,
+) -> Result<Result<Schema, SchemaFault>, ReadFault> {
+    assert!(rt; text.len() <= MOST_BYTES);
+    let mut tokens = Tokens::new(alloc, text.as_bytes())?;
+    let statements = read_statements(alloc, &mut tokens)?;
+    Ok(read_schema(alloc, &statements))
 }
 
-fn name_at(alloc: Global, text: &str, at: u32) -> Result<NameAt, AllocError> {
-    Ok(NameAt {
-        name: Name::new(alloc, text.as_bytes())?,
-        at,
-    })
-}
+// In each text a caret stands at the place of the first fault.
 
-/// The letters of a text as names, the first of them at this place and each one further on.
-fn names_at(alloc: Global, letters: &str, at: u32) -> Result<List<NameAt>, AllocError> {
-    let mut names = List::new(alloc);
-    let mut place = at;
-    for letter in letters.as_bytes() {
-        let name = Name::new(alloc, &[*letter])?;
-        names.push(NameAt { name, at: place })?;
-        place = place.wrapping_add(1);
-    }
-    Ok(names)
-}
+/// A relation has the name already.
+const NAMES_TAKEN: [&str; 5] = [
+    "CREATE TABLE r (a INT);CREATE TABLE ^R (b INT);",
+    "CREATE VIEW r AS SELECT a FROM s;CREATE TABLE ^r (a INT, a INT);",
+    "CREATE TABLE r (a INT);CREATE INDEX i ON r (a);CREATE TABLE ^i (a INT);",
+    "CREATE TABLE r (a INT);CREATE VIEW ^r AS SELECT a FROM s;",
+    "CREATE TABLE r (a INT);CREATE INDEX ^r ON q (a);",
+];
 
-/// A statement in short, or a rule of the last table. Each column is one letter.
-#[derive(Clone, Copy)]
-enum Part {
-    /// Its name stands at 10, and its columns begin at 20.
-    Table(&'static str, &'static str),
-    /// Its name stands at 10, the table's at 15, and its columns begin at 20.
-    Index(&'static str, &'static str, &'static str),
-    UniqueIndex(&'static str, &'static str, &'static str),
-    /// Its columns begin at 30.
-    Unique(&'static str),
-    /// Its word stands at 40, and its columns begin at 41.
-    Primary(&'static str),
-    /// Its columns begin at 50, and the referenced table stands at 60.
-    Foreign(&'static str, &'static str),
-    /// The referenced columns begin at 70.
-    ForeignTo(&'static str, &'static str, &'static str),
-}
+/// A column stands twice in a table, or in one list of names.
+const COLUMNS_TWICE: [&str; 8] = [
+    "CREATE TABLE r (a INT, ^a INT);",
+    "CREATE TABLE r (a INT, UNIQUE (z), b INT, ^a INT);",
+    "CREATE TABLE r (a INT, b INT, UNIQUE (a, b, ^a));",
+    "CREATE TABLE r (a INT, FOREIGN KEY (a, ^a) REFERENCES q);",
+    "CREATE TABLE r (a INT UNIQUE, FOREIGN KEY (a) REFERENCES r (a, ^a));",
+    "CREATE TABLE r (a INT);CREATE INDEX i ON r (a, ^a);",
+    "CREATE TABLE r (a INT, UNIQUE (a, ^a, z));",
+    "CREATE TABLE r (a INT, PRIMARY KEY (a), PRIMARY KEY (a, ^a));",
+];
 
-fn table(alloc: Global, name: &str, columns: &str) -> Result<Statement, AllocError> {
-    Ok(Statement::Table {
-        name: name_at(alloc, name, 10)?,
-        columns: names_at(alloc, columns, 20)?,
-        rules: List::new(alloc),
-    })
-}
+/// No table of this name is declared before: there is none, it comes later, or it is a view or an index.
+const UNKNOWN_TABLES: [&str; 8] = [
+    "CREATE TABLE r (a INT REFERENCES ^q);",
+    "CREATE TABLE r (a INT, b INT, FOREIGN KEY (a, b) REFERENCES ^s (a));CREATE TABLE s (a INT);",
+    "CREATE VIEW v AS SELECT a FROM r;CREATE TABLE r (a INT, FOREIGN KEY (a) REFERENCES ^v (a));",
+    "CREATE TABLE r (a INT UNIQUE);CREATE INDEX i ON r (a);CREATE TABLE s (a INT REFERENCES ^i (a));",
+    "CREATE INDEX i ON ^r (a);CREATE TABLE r (a INT);",
+    "CREATE TABLE r (a INT);CREATE INDEX i ON r (a);CREATE INDEX j ON ^i (z);",
+    "CREATE TABLE r (a INT, FOREIGN KEY (a) REFERENCES ^q (z, z));",
+    "CREATE VIEW v AS SELECT a FROM r;CREATE INDEX i ON ^v (a);",
+];
 
-fn index(
+/// The table lacks the column.
+const UNKNOWN_COLUMNS: [&str; 7] = [
+    "CREATE TABLE r (a INT, PRIMARY KEY (a, ^z, a));",
+    "CREATE TABLE r (a INT, UNIQUE (^z), PRIMARY KEY (a), PRIMARY KEY (a));",
+    "CREATE TABLE r (a INT, FOREIGN KEY (^z) REFERENCES q);",
+    "CREATE TABLE r (a INT, FOREIGN KEY (a) REFERENCES r (^z, a));",
+    "CREATE TABLE r (a INT UNIQUE);CREATE TABLE s (b INT, FOREIGN KEY (b) REFERENCES r (^b));",
+    "CREATE TABLE r (a INT);CREATE INDEX i ON r (a, ^z, a);",
+    "CREATE TABLE r (a INT, PRIMARY KEY (a), PRIMARY KEY (^z));",
+];
+
+/// The referenced columns are no key, or the table has no primary key.
+const NO_KEYS: [&str; 5] = [
+    "CREATE TABLE r (a INT);CREATE TABLE s (b INT REFERENCES ^r);",
+    "CREATE TABLE r (a INT UNIQUE, b INT REFERENCES ^r);",
+    "CREATE TABLE r (a INT, b INT, UNIQUE (a, b));CREATE TABLE s (c INT REFERENCES ^r (b));",
+    "CREATE TABLE r (a INT);CREATE TABLE s (b INT REFERENCES ^r (a));CREATE UNIQUE INDEX i ON r (a);",
+    "CREATE TABLE r (a INT, b INT REFERENCES ^r (a));CREATE UNIQUE INDEX i ON r (a);",
+];
+
+/// The lists have two lengths.
+const COUNTS_DIFFER: [&str; 3] = [
+    "CREATE TABLE r (a INT PRIMARY KEY);CREATE TABLE s (b INT, c INT, FOREIGN KEY (b, c) REFERENCES ^r);",
+    "CREATE TABLE r (a INT, b INT);CREATE TABLE s (c INT REFERENCES ^r (a, b));",
+    "CREATE TABLE r (a INT, FOREIGN KEY (a) REFERENCES ^r, PRIMARY KEY (a, z));",
+];
+
+/// A second primary key.
+const PRIMARY_TWICE: [&str; 3] = [
+    "CREATE TABLE r (a INT PRIMARY KEY, b INT ^PRIMARY KEY);",
+    "CREATE TABLE r (a INT, PRIMARY KEY (a), ^PRIMARY KEY (a));",
+    "CREATE TABLE r (a INT PRIMARY KEY, ^PRIMARY KEY (a), UNIQUE (z));",
+];
+
+fn each_is_refused(
+    rt: &impl Abort,
     alloc: Global,
-    unique: bool,
-    name: &str,
-    on: &str,
-    columns: &str,
-) -> Result<Statement, AllocError> {
-    Ok(Statement::Index {
-        name: name_at(alloc, name, 10)?,
-        unique,
-        table: name_at(alloc, on, 15)?,
-        columns: names_at(alloc, columns, 20)?,
-    })
-}
-
-fn key(alloc: Global, primary: bool, columns: &str, at: u32) -> Result<TableRule, AllocError> {
-    Ok(TableRule::Key {
-        primary,
-        columns: names_at(alloc, columns, at)?,
-        at: 40,
-    })
-}
-
-fn foreign(
-    alloc: Global,
-    columns: &str,
-    to: &str,
-    target: Option<List<NameAt>>,
-) -> Result<TableRule, AllocError> {
-    Ok(TableRule::Foreign {
-        columns: names_at(alloc, columns, 50)?,
-        table: name_at(alloc, to, 60)?,
-        target,
-    })
-}
-
-/// Adds a rule to the last statement, which is a table.
-fn add_rule(statements: &mut List<Statement>, rule: TableRule) -> Result<(), AllocError> {
-    match statements.as_mut_slice().last_mut() {
-        Some(Statement::Table { rules, .. }) => rules.push(rule),
-        _ => Ok(()),
+    code: SchemaCode,
+    texts: &[&str],
+) -> Result<(), Fail> {
+    for marked in texts {
+        let Some((before, behind)) = marked.split_once('^') else {
+            return Err(Fail::new("no caret"));
+        };
+        let text = format!(in alloc; "{before}{behind}")?;
+        assert!(rt; before.len() <= MOST_BYTES);
+        let at = before.len() as u32;
+        let found = schema_of(rt, alloc, text.as_str())?.err();
+        let expected = Some(SchemaFault::Refused { code, at });
+        assert_eq!(rt; found, expected, "{marked}");
     }
-}
-
-fn add(alloc: Global, statements: &mut List<Statement>, part: Part) -> Result<(), AllocError> {
-    match part {
-        Part::Table(name, columns) => statements.push(table(alloc, name, columns)?),
-        Part::Index(name, on, columns) => statements.push(index(alloc, false, name, on, columns)?),
-        Part::UniqueIndex(name, on, columns) => {
-            statements.push(index(alloc, true, name, on, columns)?)
-        }
-        Part::Unique(columns) => add_rule(statements, key(alloc, false, columns, 30)?),
-        Part::Primary(columns) => add_rule(statements, key(alloc, true, columns, 41)?),
-        Part::Foreign(columns, to) => add_rule(statements, foreign(alloc, columns, to, None)?),
-        Part::ForeignTo(columns, to, target) => {
-            let target = names_at(alloc, target, 70)?;
-            add_rule(statements, foreign(alloc, columns, to, Some(target))?)
-        }
-    }
-}
-
-fn written(alloc: Global, parts: &[Part]) -> Result<List<Statement>, AllocError> {
-    let mut statements = List::new(alloc);
-    for part in parts {
-        add(alloc, &mut statements, *part)?;
-    }
-    Ok(statements)
+    Ok(())
 }
 
 #[test]
 fn each_fault_has_its_place(rt: HostRuntime) -> Result<(), Fail> {
     let alloc = rt.alloc();
-    let table: [(&'static [Part], SchemaCode, u32); 12] = [
-        (
-            &[Part::Table("r", "a"), Part::Table("r", "a")],
-            SchemaCode::TableTwice,
-            10,
-        ),
-        (
-            &[Part::Table("r", "a"), Part::Index("r", "r", "a")],
-            SchemaCode::TableTwice,
-            10,
-        ),
-        (&[Part::Table("r", "aba")], SchemaCode::ColumnTwice, 22),
-        (
-            &[Part::Table("r", "ab"), Part::Unique("abb")],
-            SchemaCode::ColumnTwice,
-            32,
-        ),
-        (
-            &[
-                Part::Table("s", "b"),
-                Part::Foreign("b", "r"),
-                Part::Table("r", "a"),
-                Part::Primary("a"),
-            ],
-            SchemaCode::UnknownTable,
-            60,
-        ),
-        (
-            &[
-                Part::Table("r", "a"),
-                Part::Index("i", "r", "a"),
-                Part::Index("j", "i", "a"),
-            ],
-            SchemaCode::UnknownTable,
-            15,
-        ),
-        (
-            &[Part::Table("r", "ab"), Part::Primary("az")],
-            SchemaCode::UnknownColumn,
-            42,
-        ),
-        (
-            &[Part::Table("r", "ab"), Part::ForeignTo("a", "r", "bz")],
-            SchemaCode::UnknownColumn,
-            71,
-        ),
-        (
-            &[
-                Part::Table("r", "a"),
-                Part::Table("s", "b"),
-                Part::Foreign("b", "r"),
-            ],
-            SchemaCode::NoSuchKey,
-            60,
-        ),
-        (
-            &[
-                Part::Table("r", "ab"),
-                Part::Unique("ab"),
-                Part::ForeignTo("a", "r", "b"),
-            ],
-            SchemaCode::NoSuchKey,
-            60,
-        ),
-        (
-            &[
-                Part::Table("r", "ab"),
-                Part::Primary("a"),
-                Part::Foreign("ab", "r"),
-            ],
-            SchemaCode::CountDiffers,
-            60,
-        ),
-        (
-            &[
-                Part::Table("r", "ab"),
-                Part::Primary("a"),
-                Part::Primary("b"),
-            ],
-            SchemaCode::PrimaryTwice,
-            40,
-        ),
-    ];
-    for (parts, code, at) in table {
-        let fault = read(&rt, alloc, &written(alloc, parts)?).err();
-        assert_eq!(rt; fault, Some(SchemaFault::Refused { code, at }));
-    }
-    Ok(())
+    each_is_refused(&rt, alloc, SchemaCode::TableTwice, &NAMES_TAKEN)?;
+    each_is_refused(&rt, alloc, SchemaCode::ColumnTwice, &COLUMNS_TWICE)?;
+    each_is_refused(&rt, alloc, SchemaCode::UnknownTable, &UNKNOWN_TABLES)?;
+    each_is_refused(&rt, alloc, SchemaCode::UnknownColumn, &UNKNOWN_COLUMNS)?;
+    each_is_refused(&rt, alloc, SchemaCode::NoSuchKey, &NO_KEYS)?;
+    each_is_refused(&rt, alloc, SchemaCode::CountDiffers, &COUNTS_DIFFER)?;
+    each_is_refused(&rt, alloc, SchemaCode::PrimaryTwice, &PRIMARY_TWICE)
 }
 
 /// The places of columns, one after the other.
@@ -287,70 +160,62 @@ fn fkeys_shown(alloc: Global, schema: &Schema) -> Result<String, AllocError> {
 }
 
 /// The statements, and then the keys of the first table, the place of its primary key and the foreign keys.
-type Row = (&'static [Part], &'static str, Option<u32>, &'static str);
+type Row = (&'static str, &'static str, Option<u32>, &'static str);
+
+const KEYS: [Row; 7] = [
+    // A table references itself, with a list and without one.
+    (
+        "CREATE TABLE r (a INT REFERENCES r (b), b INT UNIQUE);",
+        ".1",
+        None,
+        "0.0=0.1",
+    ),
+    (
+        "CREATE TABLE r (a INT, b INT, FOREIGN KEY (a, b) REFERENCES r, PRIMARY KEY (b, a));",
+        ".10",
+        Some(0),
+        "0.01=0.10",
+    ),
+    // A unique index declares a key, unless its columns are one.
+    (
+        "CREATE TABLE r (a INT UNIQUE, b INT);CREATE UNIQUE INDEX i ON r (b);CREATE TABLE s (a INT REFERENCES r (b));",
+        ".0.1",
+        None,
+        "1.0=0.1",
+    ),
+    (
+        "CREATE TABLE r (a INT, b INT, UNIQUE (a, b));CREATE UNIQUE INDEX i ON r (b, a);",
+        ".01",
+        None,
+        "",
+    ),
+    (
+        "CREATE TABLE r (a INT, b INT UNIQUE, UNIQUE (b), UNIQUE (a));CREATE INDEX i ON r (a);",
+        ".1.0",
+        None,
+        "",
+    ),
+    // A primary key takes the place of the key with its columns, in its own order.
+    (
+        "CREATE TABLE r (a INT, b INT, UNIQUE (b, a), UNIQUE (a), PRIMARY KEY (a, b));CREATE TABLE s (c INT, d INT, FOREIGN KEY (c, d) REFERENCES r);",
+        ".01.0",
+        Some(0),
+        "1.01=0.01",
+    ),
+    // The referenced columns may stand in another order.
+    (
+        "CREATE TABLE r (a INT, b INT, UNIQUE (a, b));CREATE TABLE s (c INT, d INT, FOREIGN KEY (c, d) REFERENCES r (b, a));",
+        ".01",
+        None,
+        "1.01=0.10",
+    ),
+];
 
 #[test]
 fn keys_are_numbered_and_referenced(rt: HostRuntime) -> Result<(), Fail> {
     let alloc = rt.alloc();
-    let table: [Row; 5] = [
-        (
-            &[
-                Part::Table("r", "ab"),
-                Part::ForeignTo("a", "r", "b"),
-                Part::Unique("b"),
-            ],
-            ".1",
-            None,
-            "0.0=0.1",
-        ),
-        (
-            &[
-                Part::Table("r", "ab"),
-                Part::Foreign("ab", "r"),
-                Part::Primary("ba"),
-            ],
-            ".10",
-            Some(0),
-            "0.01=0.10",
-        ),
-        (
-            &[
-                Part::Table("r", "ab"),
-                Part::Unique("a"),
-                Part::UniqueIndex("i", "r", "b"),
-                Part::Table("s", "a"),
-                Part::ForeignTo("a", "r", "b"),
-            ],
-            ".0.1",
-            None,
-            "1.0=0.1",
-        ),
-        (
-            &[
-                Part::Table("r", "ab"),
-                Part::Unique("ab"),
-                Part::UniqueIndex("i", "r", "ba"),
-            ],
-            ".01",
-            None,
-            "",
-        ),
-        (
-            &[
-                Part::Table("r", "ab"),
-                Part::Unique("ba"),
-                Part::Unique("a"),
-                Part::Primary("ab"),
-                Part::Table("s", "cd"),
-                Part::Foreign("cd", "r"),
-            ],
-            ".01.0",
-            Some(0),
-            "1.01=0.01",
-        ),
-    ];
-    for (parts, keys, primary, fkeys) in table {
-        let schema = read(&rt, alloc, &written(alloc, parts)?)?;
+    for (text, keys, primary, fkeys) in KEYS {
+        let schema = schema_of(&rt, alloc, text)??;
         assert_eq!(rt; keys_shown(alloc, &schema)?.as_str(), keys);
         assert_eq!(rt; primary_of(&schema), primary);
         assert_eq!(rt; fkeys_shown(alloc, &schema)?.as_str(), fkeys);
@@ -374,16 +239,15 @@ fn column_of(item: &Item) -> Option<(&[u8], u32)> {
     }
 }
 
+/// A table, and an index of it that is named at 70, for the table at 75 and the columns at 78 and 81.
+const INDEXED: &str =
+    "CREATE TABLE r (a INT, b INT, c INT, PRIMARY KEY (c, a));CREATE INDEX i ON r (b, a);";
+
 #[test]
 fn an_index_shows_its_columns_and_then_the_primary_key(rt: HostRuntime) -> Result<(), Fail> {
     let alloc = rt.alloc();
-    let parts = [
-        Part::Table("r", "abc"),
-        Part::Primary("ca"),
-        Part::Index("i", "r", "ba"),
-    ];
-    let schema = read(&rt, alloc, &written(alloc, &parts)?)?;
-    let Some((_, Relation::View { query, at: 10 })) = schema.relations.get_index(1) else {
+    let schema = schema_of(&rt, alloc, INDEXED)??;
+    let Some((_, Relation::View { query, at: 70 })) = schema.relations.get_index(1) else {
         return Err(Fail::new("no index"));
     };
     let Query::Block { block } = query else {
@@ -392,28 +256,20 @@ fn an_index_shows_its_columns_and_then_the_primary_key(rt: HostRuntime) -> Resul
     let [first, second, third] = block.get().items.as_slice() else {
         return Err(Fail::new("not three columns"));
     };
-    assert_eq!(rt; column_of(first), Some((b"b".as_slice(), 20)));
-    assert_eq!(rt; column_of(second), Some((b"a".as_slice(), 21)));
-    assert_eq!(rt; column_of(third), Some((b"c".as_slice(), 15)));
+    assert_eq!(rt; column_of(first), Some((b"b".as_slice(), 78)));
+    assert_eq!(rt; column_of(second), Some((b"a".as_slice(), 81)));
+    assert_eq!(rt; column_of(third), Some((b"c".as_slice(), 75)));
     Ok(())
 }
 
 #[test]
 fn a_schema_of_256_tables_is_read(rt: HostRuntime) -> Result<(), Fail> {
     let alloc = rt.alloc();
-    let mut statements = List::new(alloc);
-    for letter in 0..=255 {
-        let name = NameAt {
-            name: Name::new(alloc, &[letter])?,
-            at: 10,
-        };
-        statements.push(Statement::Table {
-            name,
-            columns: names_at(alloc, "a", 20)?,
-            rules: List::new(alloc),
-        })?;
+    let mut text = String::new(alloc);
+    for number in 0..256 {
+        text.push_str(format!(in alloc; "CREATE TABLE t{number} (a INT);")?.as_str())?;
     }
-    let schema = read(&rt, alloc, &statements)?;
+    let schema = schema_of(&rt, alloc, text.as_str())??;
     assert_eq!(rt; schema.relations.len(), 256);
     let Some((_, Relation::Table { table })) = schema.relations.get_index(255) else {
         return Err(Fail::new("no last table"));

@@ -57,6 +57,7 @@ fn named(alloc: Global, token: &Token<'_>) -> Result<NameAt, NoMemory>
     })
 }
 
+/// A name, with its place.
 pub fn name(alloc: Global, tokens: &mut Tokens<'_>) -> Result<NameAt, ReadFault>
     ensures reads { (levels : ℕ) → Reads query.name levels (λ token. plain (t.named token)) tokens.old tokens.old result tokens.new }
     ensures free { CopiesNothing result }

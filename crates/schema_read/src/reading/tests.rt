@@ -108,7 +108,11 @@ fn told(rt: &impl Abort, alloc: Global, text: &[u8]) -> Result<String, NoMemory>
                 what: LimitKind::Copies,
             },
         ) => format!(in alloc; "copies"),
-        Err(ReadFault::Limit { .. }) => format!(in alloc; "another limit"),
+        Err(
+            ReadFault::Limit {
+                what: LimitKind::Entries,
+            },
+        ) => format!(in alloc; "entries"),
         Err(ReadFault::NoMemory) => Err(NoMemory),
     }
 }
@@ -211,7 +215,15 @@ type Row = (
     Option<&'static str>,
 );
 
-const ROWS: [Row; 14] = [
+const ROWS: [Row; 16] = [
+    ("CREATE VIEW v AS SELECT a FROM r", ", r", 31, ";", None),
+    (
+        "CREATE VIEW v AS SELECT a FROM r",
+        ", r",
+        32,
+        ";",
+        Some("entries"),
+    ),
     ("", "CREATE TABLE r (a INT);", 256, "", None),
     ("", "CREATE TABLE r (a INT);", 257, "", Some("relations")),
     (
