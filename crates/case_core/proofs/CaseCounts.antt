@@ -1,10 +1,10 @@
 -- The limits on counts, over the plan of queries: a part of a case keeps or passes them where the case does.
-use Rattle.std.proofs.Common.{◌≡◌, List, ◌++◌, Some, None, refl, subst, arith}
-use Rattle.grammar.specs.Language.{HasFronts, Includes, Language, map_language, seq_language, upto_language}
+use Rattle.std.proofs.Common.{◌≡◌, List, ◌++◌, None, refl, subst}
+use Rattle.grammar.specs.Language.{HasFronts, Includes, Language, map_language, seq_language}
 use Rattle.grammar.specs.Form.{seq}
 use Rattle.grammar.specs.Reading.{Began, Stops, Took}
 use Rattle.grammar.proofs.Begun.{nothing_began}
-use Rattle.grammar.proofs.Forms.{includes_through, repeated_grows}
+use Rattle.grammar.proofs.Forms.{includes_through}
 use Rattle.grammar.proofs.Fronts.{map_fronts, seq_fronts}
 use Rattle.grammar.proofs.Plans.{first_in, map_in, second_in}
 use Rattle.grammar.proofs.Remaining as r
@@ -20,19 +20,19 @@ use Rattle.sql_read.specs.Reads.{Gives, GivesWithin, Refuses, TakesWithin, few_f
 use Rattle.sql_grammar.specs.Kinds.{kind_of}
 use Rattle.sql_grammar.specs.Numbering.{Built, each}
 use Rattle.sql_grammar.specs.Queries.{most_levels}
-use Rattle.sql_grammar.specs.QueryGrammar.{The}
 use Rattle.sql_grammar.proofs.QueryTable.{planned}
+use Rattle.sql_read.proofs.ReadSteps.{same_taken}
 use Rattle.schema_read.specs.Counting.{RefusesCounted, TakesCounted, few_planned, narrowly}
 use Rattle.schema_read.specs.StatementGrammar.{elements, ended_with, statements, statements_with}
 use Rattle.schema_read.specs.StatementLimits as of_statements
 use Rattle.schema_read.specs.StatementLimits.{most_further_columns, most_relations}
 use Rattle.schema_read.specs.Statements.{of_form}
-use Rattle.schema_read.proofs.CountSteps.{Holds, Rest, RestOf, below_within, free, held, holds, part_refused, rest_first, rest_second, same_read, same_taken, statement_refused, took_free}
+use Rattle.schema_read.proofs.CountSteps.{Holds, Rest, RestOf, below_within, free, held, holds, part_refused, rest_first, rest_second, same_read, statement_refused, took_free}
 use Rattle.schema_read.proofs.StatedCounts.{few_within}
 use Rattle.schema_read.proofs.StatementFronts.{few_statement_fronts, form_has_fronts, known_includes, narrow_below, planned_includes}
 use Rattle.schema_read.proofs.Telling.{refused_more, with_columns}
 use Rattle.schema_read.proofs.Unlimited.{itself}
-use Rattle.schema_read.proofs.WholeStatements.{few_back, few_there}
+use Rattle.schema_read.proofs.WholeStatements.{few_back, few_included, few_there}
 use Rattle.case_core.specs.declared.text.CaseText.{CaseText}
 use Rattle.case_core.specs.CaseGrammar as g
 use Rattle.case_core.specs.Cases.{KeepsCounts, cases, cases_behind, within}
@@ -59,10 +59,6 @@ planned_within limit.Copies = free g.case
 behind_in : {L M : OfStatements} {P Q : Language Lexeme (Built Query × Built Query)} → Includes M L → Includes Q P → Includes (map_language g.case_of (seq_language M Q)) (map_language g.case_of (seq_language L P))
 behind_in {L = L} {M = M} {P = P} {Q = Q} m q =
     map_in (seq_language L P) (seq_language M Q) (includes_through (seq_language L P) (seq_language M P) (seq_language M Q) (first_in L M m P) (second_in P Q q M)) g.case_of
-
-few_included : {L M : Language Lexeme (Built Statement)} → Includes M L
-    → Includes (map_language (λ read. each read) (upto_language most_relations M)) (map_language (λ read. each read) (upto_language most_relations L))
-few_included {L = L} {M = M} m = map_in (upto_language most_relations L) (upto_language most_relations M) (repeated_grows L M m (Some most_relations) (Some 0) (Some 0) (omega arith)) (λ read. each read)
 
 pub within_same : (what : LimitKind) → Same (planned_within what) (within what)
 within_same limit.Columns = record {

@@ -1,7 +1,7 @@
 -- With which tokens of a case too much is copied: only with those of the query in which they stand, so with none where no more was copied
 -- than may be.
 use Rattle.std.proofs.Common.{◌≡◌, ◌+◌, ◌≤◌, ℕ, true, false, List, [], ◌∷◌, ◌++◌, ◌⊎◌, None, inl, inr, refl, sym, ◌∙◌, ap, subst, append_assoc, arith}
-use Rattle.grammar.specs.Form.{ref, seq}
+use Rattle.grammar.specs.Form.{seq}
 use Rattle.grammar.specs.Lookahead.{lookahead}
 use Rattle.grammar.proofs.Cut.{Cut, longer, same, shorter, cut, not_nil}
 use Rattle.grammar.proofs.Known.{Known}
@@ -27,7 +27,6 @@ use Rattle.schema_read.specs.StatementGrammar.{statements}
 use Rattle.schema_read.specs.StatementLimits as of_statements
 use Rattle.schema_read.specs.StatementLimits.{IsTooManyBehind, create_view}
 use Rattle.schema_read.proofs.StatementCopies.{behind, stands, too_many_behind}
-use Rattle.schema_read.proofs.StatementFronts.{form_has_fronts}
 use Rattle.schema_read.proofs.StatementKnown.{known}
 use Rattle.schema_read.proofs.Unlimited.{gl}
 use Rattle.case_core.specs.CaseGrammar as g

@@ -19,17 +19,18 @@ use Rattle.sql_grammar.specs.QueryCopies.{most_copies}
 use Rattle.sql_grammar.specs.QueryGrammar.{The}
 use Rattle.sql_read.specs.Reads.{Exceeds, Fails, RefusesWithin, Spends, TakesWithin, few_form, relations_too}
 use Rattle.sql_read.specs.Refusals.{is_left_out_word, refusal, refusal_of}
+use Rattle.sql_read.proofs.ReadSteps.{same_taken}
 use Rattle.schema_read.specs.CopiedStatements.{LastTooMany}
 use Rattle.schema_read.specs.Counting.{IsPlaced}
 use Rattle.schema_read.specs.StatementGrammar.{statements}
 use Rattle.schema_read.specs.Statements.{in_plan, of_form}
-use Rattle.schema_read.proofs.CountSteps.{begun_free, same_taken}
+use Rattle.schema_read.proofs.CountSteps.{begun_free}
 use Rattle.schema_read.proofs.StatementFronts.{form_has_fronts, known_includes, planned_includes}
 use Rattle.case_core.specs.declared.fault.CaseFault.TheVariants.{Read}
 use Rattle.case_core.specs.CaseGrammar as g
 use Rattle.case_core.specs.Cases.{CopiesFew, IsCopyTooMany, cases, shallow_cases, within}
 use Rattle.case_core.specs.ReadingCases.{IsMore, RefusesCase}
-use Rattle.case_core.specs.Refusals.{GoesOnBehind, HasNotTwoQueries, IsLimited, IsUnfinished, PassesCopies, PassesCount, PassesLimits, Says}
+use Rattle.case_core.specs.Refusals.{GoesOnBehind, HasNotTwoQueries, IsLimited, IsUnfinished, PassesCopies, PassesCount, PassesDepth, Says}
 use Rattle.case_core.specs.Wrapping.{of_read}
 use Rattle.case_core.proofs.CaseCopies.{CopiedAll, few_copies}
 use Rattle.case_core.proofs.CaseCounts.{CountsRefused, KeepsAll, few_before, keeps_counts, planned_within, within_same}
@@ -144,7 +145,7 @@ unfinished {before} {after} r few copies x none one =
     }
 
 passes : (copied : ℕ) (tokens taken rest : List Lexeme) (at : ℕ) → tokens ≡ taken ++ rest → shallow_cases.front taken → Passes cases shallow_cases taken rest → ((what : LimitKind) → (within what).front taken) → CopiesFew copied taken → IsNextAt at rest
-    → PassesLimits copied tokens at
+    → PassesDepth copied tokens at
 passes copied tokens taken [] at e f p i c n = absurd p
 passes copied tokens taken (t ∷ rest) at e f p i c n = record {
   taken = taken;
@@ -157,7 +158,7 @@ passes copied tokens taken (t ∷ rest) at e f p i c n = record {
   place = n;
 }
 
-passed : {before after : Cursor} {at : ℕ} → ExceedsAll g.case before at after → KeepsAll before.tokens after.tokens → FewCopied before after → PassesLimits before.copies before.tokens at
+passed : {before after : Cursor} {at : ℕ} → ExceedsAll g.case before at after → KeepsAll before.tokens after.tokens → FewCopied before after → PassesDepth before.copies before.tokens at
 passed {before} {after} {at} r few copies =
     let t = exceeded g.case r in
     passes before.copies before.tokens t.taken after.tokens at t.whole t.begun t.passes (few_before few t.taken t.whole) (copies t.taken t.whole) r.place

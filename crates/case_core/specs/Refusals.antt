@@ -73,8 +73,8 @@ pub record IsUnfinished (copied : ℕ) (tokens : List Lexeme) (fault : Option Le
   pub few_copies : CopiesFew copied taken
   pub refusal : refused ≡ refusal_of end (next rest fault)
 
--- behind tokens within the limits the token at this place passes them
-pub record PassesLimits (copied : ℕ) (tokens : List Lexeme) (at : ℕ) : Type 0 where
+-- behind tokens within the limits the token at this place opens too many levels, or makes a chain or a list too long
+pub record PassesDepth (copied : ℕ) (tokens : List Lexeme) (at : ℕ) : Type 0 where
   pub taken : List Lexeme
   pub token : Lexeme
   pub rest : List Lexeme
@@ -118,7 +118,7 @@ abbrev pub Says : ℕ → List Lexeme → Option LexFault → ℕ → CaseFault 
 Says copied tokens fault end (Read (read_refusal.Lex lexical)) = IsUnfinished copied tokens fault end (read_refusal.Lex lexical)
 Says copied tokens fault end (Read (read_refusal.Unexpected at)) = IsUnfinished copied tokens fault end (read_refusal.Unexpected at)
 Says copied tokens fault end (Read (read_refusal.LeftOut word at)) = IsUnfinished copied tokens fault end (read_refusal.LeftOut word at)
-Says copied tokens fault end (Read (read_refusal.TooDeep at)) = PassesLimits copied tokens at
+Says copied tokens fault end (Read (read_refusal.TooDeep at)) = PassesDepth copied tokens at
 Says copied tokens fault end (Read (read_refusal.Limit what)) = IsLimited copied tokens what
 Says copied tokens fault end (Read read_refusal.NoMemory) = ⊥
 Says copied tokens fault end (Schema refused) = ⊥

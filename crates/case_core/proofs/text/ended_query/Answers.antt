@@ -1,5 +1,4 @@
 use Rattle.std.proofs.Common.{refl}
-use Rattle.case_core.proofs.CaseFewCopies.{no_second_behind}
 use Rattle.sql_grammar.specs.Queries.{most_levels}
 use Rattle.sql_read.proofs.Extending.{◌⨟◌, extends_misses, extends_passes}
 use Rattle.sql_read.proofs.ReadSteps.{before, blocks, exits, first_part, gives, mapped, missed, refuses, second, took_token, whole}
