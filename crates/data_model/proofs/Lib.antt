@@ -1,2 +1,4 @@
 pub mod Sums
+pub mod Points
 pub mod Occurrences
+pub mod Domains

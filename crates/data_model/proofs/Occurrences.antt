@@ -1,6 +1,6 @@
 -- How often a row occurs in what is made of lists of rows.
-use Rattle.std.proofs.Common.{◌≡◌, ℕ, zero, suc, ◌+◌, ◌*◌, ◌<◌, ◌≤◌, Bool, true, false, List, [], ◌∷◌, ◌++◌, map, filter, length, refl, ap, sym, ◌∙◌, arith, inl, inr, cond}
-use Rattle.std.specs.Prelude.{min, if◌then◌else◌, nat_eq, ◌&&◌, ◌||◌, not}
+use Rattle.std.proofs.Common.{◌≡◌, ℕ, zero, suc, ◌+◌, ◌*◌, Bool, true, false, List, [], ◌∷◌, ◌++◌, map, filter, refl, ap, sym, ◌∙◌, arith, inl, inr, cond}
+use Rattle.std.specs.Prelude.{min, if◌then◌else◌, nat_eq, ◌||◌, not}
 use Rattle.std.proofs.lemmas.Bool.{cases_Bool}
 use Rattle.std.proofs.lemmas.Bool.Decides.{nat_tests}
 use Rattle.data_model.specs.Numbers.{one_if, squash, negate}
@@ -38,7 +38,7 @@ pub occurrences-filter : (r : Row) (p : Row → Bool) (rows : List Row) → occu
 occurrences-filter r p [] = omega arith
 occurrences-filter r p (s ∷ rows) = occurrences-cond r (p s) s (filter p rows) ∙ (rw (agree p r s, occurrences-filter r p rows) (omega arith))
 
-squash-more : (m : ℕ) → squash (1 + m) ≡ 1
+pub squash-more : (m : ℕ) → squash (1 + m) ≡ 1
 squash-more m = let e : 1 + m ≡ suc m = omega arith in rw e refl
 
 squash-none : (m k : ℕ) → k ≡ 0 + m → squash k ≡ squash m
@@ -54,7 +54,7 @@ occurrences-distinct r (s ∷ rows) =
     ap (λ m. one_if (same_row s r) + m) (occurrences-filter r (λ t. not (same_row s t)) (distinct rows) ∙ ap (λ m. one_if (not (same_row s r)) * m) (occurrences-distinct r rows))
     ∙ by_first (same_row s r) (occurrences r rows)
 
-or_squash : (b c : Bool) (m : ℕ) → one_if c ≡ squash m → one_if (b || c) ≡ squash (one_if b + m)
+pub or_squash : (b c : Bool) (m : ℕ) → one_if c ≡ squash m → one_if (b || c) ≡ squash (one_if b + m)
 or_squash true c m e = sym (squash-more m)
 or_squash false c m e = e ∙ sym (squash-none m (0 + m) refl)
 
@@ -62,20 +62,25 @@ pub one_if-is_among : (r : Row) (rows : List Row) → one_if (is_among r rows) �
 one_if-is_among r [] = refl
 one_if-is_among r (s ∷ rows) = or_squash (same_row s r) (is_among r rows) (occurrences r rows) (one_if-is_among r rows)
 
+pub negate-one_if : (b : Bool) → negate (one_if b) ≡ one_if (not b)
+negate-one_if true = refl
+negate-one_if false = refl
+
 pub one_if-not : (b : Bool) (m : ℕ) → one_if b ≡ squash m → one_if (not b) ≡ negate m
 one_if-not true zero e = grind arith
 one_if-not true (suc m) e = refl
 one_if-not false zero e = refl
 one_if-not false (suc m) e = grind arith
 
-squash-mul : (b : Bool) (m k : ℕ) → one_if b ≡ squash k → squash (one_if b * m) ≡ squash (m * k)
+-- where b tells whether there are k at all
+pub squash-mul : (b : Bool) (m k : ℕ) → one_if b ≡ squash k → squash (one_if b * m) ≡ squash (m * k)
 squash-mul true m zero e = grind arith
 squash-mul true zero (suc k) e = let p : 1 * 0 ≡ 0 * suc k = omega arith in ap squash p
 squash-mul true (suc m) (suc k) e = let p : suc m * suc k ≡ 1 + (k + m * suc k) = omega arith in let q : 1 * suc m ≡ 1 + m = omega arith in rw (p, q) (squash-more m ∙ sym (squash-more (k + m * suc k)))
 squash-mul false m zero e = let p : 0 * m ≡ m * 0 = omega arith in ap squash p
 squash-mul false m (suc k) e = grind arith
 
-squash-not : (b : Bool) (m k : ℕ) → one_if b ≡ squash k → squash (one_if (not b) * m) ≡ squash m * negate k
+pub squash-not : (b : Bool) (m k : ℕ) → one_if b ≡ squash k → squash (one_if (not b) * m) ≡ squash m * negate k
 squash-not true m zero e = grind arith
 squash-not true m (suc k) e = let p : 0 * m ≡ 0 = omega arith in rw p (omega arith)
 squash-not false m zero e = let p : 1 * m ≡ m = omega arith in rw p (omega arith)

@@ -1,9 +1,9 @@
 -- Sums over values, over rows of a width, and over one row for each of several lists of rows.
-use Rattle.std.proofs.Common.{◌≡◌, ℕ, zero, suc, ◌+◌, ◌*◌, ◌<◌, ◌≤◌, Bool, true, false, List, [], ◌∷◌, ◌++◌, map, length, refl, ap, sym, ◌∙◌, arith, inl, inr}
+use Rattle.std.proofs.Common.{◌≡◌, ℕ, zero, suc, ◌+◌, ◌*◌, ◌<◌, ◌≤◌, Bool, true, false, List, [], ◌∷◌, ◌++◌, map, refl, ap, sym, ◌∙◌, arith, inl, inr}
 use Rattle.std.specs.Prelude.{nat_eq, ◌&&◌}
 use Rattle.std.specs.List.{flat_map}
-use Rattle.std.proofs.Math.Nat.{mul_comm, mul_assoc}
-use Rattle.std.proofs.lemmas.Bool.{cases_Bool}
+use Rattle.std.proofs.Math.Nat.{mul_assoc}
+use Rattle.std.proofs.lemmas.Bool.{cases_Bool, cases_eq}
 use Rattle.std.proofs.lemmas.Bool.Decides.{nat_tests}
 use Rattle.data_model.specs.Lists.{Each}
 use Rattle.data_model.specs.Numbers.{one_if, sum_below}
@@ -18,6 +18,9 @@ pub sum_below-zero : (m : ℕ) → sum_below m (λ v. 0) ≡ 0
 sum_below-zero zero = refl
 sum_below-zero (suc m) = rw (sum_below-zero m) refl
 
+pub sum_below-none : (m : ℕ) (f : ℕ → ℕ) → ((v : ℕ) → v < m → f v ≡ 0) → sum_below m f ≡ 0
+sum_below-none m f e = sum_below-same m f (λ v. 0) e ∙ sum_below-zero m
+
 pub sum_below-add : (m : ℕ) (f g : ℕ → ℕ) → sum_below m (λ v. f v + g v) ≡ sum_below m f + sum_below m g
 sum_below-add zero f g = refl
 sum_below-add (suc m) f g = rw (sum_below-add m f g) (omega arith)
@@ -25,6 +28,19 @@ sum_below-add (suc m) f g = rw (sum_below-add m f g) (omega arith)
 pub sum_below-scale : (m c : ℕ) (f : ℕ → ℕ) → sum_below m (λ v. c * f v) ≡ c * sum_below m f
 sum_below-scale zero c f = grind arith
 sum_below-scale (suc m) c f = rw (sum_below-scale m c f) (omega arith)
+
+-- two sums in either order
+pub sum_below-exchange : (m k : ℕ) (f : ℕ → ℕ → ℕ) → sum_below m (λ v. sum_below k (λ w. f v w)) ≡ sum_below k (λ w. sum_below m (λ v. f v w))
+sum_below-exchange zero k f = sym (sum_below-zero k)
+sum_below-exchange (suc m) k f = omega (arith, sum_below-exchange m k f, sum_below-add k (λ w. sum_below m (λ v. f v w)) (λ w. f m w))
+
+-- a sum is no less than any of its parts
+pub sum_below-part : (m x : ℕ) (f : ℕ → ℕ) → x < m → f x ≤ sum_below m f
+sum_below-part zero x f h = absurd (omega arith)
+sum_below-part (suc m) x f h = elim (cases_eq m x) [
+  | inl here ↦ let k : f m ≡ f x = ap f here in omega (arith, k)
+  | inr other ↦ omega (arith, sum_below-part m x f (omega (arith, other)))
+]
 
 differ : (x v : ℕ) → v < x → nat_eq x v ≡ false
 differ x v h = grind (arith, nat_tests)
@@ -75,6 +91,19 @@ sum_rows-scale n zero c f = refl
 sum_rows-scale n (suc k) c f =
     sum_below-same n _ (λ v. c * sum_rows n k (λ w. f (v ∷ w))) (λ v h. sum_rows-scale n k c (λ w. f (v ∷ w)))
     ∙ sum_below-scale n c (λ v. sum_rows n k (λ w. f (v ∷ w)))
+
+-- two sums over rows in either order
+sum_rows-below : (n k m : ℕ) (f : ℕ → Row → ℕ) → sum_rows n k (λ w. sum_below m (λ v. f v w)) ≡ sum_below m (λ v. sum_rows n k (λ w. f v w))
+sum_rows-below n zero m f = refl
+sum_rows-below n (suc k) m f =
+    sum_below-same n _ (λ x. sum_below m (λ v. sum_rows n k (λ w. f v (x ∷ w)))) (λ x h. sum_rows-below n k m (λ v w. f v (x ∷ w)))
+    ∙ sum_below-exchange n m (λ x v. sum_rows n k (λ w. f v (x ∷ w)))
+
+pub sum_rows-exchange : (n k j : ℕ) (f : Row → Row → ℕ) → sum_rows n k (λ w. sum_rows n j (λ u. f w u)) ≡ sum_rows n j (λ u. sum_rows n k (λ w. f w u))
+sum_rows-exchange n k zero f = refl
+sum_rows-exchange n k (suc j) f =
+    sum_rows-below n k n (λ v w. sum_rows n j (λ u. f w (v ∷ u)))
+    ∙ sum_below-same n _ (λ v. sum_rows n j (λ u. sum_rows n k (λ w. f w (v ∷ u)))) (λ v h. sum_rows-exchange n k j (λ w u. f w (v ∷ u)))
 
 pub one_if-and : (a b : Bool) → one_if (a && b) ≡ one_if a * one_if b
 one_if-and true b = omega arith
