@@ -1,4 +1,5 @@
 pub mod SetOperators
+pub mod Existence
 pub mod Relations
 pub mod SelectStar
 pub mod Meets

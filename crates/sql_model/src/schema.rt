@@ -16,7 +16,7 @@ pub struct Table {
     pub primary: Option<u32>,
 }
 
-/// What a name of FROM may stand for. An index is the view that shows its columns and then its table's primary key.
+/// What a name of FROM may stand for. An index is the view that shows its columns, and then those of its table's primary key that are not yet shown.
 #[derive(Debug, Drop)]
 pub enum Relation {
     Table { table: Table },
