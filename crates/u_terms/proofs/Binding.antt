@@ -9,7 +9,8 @@ use Rattle.data_model.specs.Rows.{Row, occurrences}
 use Rattle.data_model.specs.Reading.{Reading, function_value, predicate_holds, aggregate_value}
 use Rattle.data_model.specs.Database.{Database, table_rows}
 use Rattle.data_model.proofs.Sums.{sum_below-same}
-use Rattle.u_terms.specs.Syntax.{U, Zero, One, Add, Mul, Squash, Not, Sum, Rel, Eq, Pred, Val, Bound, Free, Lit, Fun, Agg, Vals, NoVals, ValThen}
+use Rattle.u_terms.specs.declared.term.U.TheVariants as u
+use Rattle.u_terms.specs.Syntax.{U, Zero, One, Add, Mul, Squash, Not, Sum, Rel, Eq, Pred, Val, Bound, Free, Lit, Fun, Agg, Vals, NoVals, ValThen, constructors}
 use Rattle.u_terms.specs.Places.{IsClosed, IsClosedValue}
 use Rattle.u_terms.specs.Names.{EachName, EachNameValue, EachNameRow, IsUnused, fresh}
 use Rattle.u_terms.specs.Meaning.{put, meaning, value_meaning, row_meaning}
@@ -393,14 +394,19 @@ closed_path-next u first count =
     mapped-mapped same_place (place_for_names (first + 1) count) same_place (place_for_name first) same_place (place_for_names first (suc count)) (λ j k. k ≡ j + count)
     (λ j k i e. closing_place first k i) (λ j k name e. next_name first count j k name e) (λ j k e. omega (arith, e)) u 0 count (omega arith)
 
+-- one more sum is outside the others
+pub sums-more : (count : ℕ) (body : U) → sums (count + 1) body ≡ u.Sum (sums count body)
+sums-more count body = let e : count + 1 ≡ suc count = omega arith in ap (λ (k : ℕ). sums k body) e
+
 mapped-sums : (f g : ℕ → ℕ → Val) (count k : ℕ) (u : U) → mapped f g k (sums count u) ≡ sums count (mapped f g (k + count) u)
-unfolding mapped
+unfolding mapped constructors
 mapped-sums f g zero k u = let e : k + 0 ≡ k = omega arith in rw e refl
 mapped-sums f g (suc count) k u =
     let e : k + 1 + count ≡ k + suc count = omega arith in
     ap (λ body. Sum body) (mapped-sums f g count (k + 1) u ∙ ap (λ m. sums count (mapped f g m u)) e)
 
 pub sums_over_names-path : (u : U) (first count : ℕ) → sums_over_names first count u ≡ sums count (closed_path u first count)
+unfolding constructors
 sums_over_names-path u first zero = sym (closed_path-none u first)
 sums_over_names-path u first (suc count) =
     let under = mapped-sums same_place (place_for_name first) count 0 inner in

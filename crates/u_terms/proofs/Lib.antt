@@ -6,3 +6,8 @@ pub mod FreeNames
 pub mod Mapped
 pub mod Binding
 pub mod Closedness
+pub mod MappedNames
+pub mod MappedSizes
+pub mod OverNames
+pub mod Parts
+pub mod ValuesInDomain

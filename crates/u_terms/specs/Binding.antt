@@ -1,6 +1,7 @@
 -- Opening puts a value at the dangling place 0, and closing puts places for names (Charguéraud, "The Locally Nameless Representation",
 -- Journal of Automated Reasoning 49, 2012). Other dangling places stay as they are: nothing is shifted.
 use Rattle.std.specs.Prelude.{ℕ, zero, suc, ◌+◌, ◌-◌, nat_eq, nat_le, nat_lt, ◌&&◌, if◌then◌else◌, List, [], ◌∷◌, length}
+use Rattle.u_terms.specs.declared.term.U.TheVariants as u
 use Rattle.u_terms.specs.Syntax.{U, Zero, One, Add, Mul, Squash, Not, Sum, Rel, Eq, Pred, Val, Bound, Free, Lit, Fun, Agg, Vals, NoVals, ValThen}
 use Rattle.u_terms.specs.Meaning.{put}
 
@@ -68,13 +69,13 @@ closed_path u first count = mapped same_place (place_for_names first count) 0 u
 -- ---- under binders
 -- sums around a term
 abbrev pub sums : ℕ → U → U
-sums zero u = u
-sums (suc count) u = Sum (sums count u)
+sums zero body = body
+sums (suc count) body = u.Sum (sums count body)
 
 -- the sum over all values of the names from first on, closed one by one: the last name is the innermost
 abbrev pub sums_over_names : ℕ → ℕ → U → U
-sums_over_names first zero u = u
-sums_over_names first (suc count) u = Sum (closed_at (sums_over_names (first + 1) count u) first)
+sums_over_names first zero body = body
+sums_over_names first (suc count) body = u.Sum (closed_at (sums_over_names (first + 1) count body) first)
 
 -- the values of the names, with the names from first on being the values of these places, the innermost first
 abbrev pub put_path : List ℕ → ℕ → List ℕ → List ℕ
