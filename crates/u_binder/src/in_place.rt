@@ -1,7 +1,8 @@
 ghost use Rattle.std.specs.Prelude.{◌≡◌, ◌+◌, ◌^◌, ◌<◌, ◌≤◌, map};
 ghost use Rattle.u_terms.specs.Binding.{closed_at, closed_path, mapped, mapped_value, opened};
 ghost use Rattle.u_terms.specs.Size.{depth, list_depth, value_depth};
-ghost use Rattle.u_binder.specs.Changes.{name_after, new_places, place_after};
+ghost use Rattle.u_binder.specs.Changes as changes;
+ghost use Rattle.u_binder.specs.Changes.{exchanged, name_after, new_places, place_after};
 
 use u_terms::{List, U, Val};
 
@@ -34,6 +35,15 @@ pub fn close_path(u: &mut U, first: u32, count: u32)
     edit(u, Change::Close { first, count }, 0);
 }
 
+/// Exchanges two neighbouring groups of binders around a term: the places of the `inner` nearest binders come after those of the
+/// `outer` next ones, each group in its order. Places further out stay.
+pub fn exchange(u: &mut U, outer: u32, inner: u32)
+    requires shallow { depth u.old + outer + inner < 2 ^ 32 }
+    ensures { u.new ≡ exchanged outer inner u.old }
+{
+    edit(u, Change::Exchange { outer, inner }, 0);
+}
+
 /// An edit of all places and names of a term.
 #[derive(Clone, Copy)]
 enum Change {
@@ -41,6 +51,8 @@ enum Change {
     Open(u32),
     /// Places for this many names from the first on.
     Close { first: u32, count: u32 },
+    /// The places of the nearest binders after those of the next ones.
+    Exchange { outer: u32, inner: u32 },
 }
 
 #[cycle(edit)]
@@ -88,12 +100,32 @@ fn edit_value(value: &mut Val, by: Change, binders: u32)
 }
 
 fn at_place(place: u32, by: Change, binders: u32) -> Val
+    requires fits { binders + new_places by ≤ 2 ^ 32 }
     ensures { result ≡ place_after by binders place }
 {
     match by {
         Change::Open(name) if place == binders => Val::Free(name),
+        Change::Exchange { outer, inner } => Val::Bound(moved(place, binders, outer, inner)),
         _ => Val::Bound(place),
     }
+}
+
+// The place of a value after the groups were exchanged.
+fn moved(place: u32, binders: u32, outer: u32, inner: u32) -> u32
+    requires fits { binders + (outer + inner) ≤ 2 ^ 32 }
+    ensures { result ≡ changes.moved outer inner binders place }
+{
+    if place < binders {
+        return place;
+    }
+    let from_here = place - binders;
+    if from_here < inner {
+        return place + outer;
+    }
+    if from_here - inner < outer {
+        return place - inner;
+    }
+    place
 }
 
 fn at_name(name: u32, by: Change, binders: u32) -> Val
