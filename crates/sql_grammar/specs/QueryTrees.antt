@@ -43,7 +43,7 @@ abbrev pub is_sub : Expr → Bool
 is_sub (s.Sub q at) = true
 is_sub other = false
 
--- What is built is no subquery, whatever the numbers before it.
+-- What is built is no subquery, shown at the first numbers: which numbers stand before it makes no difference.
 abbrev pub not_sub : Built Expr → Bool
 not_sub b = not (is_sub (b.build first_numbers).0)
 
