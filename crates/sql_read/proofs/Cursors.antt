@@ -11,7 +11,8 @@ use Rattle.sql_lex.specs.Classes.{IsToken}
 use Rattle.sql_lex.specs.Tokens.{Lexes}
 use Rattle.sql_lex.proofs.WholeTexts.{slices}
 use Rattle.sql_lex.specs.Bytes.{folded_byte, point}
-use Rattle.sql_read.specs.Cursor.{IsSound, most_tokens, to_come}
+use Rattle.sql_grammar.specs.declared.kinds.Kind.{Kind}
+use Rattle.sql_read.specs.Cursor.{IsKindOf, IsSound, most_tokens, to_come}
 use Rattle.sql_grammar.specs.QueryCopies.{most_copies}
 use Rattle.sql_read.specs.Refusals.{IsLeftOut, is_left_out_word, refusal_at}
 
@@ -90,9 +91,10 @@ pub left_out_there : (token : Lexeme) → is_left_out_word token.kind token.text
 left_out_there token out = (map folded_byte token.text, token.start, rw out refl)
 
 -- ---- what is true of the fields
-pub sound_of : {next : Option (Result Token LexFault)} {lexer held : Lexed} {copies count : ℕ} → to_come next lexer ≡ held → Below (2 ^ 32) held.tokens
-    → count + length held.tokens ≤ most_tokens → copies ≤ most_copies → IsSound next lexer copies count
-sound_of e places counted copied = record {
+pub sound_of : {next : Option (Result Token LexFault)} {kind : Kind} {lexer held : Lexed} {copies count : ℕ} → IsKindOf next kind → to_come next lexer ≡ held → Below (2 ^ 32) held.tokens
+    → count + length held.tokens ≤ most_tokens → copies ≤ most_copies → IsSound next kind lexer copies count
+sound_of kept e places counted copied = record {
+  kept = kept;
   places = subst (λ lexed. Below (2 ^ 32) lexed.tokens) (sym e) places;
   counted = omega (arith, ap (λ lexed. length lexed.tokens) e);
   copied = copied;

@@ -1,9 +1,11 @@
 -- What contracts see of `Tokens`.
-use Rattle.std.specs.Prelude.{ℕ, ◌+◌, ◌≤◌, ◌<◌, ◌^◌, All, List, [], ◌∷◌, length, drop, Option, Some, None, Result, Ok, Err}
+use Rattle.std.specs.Prelude.{ℕ, ◌≡◌, ◌+◌, ◌≤◌, ◌<◌, ◌^◌, All, List, [], ◌∷◌, length, drop, Option, Some, None, Result, Ok, Err}
 use Rattle.sql_model.specs.declared.symbols.Symbols.{Symbols}
 use Rattle.sql_lex.specs.declared.token.Token.{Token}
 use Rattle.sql_lex.specs.declared.token.LexFault.{LexFault}
 use Rattle.sql_lex.specs.Lexemes.{Lexeme, Lexed, lexeme_of, nothing, with_first, fault_alone}
+use Rattle.sql_grammar.specs.declared.kinds.Kind.{Kind}
+use Rattle.sql_grammar.specs.Kinds.{kind_of}
 use Rattle.sql_grammar.specs.Numbering.{Numbers}
 use Rattle.sql_grammar.specs.QueryCopies.{most_copies}
 
@@ -37,6 +39,15 @@ next [] (Some fault) = Err fault
 abbrev pub next_of : Cursor → Result (Option Lexeme) LexFault
 next_of cursor = next cursor.tokens cursor.fault
 
+-- the token that stands next, where it is no fault
+abbrev pub first : List Lexeme → Option Lexeme
+first (token ∷ tokens) = Some token
+first [] = None
+
+abbrev pub lexeme_ahead : Option (Token × Kind) → Option Lexeme
+lexeme_ahead None = None
+lexeme_ahead (Some ahead) = Some (lexeme_of ahead.0)
+
 -- a token that is lent, as contracts see it
 abbrev pub lent : Result (Option Token) LexFault → Result (Option Lexeme) LexFault
 lent (Ok None) = Ok None
@@ -54,8 +65,15 @@ to_come (Some (Err fault)) lexer = fault_alone fault
 abbrev pub most_tokens : ℕ
 most_tokens = 1048576
 
--- what is true of the fields: places fit their type, and so do the counts
-pub record IsSound (next : Option (Result Token LexFault)) (lexer : Lexed) (copies passed : ℕ) : Type 0 where
+-- the kind of the token that stands next, where one does
+abbrev pub IsKindOf : Option (Result Token LexFault) → Kind → Type 0
+IsKindOf (Some (Ok token)) kind = kind ≡ kind_of (lexeme_of token)
+IsKindOf (Some (Err fault)) kind = Unit {0}
+IsKindOf None kind = Unit {0}
+
+-- what is true of the fields: the kind is that of the next token, places fit their type, and so do the counts
+pub record IsSound (next : Option (Result Token LexFault)) (kind : Kind) (lexer : Lexed) (copies passed : ℕ) : Type 0 where
+  pub kept : IsKindOf next kind
   pub places : All (λ token. token.start < 2 ^ 32) (to_come next lexer).tokens
   pub counted : passed + length (to_come next lexer).tokens ≤ most_tokens
   pub copied : copies ≤ most_copies

@@ -1,10 +1,12 @@
 //! The tokens of a text, with what has been numbered and counted on the way.
 ghost use Rattle.std.specs.Prelude.{◌≡◌, ◌≢◌, ◌≤◌, ◌<◌, ◌+◌, ◌^◌, [], drop, length, IfOk, IfSome, None, OnErr, OnOk};
 ghost use Rattle.sql_lex.specs.Lexemes.{lexeme_of};
+ghost use Rattle.sql_read.specs.Cursor.{IsKindOf};
 ghost use Rattle.sql_read.specs.Refusals.{IsLeftOut, refusal_at};
 
 use crate::fault::ReadFault;
 use crate::names::{folded_name, is_left_out_word};
+use sql_grammar::kinds::{Kind, kind_of};
 use sql_lex::{LexFault, Lexer, Token};
 use sql_model::{NoMemory, Symbols};
 use std::alloc::Global;
@@ -25,6 +27,8 @@ pub struct Tokens<'a> {
     lexer: Lexer<'a>,
     /// What the lexer gave last.
     next: Option<Result<Token<'a>, LexFault>>,
+    /// The kind of that token: it is asked for many times. Where no token stands next it says nothing.
+    kind: Kind,
     end: u32,
     symbols: Symbols,
     copies: u32,
@@ -45,12 +49,13 @@ impl<'a> Model for Tokens<'a> {
       passed = t.passed;
     } };
 
-    ghost invariant = { λ t. IsSound t.next t.lexer t.copies t.passed };
+    ghost invariant = { λ t. IsSound t.next t.kind t.lexer t.copies t.passed };
 }
 
 impl<'a> Tokens<'a> {
     ghost use Rattle.sql_lex.specs.Tokens.{Lexes};
-    ghost use Rattle.sql_read.specs.Cursor.{behind_next, lent, most_tokens, next_of, numbers_of};
+    ghost use Rattle.sql_grammar.specs.Kinds.{kind_of};
+    ghost use Rattle.sql_read.specs.Cursor.{behind_next, first, lent, lexeme_ahead, most_tokens, next_of, numbers_of};
     ghost use Rattle.sql_grammar.specs.QueryCopies.{most_copies};
     ghost use Rattle.sql_grammar.specs.Numbering.{first_numbers};
     ghost use Rattle.sql_read.specs.Refusals.{refusal};
@@ -67,9 +72,11 @@ impl<'a> Tokens<'a> {
         let symbols = Symbols::new(alloc)?;
         let mut lexer = Lexer::new(text);
         let next = lexer.next();
+        let kind = kind_ahead(&next);
         Ok(Tokens {
             lexer,
             next,
+            kind,
             end: text.len() as u32,
             symbols,
             copies: 0,
@@ -89,12 +96,25 @@ impl<'a> Tokens<'a> {
         }
     }
 
+    /// The next token and its kind, where no fault stands next.
+    fn ahead(&self) -> Option<(Token<'a>, Kind)>
+        ensures token { lexeme_ahead result ≡ first self.now.tokens }
+        ensures kind { IfSome result (λ ahead. ahead.1 ≡ kind_of (lexeme_of ahead.0)) }
+        ensures place { IfSome result (λ ahead. ahead.0.start < 2 ^ 32) }
+    {
+        match self.next {
+            Some(Ok(token)) => Some((token, self.kind)),
+            _ => None,
+        }
+    }
+
     /// Passes the next token.
     pub fn pass(&mut self)
         requires { self.old.tokens ≢ [] }
         ensures { self.new ≡ behind_next self.old }
     {
         self.next = self.lexer.next();
+        self.kind = kind_ahead(&self.next);
         self.passed += 1;
     }
 
@@ -139,6 +159,16 @@ impl<'a> Tokens<'a> {
             Ok(None) => ReadFault::Unexpected { at: self.end },
             Err(fault) => ReadFault::Lex(fault),
         }
+    }
+}
+
+/// The kind of a token that the lexer gave.
+fn kind_ahead(next: &Option<Result<Token<'_>, LexFault>>) -> Kind
+    ensures { IsKindOf next.now result }
+{
+    match next {
+        Some(Ok(token)) => kind_of(token),
+        _ => Kind::LeftOut,
     }
 }
 

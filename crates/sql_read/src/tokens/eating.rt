@@ -5,7 +5,7 @@ ghost use Rattle.sql_grammar.specs.Kinds.{among, same};
 
 use super::Tokens;
 use crate::fault::ReadFault;
-use sql_grammar::kinds::{Kind, is_among, is_same, kind_of};
+use sql_grammar::kinds::{Kind, is_among, is_same};
 use sql_lex::Token;
 use std::alloc::Global;
 
@@ -22,9 +22,9 @@ impl<'a> Tokens<'a> {
     pub fn sees(&self, kind: Kind) -> bool
         ensures { result ≡ is_next (same kind) self.now.tokens }
     {
-        match self.peek() {
-            Ok(Some(token)) => is_same(kind, kind_of(&token)),
-            _ => false,
+        match self.ahead() {
+            Some((_, ahead)) => is_same(kind, ahead),
+            None => false,
         }
     }
 
@@ -32,9 +32,9 @@ impl<'a> Tokens<'a> {
     pub fn sees_any(&self, kinds: &[Kind]) -> bool
         ensures { result ≡ is_next (among kinds.now) self.now.tokens }
     {
-        match self.peek() {
-            Ok(Some(token)) => is_among(kinds, kind_of(&token)),
-            _ => false,
+        match self.ahead() {
+            Some((_, ahead)) => is_among(kinds, ahead),
+            None => false,
         }
     }
 
@@ -42,8 +42,8 @@ impl<'a> Tokens<'a> {
     pub fn eat(&mut self, kind: Kind) -> Option<Token<'a>>
         ensures { Eats (same kind) self.old result self.new }
     {
-        match self.peek() {
-            Ok(Some(token)) if is_same(kind, kind_of(&token)) => {
+        match self.ahead() {
+            Some((token, ahead)) if is_same(kind, ahead) => {
                 self.pass();
                 Some(token)
             }
@@ -55,8 +55,8 @@ impl<'a> Tokens<'a> {
     pub fn eat_any(&mut self, kinds: &[Kind]) -> Option<Token<'a>>
         ensures { Eats (among kinds.now) self.old result self.new }
     {
-        match self.peek() {
-            Ok(Some(token)) if is_among(kinds, kind_of(&token)) => {
+        match self.ahead() {
+            Some((token, ahead)) if is_among(kinds, ahead) => {
                 self.pass();
                 Some(token)
             }
@@ -88,8 +88,8 @@ impl<'a> Tokens<'a> {
     pub fn eat_within(&mut self, kinds: &[Kind], room: u8) -> Result<Option<Token<'a>>, ReadFault>
         ensures { EatsWithin (among kinds.now) room self.old result self.new }
     {
-        match self.peek() {
-            Ok(Some(token)) if is_among(kinds, kind_of(&token)) => {
+        match self.ahead() {
+            Some((token, ahead)) if is_among(kinds, ahead) => {
                 if room == 0 {
                     return Err(ReadFault::TooDeep { at: place(&token) });
                 }

@@ -7,4 +7,4 @@ invariant_of-result c =
     let next = c.next-next.ensures in
     let held = to_come-next c.new-lexer.result c.next-next.new.self c.next-next.result next.token next.fault next.end in
     let few = no_more_tokens 0 c.args.text.now c.new-lexer.result.tokens c.new-lexer.result.fault c.new-lexer.ensures in
-    sound_of held (below_in_text c.args.text.now c.new-lexer.result.tokens c.new-lexer.result.fault (2 ^ 32) c.new-lexer.ensures (omega arith)) (omega arith) (omega arith)
+    sound_of c.kind_ahead-kind.ensures held (below_in_text c.args.text.now c.new-lexer.result.tokens c.new-lexer.result.fault (2 ^ 32) c.new-lexer.ensures (omega arith)) (omega arith) (omega arith)

@@ -8,7 +8,7 @@ invariant_of-self c =
     let next = c.next-self-inside.ensures in
     let held = to_come-next c.self.inside.lexer c.next-self-inside.new.self c.next-self-inside.result next.token next.fault next.end in
     let p = passed c.self.inside.next c.self.inside.lexer (λ none. c.requires (ap (λ v. v.tokens) (sym c.self.view_is) ∙ none)) in
-    sound_of held
+    sound_of c.kind_ahead-self-inside.ensures held
     (below_held (2 ^ 32) c.self.inside.next c.self.inside.lexer (λ none. c.requires (ap (λ v. v.tokens) (sym c.self.view_is) ∙ none)) c.self.invariant.places)
     (omega (arith, p.fewer, c.self.invariant.counted)) c.self.invariant.copied
 
