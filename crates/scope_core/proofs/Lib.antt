@@ -24,8 +24,10 @@ pub mod NoFault
 pub mod SoundParts
 pub mod Soundness
 pub mod SoundTrees
+pub mod FittingTrees
+pub mod RowsFit
+pub mod AnswersFit
 pub mod PlainTrees
 pub mod Schemas
 pub mod Shapes
-pub mod GroupLaws
 pub mod SymbolLaws

@@ -30,3 +30,13 @@ IsSoundOver relations views tree = IsSound (HasTable relations) (HasView views) 
 abbrev pub AreSoundViews : List (Name × Relation) → List RQuery → List RQuery → Type 0
 AreSoundViews relations earlier [] = Unit {0}
 AreSoundViews relations earlier (tree ∷ rest) = IsSoundOver relations earlier tree × AreSoundViews relations (earlier ++ tree ∷ []) rest
+
+-- ---- whatever base tables there are
+-- a tree that stands by itself is sound, and fits these views
+abbrev pub FitsViews : List RQuery → RQuery → Type 0
+FitsViews views tree = IsSound (λ number wide. Unit {0}) (HasView views) [] tree
+
+-- each of these trees fits the views before it
+abbrev pub DoViewsFit : List RQuery → List RQuery → Type 0
+DoViewsFit earlier [] = Unit {0}
+DoViewsFit earlier (tree ∷ rest) = FitsViews earlier tree × DoViewsFit (earlier ++ tree ∷ []) rest

@@ -12,7 +12,6 @@ pub mod Faults
 pub mod WellFormed
 pub mod FirstFault
 pub mod Plain
-pub mod Grouped
 pub mod Sound
 pub mod Fitting
 pub mod Literals

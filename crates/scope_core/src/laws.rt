@@ -1,6 +1,7 @@
 //! Laws of the definitions, each the contract of a function that does nothing.
-ghost use Rattle.std.specs.Prelude.{◌≡◌, ◌↔◌, ℕ, [], length, map, None};
-ghost use Rattle.data_model.specs.Reading.{Reading};
+ghost use Rattle.std.specs.Prelude.{◌≡◌, ◌↔◌, ◌≤◌, ℕ, List, [], length, map, None};
+ghost use Rattle.data_model.specs.Reading.{IsOn, Reading};
+ghost use Rattle.data_model.specs.Rows.{IsRow};
 ghost use Rattle.data_model.specs.Database.{Database};
 ghost use Rattle.sql_model.specs.declared.schema.Schema.{Schema};
 ghost use Rattle.sql_model.specs.Syntax.{Query};
@@ -14,6 +15,7 @@ ghost use Rattle.scope_core.specs.Literals.{QueryFits, SchemaFits, TreeFits};
 ghost use Rattle.scope_core.specs.Relations.{known_of, tree_of, views_of};
 ghost use Rattle.scope_core.specs.Plain.{is_plain, is_plain_tree};
 ghost use Rattle.scope_core.specs.Scope.{heading};
+ghost use Rattle.scope_core.specs.Syntax.{RQuery};
 ghost use Rattle.scope_core.specs.Width.{width};
 ghost use Rattle.scope_core.specs.WellFormed.{SchemaWellFormed, SchemaWithinWidth, WellFormed, WithinWidth};
 ghost use Rattle.scope_core.specs.FirstFault.{query_fault, schema_fault};
@@ -46,6 +48,15 @@ pub fn resolved_trees_are_sound()
         IsSoundOver schema.relations.entries (views_of schema) (tree_of schema query) }
     ensures wide { (schema : Schema) (query : Query) →
         width (tree_of schema query) ≡ length (output_columns query (map heading (known_of schema))) }
+{}
+
+/// Each row of a sound tree's answer is as wide as the tree and has values of the domain: over every domain, under every reading and on
+/// every database that meets the schema.
+#[tactic(auto, using(crate::proofs::AnswersFit::laws))]
+pub fn rows_are_of_their_width()
+    ensures { (schema : Schema) (views : List RQuery) (tree : RQuery) (n : ℕ) (reading : Reading) (db : Database) →
+        AreSoundViews schema.relations.entries [] views → IsSoundOver schema.relations.entries views tree →
+        1 ≤ n → IsOn n reading → Meets schema n db → Each (IsRow n (width tree)) (resolved_answer n reading db views tree) }
 {}
 
 /// The literals of trees are those of their queries: trees fit symbols where the queries do.

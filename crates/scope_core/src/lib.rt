@@ -8,7 +8,6 @@ mod catalog;
 mod checks;
 mod column;
 pub mod fault;
-mod grouped;
 mod grouping;
 mod heading;
 pub mod laws;

@@ -1,17 +1,15 @@
 //! Resolved queries, and the views of a schema.
 ghost use Rattle.std.specs.Prelude.{◌≡◌, [], IfErr, IfOk, option_map, slice_get};
 ghost use Rattle.scope_core.specs.declared.fault.ScopeFault.TheVariants as fault;
-ghost use Rattle.scope_core.specs.Grouped.{is_grouped, views_group};
+ghost use Rattle.scope_core.specs.Fitting.{DoViewsFit};
 ghost use Rattle.scope_core.specs.Plain.{is_plain_tree};
 ghost use Rattle.scope_core.specs.Sound.{IsSoundAlone};
 ghost use Rattle.scope_core.specs.Width.{width};
 
 use crate::fault::{ScopeFault, number};
-use crate::grouped::groups;
 use crate::shape::{is_plain, width};
 use crate::tree::RQuery;
 use plain_data::List;
-use std::alloc::Global;
 use std::marker::Model;
 
 /// A resolved query.
@@ -74,26 +72,18 @@ impl Resolved {
     {
         self.plain
     }
-
-    /// Whether some block of the tree, or of a view that it reaches, has groups.
-    pub fn grouped(&self, views: &Views) -> bool
-        ensures { result ≡ is_grouped views.now self.now }
-    {
-        groups(&self.tree, views.grouped.as_slice())
-    }
 }
 
-/// The resolved queries of a schema's views, in order of declaration, and which of them group rows.
+/// The resolved queries of a schema's views, in order of declaration. Each is over the views before it.
 #[derive(Debug, Drop)]
 pub struct Views {
     trees: List<Resolved>,
-    grouped: List<bool>,
 }
 
 impl Model for Views {
-    ghost use Rattle.std.specs.Prelude.{◌≡◌, List, []};
+    ghost use Rattle.std.specs.Prelude.{List, []};
     ghost use Rattle.std.specs.Coded.{codes};
-    ghost use Rattle.scope_core.specs.Grouped.{views_group};
+    ghost use Rattle.scope_core.specs.Fitting.{DoViewsFit};
     ghost use Rattle.scope_core.specs.Syntax.{RQuery as Tree};
     ghost use Rattle.scope_core.specs.contracts.tree.RQuery as query;
 
@@ -103,19 +93,15 @@ impl Model for Views {
 
     ghost view = { λ views. views.trees };
 
-    ghost invariant = { λ views. views.grouped ≡ views_group [] views.trees };
+    ghost invariant = { λ views. DoViewsFit [] views.trees };
 }
 
 impl Views {
-    pub(crate) fn new(alloc: Global, trees: List<Resolved>) -> Result<Views, ScopeFault>
-        ensures value { IfOk result (λ views. views ≡ trees) }
-        ensures err { IfErr result (λ f. f ≡ fault.NoMemory) }
+    pub(crate) fn new(trees: List<Resolved>) -> Views
+        requires { DoViewsFit [] trees }
+        ensures { result ≡ trees }
     {
-        let grouped = views_group(alloc, trees.as_slice())?;
-        Ok(Views {
-            trees,
-            grouped: List::from_vec(grouped),
-        })
+        Views { trees }
     }
 
     /// The view at this place, and none past the last.
@@ -124,17 +110,12 @@ impl Views {
     {
         self.trees.as_slice().get(place as usize)
     }
-}
 
-/// Which views group rows.
-fn views_group(alloc: Global, trees: &[Resolved]) -> Result<Vec<bool>, ScopeFault>
-    ensures value { IfOk result (λ grouped. grouped.items ≡ views_group [] trees.now) }
-    ensures err { IfErr result (λ f. f ≡ fault.NoMemory) }
-{
-    let mut grouped = Vec::with_capacity(alloc, trees.len())?;
-    for view in trees {
-        let groups = groups(view.tree(), grouped.as_slice());
-        grouped.push(groups)?;
+    /// All views, lent.
+    pub fn as_slice(&self) -> &[Resolved]
+        ensures value { result.now ≡ self.now }
+        ensures fit { DoViewsFit [] self.now }
+    {
+        self.trees.as_slice()
     }
-    Ok(grouped)
 }

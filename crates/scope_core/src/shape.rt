@@ -43,7 +43,7 @@ fn is_plain_block(block: &RBlock) -> bool
 }
 
 /// Whether a grouping makes groups.
-pub fn is_grouping(grouping: &Grouping) -> bool
+fn is_grouping(grouping: &Grouping) -> bool
     ensures { result ≡ is_grouping grouping.now }
 {
     match grouping {

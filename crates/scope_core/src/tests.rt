@@ -8,40 +8,32 @@ use sql_model::{Expr, Query, SetOp};
 use std::alloc::Global;
 use std::test::Fail;
 
-/// The parts of a query, its width, whether it is plain, and whether it groups rows.
-const RESOLVED: [(&str, u32, bool, bool); 9] = [
+/// The parts of a query, its width, and whether it is plain.
+const RESOLVED: [(&str, u32, bool); 9] = [
     // SELECT * FROM r
-    ("star@7 from:r@14 select", 2, true, false),
+    ("star@7 from:r@14 select", 2, true),
     // SELECT a, 1 FROM r WHERE a = b
     (
         "col:a@7 item one@10 item from:r@17 col:a@25 col:b@29 eq@25 where select",
         2,
         true,
-        false,
     ),
     // SELECT b FROM v
-    ("col:b@7 item from:v@14 select", 1, false, false),
+    ("col:b@7 item from:v@14 select", 1, false),
     // SELECT DISTINCT a FROM s
-    ("distinct col:a@16 item from:s@23 select", 1, false, false),
+    ("distinct col:a@16 item from:s@23 select", 1, false),
     // SELECT r.a, MAX(b) FROM r GROUP BY a HAVING COUNT(*) = 1
     (
         "col:r.a@7 item col:b@16 max@12 item from:r@24 col:a@35 group count@44 one@55 eq@44 having select",
         2,
         false,
-        true,
     ),
     // SELECT a FROM r GROUP BY r.a
-    (
-        "col:a@7 item from:r@14 col:r.a@25 group select",
-        1,
-        false,
-        true,
-    ),
+    ("col:a@7 item from:r@14 col:r.a@25 group select", 1, false),
     // SELECT * FROM s UNION SELECT * FROM s
     (
         "star@7 from:s@14 select star@29 from:s@36 select union@16",
         1,
-        false,
         false,
     ),
     // SELECT x.* FROM r x WHERE (SELECT COUNT(*) FROM s WHERE a = x.b) = 1
@@ -49,10 +41,9 @@ const RESOLVED: [(&str, u32, bool, bool); 9] = [
         "count@34 item from:s@48 col:a@56 col:x.b@60 eq@56 where select star:x@7 from:r.x@16 sub@26 one@67 eq@26 where select",
         2,
         false,
-        true,
     ),
     // SELECT a FROM w, where w groups rows
-    ("col:a item from:w select", 1, false, true),
+    ("col:a item from:w select", 1, false),
 ];
 
 #[test]
@@ -62,12 +53,11 @@ fn resolved_queries_tell_what_they_are(rt: HostRuntime) -> Result<(), Fail> {
     let views = resolve_views(alloc, &schema)?;
     assert_eq!(rt; views.get(0).map(|view| view.width()), Some(1));
     assert!(rt; views.get(2).is_none());
-    for (parts, width, plain, grouped) in RESOLVED {
+    for (parts, width, plain) in RESOLVED {
         let query = built(alloc, parts)?;
         let resolved = resolve(alloc, &schema, &views, &query)?;
         assert_eq!(rt; resolved.width(), width);
         assert_eq!(rt; resolved.plain(), plain);
-        assert_eq!(rt; resolved.grouped(&views), grouped);
     }
     Ok(())
 }

@@ -7,7 +7,7 @@ ghost use Rattle.scope_core.specs.declared.fault.ScopeFault.TheVariants as fault
 ghost use Rattle.scope_core.specs.Answer.{IsCause};
 ghost use Rattle.scope_core.specs.Faults.{name_twice};
 ghost use Rattle.scope_core.specs.FirstFault.{query_fault, relation_fault, schema_fault};
-ghost use Rattle.scope_core.specs.Fitting.{AreSoundViews, IsSoundOver};
+ghost use Rattle.scope_core.specs.Fitting.{AreSoundViews, FitsViews, IsSoundOver};
 ghost use Rattle.scope_core.specs.Lent.{relations_of};
 ghost use Rattle.scope_core.specs.Literals.{QueryFits, SchemaFits, TreeFits};
 ghost use Rattle.scope_core.specs.Parts.{fault_within, name_twice_fault};
@@ -42,8 +42,7 @@ pub fn resolve_views(alloc: Global, schema: &Schema) -> Result<Views, ScopeFault
     for (name, relation) in schema.relations.iter() {
         add_relation(&mut known, &mut trees, alloc, name, relation)?;
     }
-    let views = Views::new(alloc, List::from_vec(trees))?;
-    Ok(views)
+    Ok(Views::new(List::from_vec(trees)))
 }
 
 /// The resolved query, over the relations of a schema. `views` are what `resolve_views` answers for the schema.
@@ -59,6 +58,7 @@ pub fn resolve<'a>(
     ensures well_formed { OnOk result (WellFormed schema.now query.now × WithinWidth schema.now query.now) }
     ensures value { IfOk result (λ tree. Resolves schema.now query.now tree) }
     ensures sound { IfOk result (λ tree. IsSoundOver schema.now.relations.entries views.now tree) }
+    ensures fits { IfOk result (λ tree. FitsViews views.now tree) }
     ensures symbols { IfOk result (λ tree. (count : ℕ) → QueryFits count query.now → TreeFits count tree) }
     ensures wide { IfOk result (λ tree. width tree ≡ length (output_columns query.now (map heading (known_of schema.now)))) }
     ensures plain { IfOk result (λ tree. is_plain_tree tree ≡ is_plain query.now (known_of schema.now)) }

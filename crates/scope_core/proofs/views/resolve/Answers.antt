@@ -1,5 +1,6 @@
 use Rattle.std.proofs.Common.{ap, ◌∙◌}
 use Rattle.scope_core.specs.Lent.{relations_of}
+use Rattle.scope_core.proofs.FittingTrees.{call-fits}
 use Rattle.scope_core.proofs.Schemas.{call-plain, call-sound, call-symbols, call-value, call-well, call-wide, handed-cause}
 use Rattle.scope_core.proofs.views.resolve.Goals as goal
 
@@ -17,6 +18,12 @@ pub returns-clause-sound : goal.returns-clause-sound
 returns-clause-sound c =
     call-sound c.args.schema.now c.args.query.now _ c.resolve_over.result (ap (λ ks. relations_of ks) c.as_slice.ensures.value ∙ c.in_ok-known.ensures.value)
     c.resolve_over.ensures.fine c.resolve_over.ensures.value c.requires.well_formed c.args.views.now c.requires.views
+
+pub returns-clause-fits : goal.returns-clause-fits
+returns-clause-fits c =
+    call-fits c.args.schema.now.relations.entries c.args.views.now c.resolve_over.result
+    (call-sound c.args.schema.now c.args.query.now _ c.resolve_over.result (ap (λ ks. relations_of ks) c.as_slice.ensures.value ∙ c.in_ok-known.ensures.value)
+    c.resolve_over.ensures.fine c.resolve_over.ensures.value c.requires.well_formed c.args.views.now c.requires.views)
 
 pub returns-clause-wide : goal.returns-clause-wide
 returns-clause-wide c =

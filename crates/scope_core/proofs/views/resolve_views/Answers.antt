@@ -2,10 +2,11 @@ use Rattle.std.proofs.Common.{◌≡◌, ◌∷◌, [], None, ap, sym, subst, �
 use Rattle.data_model.specs.Lists.{Each}
 use Rattle.scope_core.specs.Answer.{IsCause}
 use Rattle.scope_core.specs.FirstFault.{relations_fault, schema_fault}
-use Rattle.scope_core.specs.Fitting.{AreSoundViews}
+use Rattle.scope_core.specs.Fitting.{AreSoundViews, DoViewsFit}
 use Rattle.scope_core.specs.Lent.{relations_of}
 use Rattle.scope_core.specs.Literals.{TreeFits}
 use Rattle.scope_core.specs.Relations.{view_trees, views_of}
+use Rattle.scope_core.proofs.FittingTrees as fitting
 use Rattle.scope_core.proofs.NoFault.{schema_fault-none}
 use Rattle.scope_core.proofs.SoundTrees.{views-sound}
 use Rattle.scope_core.proofs.SymbolLaws.{views-fit}
@@ -36,11 +37,21 @@ returns-clause-sound c =
     let none : schema_fault c.args.schema.now ≡ None = sym c.loop-name.invariant.2 ∙ ap (λ rs. relations_fault K trees rs) c.in-None.ensures.steps.0 in
     let well = (schema_fault-none c.args.schema.now).0 none in
     let all : trees ≡ views_of c.args.schema.now = sym (ap (λ rs. view_trees K trees rs) c.in-None.ensures.steps.0) ∙ c.loop-name.invariant.3 in
-    subst (λ vs. AreSoundViews c.args.schema.now.relations.entries [] vs) (sym (c.in_ok-views.ensures.value ∙ (c.from_vec.ensures ∙ all))) (views-sound c.args.schema.now well.0)
+    subst (λ vs. AreSoundViews c.args.schema.now.relations.entries [] vs) (sym (c.new.ensures ∙ (c.from_vec.ensures ∙ all))) (views-sound c.args.schema.now well.0)
 
 pub returns-clause-symbols : goal.returns-clause-symbols
 returns-clause-symbols c =
     let K = relations_of c.loop-name.known.items in
     let trees = c.loop-name.trees.items in
     let all : trees ≡ views_of c.args.schema.now = sym (ap (λ rs. view_trees K trees rs) c.in-None.ensures.steps.0) ∙ c.loop-name.invariant.3 in
-    λ count fits. subst (λ vs. Each (TreeFits count) vs) (sym (c.in_ok-views.ensures.value ∙ (c.from_vec.ensures ∙ all))) (views-fit count c.args.schema.now fits)
+    λ count fits. subst (λ vs. Each (TreeFits count) vs) (sym (c.new.ensures ∙ (c.from_vec.ensures ∙ all))) (views-fit count c.args.schema.now fits)
+
+pub new-requires : goal.new-requires
+new-requires c =
+    let K = relations_of c.loop-name.known.items in
+    let trees = c.loop-name.trees.items in
+    let none : schema_fault c.args.schema.now ≡ None = sym c.loop-name.invariant.2 ∙ ap (λ rs. relations_fault K trees rs) c.in-None.ensures.steps.0 in
+    let well = (schema_fault-none c.args.schema.now).0 none in
+    let all : trees ≡ views_of c.args.schema.now = sym (ap (λ rs. view_trees K trees rs) c.in-None.ensures.steps.0) ∙ c.loop-name.invariant.3 in
+    subst (λ vs. DoViewsFit [] vs) (sym (c.from_vec.ensures ∙ all))
+    (fitting.views-fit c.args.schema.now.relations.entries [] (views_of c.args.schema.now) (views-sound c.args.schema.now well.0))
