@@ -1,11 +1,12 @@
 -- The rows of the views and of a tree over them, on a database that meets the schema.
-use Rattle.std.proofs.Common.{◌≡◌, ℕ, suc, ◌<◌, ◌≤◌, Bool, true, false, List, [], ◌∷◌, ◌++◌, map, length, get_or, refl, ap, sym, subst, ◌∙◌, arith, inl, inr, append_assoc}
+use Rattle.std.proofs.Common.{◌≡◌, ℕ, suc, ◌<◌, ◌≤◌, List, [], ◌∷◌, ◌++◌, map, length, get_or, refl, ap, sym, subst, ◌∙◌, arith, inl, inr, append_assoc}
 use Rattle.std.proofs.lemmas.List.{append-nil}
-use Rattle.std.specs.Prelude.{◌&&◌, nat_eq, if◌then◌else◌, filter_map}
+use Rattle.std.specs.Prelude.{filter_map}
 use Rattle.data_model.specs.Lists.{Each}
-use Rattle.data_model.specs.Rows.{Row, IsRow, AllBelow, same_row}
-use Rattle.data_model.specs.Reading.{Reading, IsOn, LiteralEntry, FunctionEntry, AggregateEntry, first_literal, first_function, first_aggregate, literal_value, function_value, aggregate_value}
+use Rattle.data_model.specs.Rows.{Row, IsRow, AllBelow}
+use Rattle.data_model.specs.Reading.{Reading, IsOn, literal_value, function_value, aggregate_value}
 use Rattle.data_model.specs.Database.{Database, TableConstraints, table_rows}
+use Rattle.data_model.proofs.Domains.{literal_value-below, function_value-below, aggregate_value-below}
 use Rattle.sql_model.specs.declared.schema.Schema.{Schema}
 use Rattle.sql_model.specs.declared.schema.Relation.TheVariants as relation
 use Rattle.sql_model.specs.Syntax.{Name}
@@ -26,24 +27,6 @@ pub record IsBase (n : ℕ) (reading : Reading) (db : Database) (IsTable : ℕ �
   pub agg : (k : ℕ) (vs : List ℕ) → aggregate_value reading k vs < n
   pub table : (number wide : ℕ) → IsTable number wide → Each (IsRow n wide) (table_rows db number)
 
-if-small : (n : ℕ) (b : Bool) (x y : ℕ) → x < n → y < n → (if b then x else y) < n
-if-small n true x y h k = h
-if-small n false x y h k = k
-
-literal-small : (n : ℕ) → 1 ≤ n → (es : List LiteralEntry) → Each (λ (e : LiteralEntry). e.value < n) es → (k : ℕ) → first_literal es k < n
-literal-small n some [] h k = omega (arith, some)
-literal-small n some (e ∷ es) h k = if-small n (nat_eq e.literal k) e.value (first_literal es k) h.0 (literal-small n some es h.1 k)
-
-function-small : (n : ℕ) → 1 ≤ n → (es : List FunctionEntry) → Each (λ (e : FunctionEntry). AllBelow n e.arguments × (e.value < n)) es
-    → (k : ℕ) (vs : List ℕ) → first_function es k vs < n
-function-small n some [] h k vs = omega (arith, some)
-function-small n some (e ∷ es) h k vs = if-small n (nat_eq e.symbol k && same_row e.arguments vs) e.value (first_function es k vs) h.0.1 (function-small n some es h.1 k vs)
-
-aggregate-small : (n : ℕ) → 1 ≤ n → (es : List AggregateEntry) → Each (λ (e : AggregateEntry). (length e.counts ≡ n) × (e.value < n)) es
-    → (k : ℕ) (vs : List ℕ) → first_aggregate es k vs < n
-aggregate-small n some [] h k vs = omega (arith, some)
-aggregate-small n some (e ∷ es) h k vs = if-small n (nat_eq e.aggregate k && same_row e.counts vs) e.value (first_aggregate es k vs) h.0.1 (aggregate-small n some es h.1 k vs)
-
 rows-are : (n wide : ℕ) (rs : List Row) → Each (λ (row : Row). length row ≡ wide) rs → Each (AllBelow n) rs → Each (IsRow n wide) rs
 rows-are n wide [] h k = tt
 rows-are n wide (r ∷ rs) h k = (record { long = h.0; small = k.0 }, rows-are n wide rs h.1 k.1)
@@ -62,9 +45,9 @@ tables-are n db ((name, relation.View query at) ∷ rest) number wide h k (inr l
 
 pub base-of : (schema : Schema) (n : ℕ) (reading : Reading) (db : Database) → 1 ≤ n → IsOn n reading → Meets schema n db → IsBase n reading db (HasTable schema.relations.entries)
 base-of schema n reading db some on meets = record {
-  lit = λ k. literal-small n some reading.literals on.literals k;
-  fun = λ k vs. function-small n some reading.functions on.functions k vs;
-  agg = λ k vs. aggregate-small n some reading.aggregates on.aggregates k vs;
+  lit = literal_value-below n some reading on;
+  fun = function_value-below n some reading on;
+  agg = aggregate_value-below n some reading on;
   table = λ number wide has. tables-are n db schema.relations.entries number wide meets.widths meets.values has;
 }
 
