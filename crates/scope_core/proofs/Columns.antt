@@ -3,9 +3,7 @@ use Rattle.std.proofs.Common.{◌≡◌, ℕ, suc, ◌+◌, ◌<◌, length, dro
 use Rattle.std.specs.Prelude.{◌&&◌, if◌then◌else◌, is_some, is_none}
 use Rattle.std.specs.Prelude.{find}
 use Rattle.std.specs.List.{list_any}
-use Rattle.sql_model.specs.Syntax as n
 use Rattle.sql_model.specs.Syntax.{Name}
-use Rattle.sql_model.specs.declared.tree.Expr.TheVariants as expr
 use Rattle.sql_model.specs.Columns.{same_name}
 use Rattle.sql_model.specs.Headings.{Heading}
 use Rattle.scope_core.proofs.Booleans.{no}
@@ -13,7 +11,6 @@ use Rattle.std.proofs.Math.Seq.{drop-cons}
 use Rattle.sql_model.specs.Frames.{ColumnName}
 use Rattle.scope_core.specs.declared.tree.RVal.TheVariants as v
 use Rattle.scope_core.specs.Resolving.{entry_columns}
-use Rattle.sql_model.specs.Compute.{everything}
 use Rattle.scope_core.specs.declared.fault.ScopeFault.{ScopeFault}
 use Rattle.scope_core.specs.declared.fault.ScopeFault.TheVariants as fault
 use Rattle.scope_core.specs.declared.fault.ScopeCode.{ScopeCode}
@@ -21,7 +18,7 @@ use Rattle.scope_core.specs.declared.fault.ScopeCode.TheVariants as code
 use Rattle.scope_core.specs.Scope.{Known, Level, Levels, headings_here, sight_here}
 use Rattle.scope_core.specs.Sites.{ASource, AnAlias, AStar, AnAliasStar, AColumn}
 use Rattle.scope_core.specs.Faults.{block_meant, is_here, is_in_group, is_member, lacks_alias, lacks_column, names_two, not_grouped}
-use Rattle.scope_core.specs.FirstFault.{fault_at, place_of, refused}
+use Rattle.scope_core.specs.FirstFault.{fault_at, refused}
 use Rattle.scope_core.specs.Answer.{IsCause, found_code}
 
 -- ---- causes
@@ -88,29 +85,6 @@ pub cause-alias_twice : (alias : Name) (before : List Name) (at : ℕ) (f : Scop
 cause-alias_twice alias before at f e is = cause-is f (fault_at (AnAlias alias before at)) (rw (e, is) refl)
 
 pub ruleset names = (causes, cause-unknown_table, cause-alias_twice)
-
--- ---- places
-pub place-Sub : (query : n.Query) (at : ℕ) → place_of (expr.Sub query at) ≡ at
-unfolding everything
-place-Sub query at = refl
-
-pub place-Eq : (left right : n.Expr) (at : ℕ) → place_of (expr.Eq left right at) ≡ at
-unfolding everything
-place-Eq left right at = refl
-
-pub place-Not : (part : n.Expr) (at : ℕ) → place_of (expr.Not part at) ≡ at
-unfolding everything
-place-Not part at = refl
-
-pub place-Exists : (query : n.Query) (at : ℕ) → place_of (expr.Exists query at) ≡ at
-unfolding everything
-place-Exists query at = refl
-
-pub place-In : (left : n.Expr) (query : n.Query) (at in_at : ℕ) → place_of (expr.In left query at in_at) ≡ at
-unfolding everything
-place-In left query at in_at = refl
-
-pub ruleset places = (place-Sub, place-Eq, place-Not, place-Exists, place-In)
 
 -- ---- stars
 pub cause-star_in_group : (levels : Levels) (at : ℕ) (f : ScopeFault) → is_in_group (sight_here levels) ≡ true

@@ -11,7 +11,7 @@ use Rattle.scope_core.specs.declared.fault.ScopeCode.TheVariants as code
 use Rattle.scope_core.specs.declared.tree.RCond.TheVariants as c
 use Rattle.scope_core.specs.Answer.{IsCause}
 use Rattle.scope_core.specs.Compute.{resolving}
-use Rattle.scope_core.specs.FirstFault.{fault_at, place_of}
+use Rattle.scope_core.specs.FirstFault.{fault_at}
 use Rattle.scope_core.specs.Lent.{row_of}
 use Rattle.scope_core.specs.Parts.{IsSingle, value_fault, values_fault, truth_fault, truths_fault, fault_within, block_fault, source_fault, entries_fault, on_fault, item_fault, items_fault, values_listed, conjuncts_listed, conditions_listed, entries_listed, on_listed, items_listed}
 use Rattle.scope_core.specs.Resolving.{conjunction, conjuncts, resolved, resolved_value}
@@ -71,7 +71,7 @@ module _ (known : List Known) (levels : Levels) where
   unfolding resolving value_fault values_fault truth_fault truths_fault fault_within block_fault source_fault entries_fault on_fault item_fault items_fault values_listed conjuncts_listed conditions_listed entries_listed on_listed items_listed
   truth-Sub query at = refl
 
-  pub truth-Col : (qual : Option n.Name) (qual_at : ℕ) (name : n.Name) (at : ℕ) → truth_fault known levels (expr.Col qual qual_at name at) ≡ Some (fault.Refused code.NotTruth (place_of (expr.Col qual qual_at name at)) 0 0)
+  pub truth-Col : (qual : Option n.Name) (qual_at : ℕ) (name : n.Name) (at : ℕ) → truth_fault known levels (expr.Col qual qual_at name at) ≡ Some (fault.Refused code.NotTruth at 0 0)
   unfolding resolving value_fault values_fault truth_fault truths_fault fault_within block_fault source_fault entries_fault on_fault item_fault items_fault values_listed conjuncts_listed conditions_listed entries_listed on_listed items_listed
   truth-Col qual qual_at name at = refl
 
@@ -108,7 +108,7 @@ module _ (known : List Known) (levels : Levels) where
   pub cause-truth-Sub : (f : ScopeFault) (query : n.Query) (at : ℕ) → f ≡ fault.Refused code.NotTruth at 0 0 → IsCause f (truth_fault known levels (expr.Sub query at))
   cause-truth-Sub f query at h0 = cause-is f _ (truth-Sub query at ∙ ap (λ x. Some x) (sym h0))
 
-  pub cause-truth-Col : (f : ScopeFault) (qual : Option n.Name) (qual_at : ℕ) (name : n.Name) (at : ℕ) → f ≡ fault.Refused code.NotTruth (place_of (expr.Col qual qual_at name at)) 0 0 → IsCause f (truth_fault known levels (expr.Col qual qual_at name at))
+  pub cause-truth-Col : (f : ScopeFault) (qual : Option n.Name) (qual_at : ℕ) (name : n.Name) (at : ℕ) → f ≡ fault.Refused code.NotTruth at 0 0 → IsCause f (truth_fault known levels (expr.Col qual qual_at name at))
   cause-truth-Col f qual qual_at name at h0 = cause-is f _ (truth-Col qual qual_at name at ∙ ap (λ x. Some x) (sym h0))
 
   pub conjuncts-Pred : (symbol : ℕ) (args : List n.Expr) (at : ℕ) → conjuncts (expr.Pred symbol args at) known levels ≡ c.Pred symbol (values_listed known levels args) ∷ []

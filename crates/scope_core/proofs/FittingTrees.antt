@@ -29,9 +29,9 @@ module _ (IsTable IsTable' IsView IsView' : ℕ → ℕ → Type 0) (table : (nu
     scalar-too : (b : RBlock) (seen : SeenBlocks) → IsSoundScalar IsTable IsView seen b → IsSoundScalar IsTable' IsView' seen b
     scalar-too (Select is_distinct s entries s' conds One NoCondition s'' items) seen h =
         (entries-too entries seen h.0, conditions-too conds _ h.1, aggregate-too items _ h.2)
-    scalar-too (Select is_distinct s entries s' conds One (ACondition having) s'' items) seen h = absurd h
-    scalar-too (Select is_distinct s entries s' conds Plain having s'' items) seen h = absurd h
-    scalar-too (Select is_distinct s entries s' conds (Keys columns) having s'' items) seen h = absurd h
+    scalar-too (Select is_distinct s _ s' conds One (ACondition having) s'' items) seen h = absurd h
+    scalar-too (Select is_distinct s _ s' conds Plain having s'' items) seen h = absurd h
+    scalar-too (Select is_distinct s _ s' conds (Keys columns) having s'' items) seen h = absurd h
 
     aggregate-too : {m : _} (es : Values m) (seen : SeenBlocks) → IsSoundAggregate IsTable IsView seen es → IsSoundAggregate IsTable' IsView' seen es
     aggregate-too NoValues seen h = absurd h

@@ -132,9 +132,9 @@ module _ (n : ℕ) (w : World) (IsTable IsView : ℕ → ℕ → Type 0) (ok : I
     pub scalar-fit : (b : RBlock) (shape : SeenBlocks) (env : Environment) → IsSoundScalar IsTable IsView shape b → only_value (block_rows b w env) < n
     scalar-fit (Select true s entries s' conds One NoCondition s'' items) shape env h = first-fit items (SeenGroup 0 (widths entries) ∷ shape) _ h.2
     scalar-fit (Select false s entries s' conds One NoCondition s'' items) shape env h = first-fit items (SeenGroup 0 (widths entries) ∷ shape) _ h.2
-    scalar-fit (Select is_distinct s entries s' conds One (ACondition having) s'' items) shape env h = absurd h
-    scalar-fit (Select is_distinct s entries s' conds Plain having s'' items) shape env h = absurd h
-    scalar-fit (Select is_distinct s entries s' conds (Keys columns) having s'' items) shape env h = absurd h
+    scalar-fit (Select is_distinct s _ s' conds One (ACondition having) s'' items) shape env h = absurd h
+    scalar-fit (Select is_distinct s _ s' conds Plain having s'' items) shape env h = absurd h
+    scalar-fit (Select is_distinct s _ s' conds (Keys columns) having s'' items) shape env h = absurd h
 
     pub first-fit : {m : _} (es : Values m) (shape : SeenBlocks) (env : Environment) → IsSoundAggregate IsTable IsView shape es → get_or (values es w env) 0 0 < n
     first-fit NoValues shape env h = absurd h

@@ -66,7 +66,7 @@ place_at_site code.UnknownAlias (AGroupColumn expr levels) = place_of expr
 place_at_site c (AGroupColumn expr levels) = word_of expr
 place_at_site c (AStar levels at) = at
 place_at_site c (AnAliasStar alias levels at) = at
-place_at_site c (AnExpression wanted levels expr) = place_of expr
+place_at_site c (AnExpression wanted levels expr) = word_of expr
 place_at_site c (TwoWidths left right at) = at
 place_at_site c (Outputs count) = 0
 

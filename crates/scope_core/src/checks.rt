@@ -8,7 +8,7 @@ ghost use Rattle.scope_core.specs.declared.fault.ScopeFault.TheVariants as fault
 ghost use Rattle.scope_core.specs.Answer.{IsCause};
 ghost use Rattle.scope_core.specs.Parts.{IsAndOf, IsSingle, is_aggregate_item, is_one_aggregate_listed, is_scalar_block};
 ghost use Rattle.scope_core.specs.Faults.{is_in_group, is_scalar};
-ghost use Rattle.scope_core.specs.FirstFault.{fault_at, place_of};
+ghost use Rattle.scope_core.specs.FirstFault.{fault_at};
 ghost use Rattle.scope_core.specs.Lent.{levels_of, list_has_aggregate, items_have_aggregate_listed, relations_of, source_of};
 ghost use Rattle.scope_core.specs.Resolving.{source_named};
 ghost use Rattle.scope_core.specs.Scope.{sight_here};
@@ -90,36 +90,6 @@ pub fn check_outputs(count: usize) -> Result<(), ScopeFault>
         });
     }
     Ok(())
-}
-
-/// The place of an expression's first token.
-#[tactic(auto, using(crate::proofs::Columns::places))]
-pub fn place_of(expr: &Expr) -> u32
-    ensures { result ≡ place_of expr.now }
-{
-    match expr {
-        Expr::Col {
-            qual,
-            qual_at,
-            at,
-            ..
-        } => match qual {
-            Some(_) => *qual_at,
-            None => *at,
-        },
-        Expr::Lit { at, .. } => *at,
-        Expr::Fun { at, .. } => *at,
-        Expr::Pred { at, .. } => *at,
-        Expr::Call { at, .. } => *at,
-        Expr::Agg { at, .. } => *at,
-        Expr::Sub { at, .. } => *at,
-        Expr::Eq { at, .. } => *at,
-        Expr::And { at, .. } => *at,
-        Expr::Or { at, .. } => *at,
-        Expr::Not { at, .. } => *at,
-        Expr::Exists { at, .. } => *at,
-        Expr::In { at, .. } => *at,
-    }
 }
 
 /// Whether an aggregate stands in an expression, outside its subqueries.

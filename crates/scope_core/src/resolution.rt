@@ -18,8 +18,7 @@ ghost use Rattle.scope_core.specs.Scope.{no_entry, sight_here};
 ghost use Rattle.scope_core.specs.Sites.{TwoWidths};
 
 use crate::checks::{
-    check_alias, check_outputs, check_widths, conjuncts_of, is_one_group, is_scalar, place_of,
-    resolve_name,
+    check_alias, check_outputs, check_widths, conjuncts_of, is_one_group, is_scalar, resolve_name,
 };
 use crate::column::resolve_column;
 use crate::fault::{ScopeCode, ScopeFault, number, refused};
@@ -219,7 +218,7 @@ fn resolve_condition<'a>(
                 query: resolved,
             })
         }
-        Expr::Col { .. } => Err(refused(ScopeCode::NotTruth, place_of(expr))),
+        Expr::Col { at, .. } => Err(refused(ScopeCode::NotTruth, *at)),
         Expr::Lit { at, .. } => Err(refused(ScopeCode::NotTruth, *at)),
         Expr::Fun { at, .. } => Err(refused(ScopeCode::NotTruth, *at)),
         Expr::Agg { at, .. } => Err(refused(ScopeCode::NotTruth, *at)),

@@ -7,7 +7,7 @@ use std::test::Fail;
 const BOTH: &str = "SELECT * FROM r;SELECT * FROM r;";
 
 /// Statements, queries, and what becomes of the case.
-const CASES: [(&str, &str, &str); 46] = [
+const CASES: [(&str, &str, &str); 54] = [
     (ONE, BOTH, "read 1"),
     (
         "CREATE TABLE r (a INT, b INT, c INT);",
@@ -66,6 +66,43 @@ const CASES: [(&str, &str, &str); 46] = [
         ONE,
         "SELECT a FROM r UNION SELECT a, a FROM r;SELECT a FROM r;",
         "E41 1 2 at 39",
+    ),
+    // A column where a truth is wanted is told at its own word, whatever qualifier stands before it.
+    (ONE, "SELECT a FROM r WHERE a;SELECT a FROM r;", "E35 at 45"),
+    (
+        ONE,
+        "SELECT a FROM r WHERE r.a;SELECT a FROM r;",
+        "E35 at 47",
+    ),
+    (
+        ONE,
+        "SELECT a FROM r WHERE (r.a);SELECT a FROM r;",
+        "E35 at 48",
+    ),
+    (
+        ONE,
+        "SELECT a FROM r WHERE NOT r.a;SELECT a FROM r;",
+        "E35 at 51",
+    ),
+    (
+        ONE,
+        "SELECT a FROM r WHERE a = a AND r.a;SELECT a FROM r;",
+        "E35 at 57",
+    ),
+    (
+        ONE,
+        "SELECT a FROM r WHERE r.a OR a = a;SELECT a FROM r;",
+        "E35 at 47",
+    ),
+    (
+        ONE,
+        "SELECT a FROM r GROUP BY a HAVING r.a;SELECT a FROM r;",
+        "E35 at 59",
+    ),
+    (
+        ONE,
+        "SELECT r.a FROM r JOIN r x ON x.a;SELECT a FROM r;",
+        "E35 at 55",
     ),
     // The text comes before the statements, and these before the queries.
     ("CREATE TABLE r (a INT, a INT);", "SELECT 'x", "E02 at 37"),

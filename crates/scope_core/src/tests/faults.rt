@@ -92,7 +92,9 @@ const REFUSED: [(ScopeCode, &[&str]); 13] = [
             // SELECT * FROM r WHERE a
             "22 star@7 from:r@14 col:a@22 where select",
             // SELECT * FROM r WHERE r.a
-            "22 star@7 from:r@14 col:r.a@22 where select",
+            "24 star@7 from:r@14 col:r.a@22 where select",
+            // SELECT * FROM r WHERE NOT r.a
+            "28 star@7 from:r@14 col:r.a@26 not@22 where select",
             // SELECT * FROM r WHERE NOT 1
             "26 star@7 from:r@14 one@26 not@22 where select",
             // SELECT * FROM r WHERE a + a
