@@ -1,0 +1,32 @@
+//! The rules by which terms are rewritten: for each the arguments that it takes and its two sides, which mean the same
+//! wherever the facts are met.
+#![tactic(auto)]
+
+mod build;
+mod building;
+mod closed_same;
+mod closedness;
+mod comparing;
+mod forms;
+mod holes;
+mod instances;
+pub mod laws;
+mod leaves;
+mod measure;
+mod measuring;
+mod put_same;
+mod rule;
+mod side_sizes;
+mod sides;
+mod standing;
+mod table;
+mod table_sizes;
+mod tables;
+
+pub use closed_same::same_closed;
+pub use instances::{instance, side};
+pub use measuring::sizes;
+pub use rule::{Arg, InstanceFault, Rule, Why};
+pub use side_sizes::Sizes;
+pub use standing::stands;
+pub use std::alloc::AllocError as NoMemory;
