@@ -13,8 +13,9 @@ pub mod SidesKept
 pub mod LeavesAt
 pub mod LeavesCancel
 pub mod LeavesPairs
-pub mod LeavesMatched
-pub mod LeavesKeys
+pub mod CodesAt
+pub mod CodesDiffer
+pub mod OneOrder
 pub mod Answering
 pub mod Measured
 pub mod TableMeasures

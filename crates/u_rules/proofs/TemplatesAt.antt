@@ -1,5 +1,5 @@
 -- Rows by the kinds of arguments.
-use Rattle.std.proofs.Common.{◌≡◌, Bool, true, false, List, [], ◌∷◌, Option, Some, None, Result, Ok, Err, refl, ap, sym, ◌∙◌, subst, arith}
+use Rattle.std.proofs.Common.{◌≡◌, Bool, true, false, List, [], ◌∷◌, Option, Some, None, Result, Ok, Err, refl, ap, sym, ◌∙◌, subst}
 use Rattle.std.specs.Prelude.{IsTrue, MatchBool, ◌↔◌}
 use Rattle.u_terms.specs.Syntax.{U}
 use Rattle.u_rules.specs.declared.rule.Arg.{Arg}

@@ -8,7 +8,7 @@ ghost use Rattle.u_rules.specs.declared.rule.InstanceFault.TheVariants.{BadInsta
 
 use crate::building::{template_side, template_sides};
 use crate::closedness::are_closed;
-use crate::leaves::{same_add_leaves, same_mul_leaves};
+use crate::leaf_lists::same_leaves;
 use crate::rule::{Arg, InstanceFault, Rule, Why};
 use crate::sides::Unfit;
 use crate::table::{Entry, entry_of};
@@ -106,8 +106,8 @@ fn leaves_agree(alloc: Global, rule: Rule, left: &U, right: &U) -> Result<bool, 
     ensures { IfOk result (TellsLeaves rule left.now right.now) }
 {
     match rule {
-        Rule::AddAc => same_add_leaves(alloc, left, right),
-        Rule::MulAc => same_mul_leaves(alloc, left, right),
+        Rule::AddAc => same_leaves(alloc, left, right, false),
+        Rule::MulAc => same_leaves(alloc, left, right, true),
         _ => Ok(true),
     }
 }

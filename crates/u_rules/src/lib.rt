@@ -11,7 +11,7 @@ mod forms;
 mod holes;
 mod instances;
 pub mod laws;
-mod leaves;
+mod leaf_lists;
 mod measure;
 mod measuring;
 mod put_same;
@@ -25,6 +25,7 @@ mod tables;
 
 pub use closed_same::same_closed;
 pub use instances::{instance, side};
+pub use leaf_lists::{leaves, same_leaves};
 pub use measuring::sizes;
 pub use rule::{Arg, InstanceFault, Rule, Why};
 pub use side_sizes::Sizes;

@@ -13,7 +13,7 @@ use crate::comparing::compares;
 use crate::forms::Template;
 use crate::holes::fit;
 use crate::instances::{refused, sides};
-use crate::leaves::{same_add_leaves, same_mul_leaves};
+use crate::leaf_lists::same_leaves;
 use crate::rule::{Arg, InstanceFault, Rule, Why};
 use crate::sides::Unfit;
 use crate::table::{Entry, entry_of};
@@ -63,11 +63,11 @@ fn arguments_agree(alloc: Global, facts: &Facts, rule: Rule, args: &[Arg]) -> Re
 {
     match rule {
         Rule::AddAc => match args {
-            [Arg::Term(x), Arg::Term(y)] => same_add_leaves(alloc, x, y),
+            [Arg::Term(x), Arg::Term(y)] => same_leaves(alloc, x, y, false),
             _ => Ok(true),
         },
         Rule::MulAc => match args {
-            [Arg::Term(x), Arg::Term(y)] => same_mul_leaves(alloc, x, y),
+            [Arg::Term(x), Arg::Term(y)] => same_leaves(alloc, x, y, true),
             _ => Ok(true),
         },
         _ => Ok(true),
