@@ -24,9 +24,8 @@ pub fn instance(
     rule: Rule,
     args: &[Arg],
 ) -> Result<(U, U), InstanceFault>
-    requires facts_ok { FactsOk facts.now }
     ensures answers { Answers facts.now rule args.now result }
-    ensures sound { AreSound facts.now rule result }
+    ensures sound { FactsOk facts.now → AreSound facts.now rule result }
 {
     answer(alloc, facts, rule, args)
 }

@@ -10,12 +10,6 @@ pub mod TermParts
 pub mod ReadTerms
 pub mod ReadProofs
 pub mod Checked
-pub mod LeavesAt
-pub mod LeavesCancel
-pub mod LeavesPairs
-pub mod LeavesMatched
-pub mod LeavesMean
-pub mod LeavesKeys
 pub mod StepsMean
 pub mod TableTerms
 pub mod QueryTerms

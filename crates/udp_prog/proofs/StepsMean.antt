@@ -8,7 +8,7 @@ use Rattle.udp_prog.specs.declared.step.Step.{Step}
 use Rattle.udp_prog.specs.declared.step.Direction.{Direction}
 use Rattle.udp_prog.specs.declared.step.Direction.TheVariants.{Forward, Backward}
 use Rattle.udp_prog.specs.Steps.{by_direction, LeadsTo, Replays}
-use Rattle.udp_prog.proofs.LeavesMean.{same_meaning-from_leaves}
+use Rattle.u_rules.proofs.LeavesMean.{same_sum}
 
 module _ (n : ℕ) (reading : Reading) (db : Database) (names places : List ℕ) where
   abbrev m : U → ℕ
@@ -20,7 +20,7 @@ module _ (n : ℕ) (reading : Reading) (db : Database) (names places : List ℕ)
 
   step-means : (step : Step) (before after : U) → LeadsTo step before after → m before ≡ m after
   step-means step before after l =
-      ap m l.from ∙ either_way step.direction step.left step.right (same_meaning-from_leaves n reading db names places step.left step.right l.same_leaves) ∙ sym (ap m l.to)
+      ap m l.from ∙ either_way step.direction step.left step.right (same_sum n reading db names places step.left step.right l.same_leaves) ∙ sym (ap m l.to)
 
   pub replays-mean : (first : U) (steps : List Step) (last : U) → Replays first steps last → m first ≡ m last
   replays-mean first [] last e = ap m e

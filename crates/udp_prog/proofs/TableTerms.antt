@@ -1,5 +1,5 @@
 -- The term of a base table's rows means how often a row occurs in it.
-use Rattle.std.proofs.Common.{◌≡◌, ℕ, zero, suc, ◌+◌, ◌*◌, List, [], ◌∷◌, ◌++◌, length, get_or, refl, ap, sym, ◌∙◌, arith, subst, append_assoc, length-append}
+use Rattle.std.proofs.Common.{◌≡◌, ℕ, ◌+◌, ◌*◌, List, [], ◌∷◌, ◌++◌, length, get_or, refl, ap, sym, ◌∙◌, arith, subst, append_assoc, length-append}
 use Rattle.std.proofs.Math.Nat.{mul_comm}
 use Rattle.std.proofs.lemmas.Bool.Decides.{nat_tests}
 use Rattle.std.specs.Prelude.{nat_eq}
@@ -7,27 +7,18 @@ use Rattle.data_model.specs.Numbers.{one_if}
 use Rattle.data_model.specs.Rows.{Row, IsRow, same_row, occurrences}
 use Rattle.data_model.specs.Reading.{Reading}
 use Rattle.data_model.specs.Database.{Database, table_rows}
-use Rattle.data_model.proofs.Sums.{sum_below-same, sum_rows, sum_rows-same, sum_rows-pick, one_if-and}
+use Rattle.data_model.proofs.Sums.{sum_rows-same, sum_rows-pick, one_if-and}
 use Rattle.u_terms.specs.declared.term.U.{U}
 use Rattle.u_terms.specs.declared.term.Val.{Val}
 use Rattle.u_terms.specs.declared.term.U.TheVariants as u
 use Rattle.u_terms.specs.declared.term.Val.TheVariants as v
 use Rattle.u_terms.specs.Meaning.{meaning, value_meaning}
-use Rattle.u_terms.proofs.Meanings.{list_meaning, meaning-Mul, meaning-Sum, meaning-Rel, meaning-Eq, meaning-Bound, meaning-Free}
-use Rattle.udp_prog.specs.Translation.{places, named_from, product_of, sums, table_term}
-
--- the values of a row on top of the places, its last value innermost
-abbrev pub stacked : Row → List ℕ → List ℕ
-stacked [] values = values
-stacked (v ∷ row) values = stacked row (v ∷ values)
-
-get_or-stacked : (row : Row) (values : List ℕ) (i : ℕ) → get_or (stacked row values) (length row + i) 0 ≡ get_or values i 0
-get_or-stacked [] values i = let e : 0 + i ≡ i = omega arith in rw e refl
-get_or-stacked (v ∷ row) values i =
-    let e : suc (length row) + i ≡ length row + suc i = omega arith in rw e (get_or-stacked row (v ∷ values) (suc i))
-
-get_or-top : (row : Row) (v : ℕ) (values : List ℕ) → get_or (stacked row (v ∷ values)) (length row) 0 ≡ v
-get_or-top row v values = let e : length row + 0 ≡ length row = omega arith in (rw e at (get_or-stacked row (v ∷ values) 0))
+use Rattle.u_terms.proofs.Meanings.{list_meaning, meaning-Rel, meaning-Eq, meaning-Free}
+use Rattle.u_rules.specs.Terms.{places, prod}
+use Rattle.u_rules.proofs.Products.{product_by}
+use Rattle.u_rules.proofs.Columns.{prod-mean, length-places}
+use Rattle.u_rules.proofs.Nested.{onto, sums-mean, places-mean}
+use Rattle.udp_prog.specs.Translation.{named_from, table_term}
 
 get_or-behind : (front row : Row) (x : ℕ) → get_or (front ++ x ∷ row) (length front) 0 ≡ x
 get_or-behind [] row x = refl
@@ -49,31 +40,8 @@ module _ (n : ℕ) (reading : Reading) (db : Database) (names : List ℕ) where
   abbrev values_of : List ℕ → List Val → Row
   values_of = list_meaning n reading db names
 
-  -- sums go through all rows
-  sums-mean : (width : ℕ) (body : U) (values : List ℕ) → m values (sums width body) ≡ sum_rows n width (λ row. m (stacked row values) body)
-  sums-mean zero body values = refl
-  sums-mean (suc width) body values =
-      meaning-Sum n reading db names values (sums width body)
-      ∙ sum_below-same n _ (λ v. sum_rows n width (λ row. m (stacked row (v ∷ values)) body)) (λ v h. sums-mean width body (v ∷ values))
-
-  -- the places have the values of the row
-  places-mean : (row : Row) (values : List ℕ) → values_of (stacked row values) (places (length row)) ≡ row
-  places-mean [] values = refl
-  places-mean (x ∷ row) values =
-      let first : value (stacked row (x ∷ values)) (v.Bound (length row)) ≡ x =
-      meaning-Bound n reading db names (stacked row (x ∷ values)) (length row) ∙ get_or-top row x values in
-      let rest : values_of (stacked row (x ∷ values)) (places (length row)) ≡ row = places-mean row (x ∷ values) in
-      λ i. first i ∷ rest i
-
-  -- a product means the product of its factors
   abbrev times_all : List ℕ → List U → ℕ
-  times_all values [] = 1
-  times_all values (factor ∷ factors) = m values factor * times_all values factors
-
-  product_of-mean : (values : List ℕ) (factor : U) (factors : List U) → m values (product_of (factor ∷ factors)) ≡ m values factor * times_all values factors
-  product_of-mean values factor [] = omega arith
-  product_of-mean values factor (next ∷ factors) =
-      meaning-Mul n reading db names values factor (product_of (next ∷ factors)) ∙ ap (λ (k : ℕ). m values factor * k) (product_of-mean values next factors)
+  times_all values factors = product_by (m values) factors
 
   -- the equalities with the names say that the row is that of the names
   named_from-mean : (values : List ℕ) (vs : List Val) (front row : Row) → names ≡ front ++ row → length vs ≡ length row
@@ -92,37 +60,33 @@ module _ (n : ℕ) (reading : Reading) (db : Database) (names : List ℕ) where
       let rest : times_all values (named_from (length front + 1) vs) ≡ one_if (same_row (values_of values vs) row) = rw next at others in
       rw (first, rest) (sym (one_if-and (nat_eq (value values w) x) (same_row (values_of values vs) row)))
 
-length-places : (width : ℕ) → length (places width) ≡ width
-length-places zero = refl
-length-places (suc width) = ap suc (length-places width)
-
 -- the body under the sums, at the values of a row
 body-means : (n : ℕ) (reading : Reading) (db : Database) (number : ℕ) (r row : Row) → length r ≡ length row
-    → meaning n reading db r (stacked row []) (product_of (u.Rel number (places (length row)) ∷ named_from 0 (places (length row))))
+    → meaning n reading db r (onto row []) (prod (u.Rel number (places (length row)) ∷ named_from 0 (places (length row))))
     ≡ one_if (same_row r row) * occurrences row (table_rows db number)
 body-means n reading db number r row long =
-    let values : List ℕ = stacked row [] in
+    let values : List ℕ = onto row [] in
     let vs : List Val = places (length row) in
     let is : list_meaning n reading db r values vs ≡ row = places-mean n reading db r row [] in
     let atom : meaning n reading db r values (u.Rel number vs) ≡ occurrences row (table_rows db number) =
     meaning-Rel n reading db r values number vs ∙ ap (λ (w : Row). occurrences w (table_rows db number)) is in
     let equal : times_all n reading db r values (named_from 0 vs) ≡ one_if (same_row row r) =
     named_from-mean n reading db r values vs [] r refl (length-places (length row) ∙ sym long) ∙ ap (λ (w : Row). one_if (same_row w r)) is in
-    product_of-mean n reading db r values (u.Rel number vs) (named_from 0 vs)
+    prod-mean n reading db r values (u.Rel number vs ∷ named_from 0 vs)
     ∙ (rw (atom, equal, same_row-sym row r) (mul_comm (occurrences row (table_rows db number)) (one_if (same_row r row))))
 
 -- how often a row occurs in a table
 pub table_term-means : (n : ℕ) (reading : Reading) (db : Database) (number width : ℕ) (r : Row) → IsRow n width r
     → meaning n reading db r [] (table_term number width) ≡ occurrences r (table_rows db number)
 table_term-means n reading db number width r is_row =
-    let body : U = product_of (u.Rel number (places width) ∷ named_from 0 (places width)) in
+    let body : U = prod (u.Rel number (places width) ∷ named_from 0 (places width)) in
     sums-mean n reading db r width body []
     ∙ sum_rows-same n width _ (λ row. one_if (same_row r row) * occurrences row (table_rows db number)) (λ row h. at_row row h.long)
     ∙ sum_rows-pick n width r (λ row. occurrences row (table_rows db number)) is_row
   where
     at_row : (row : Row) → length row ≡ width
-        → meaning n reading db r (stacked row []) (product_of (u.Rel number (places width) ∷ named_from 0 (places width)))
+        → meaning n reading db r (onto row []) (prod (u.Rel number (places width) ∷ named_from 0 (places width)))
         ≡ one_if (same_row r row) * occurrences row (table_rows db number)
     at_row row long =
-        subst (λ (k : ℕ). meaning n reading db r (stacked row []) (product_of (u.Rel number (places k) ∷ named_from 0 (places k))) ≡ one_if (same_row r row) * occurrences row (table_rows db number))
+        subst (λ (k : ℕ). meaning n reading db r (onto row []) (prod (u.Rel number (places k) ∷ named_from 0 (places k))) ≡ one_if (same_row r row) * occurrences row (table_rows db number))
         long (body-means n reading db number r row (is_row.long ∙ sym long))

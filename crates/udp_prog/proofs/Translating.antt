@@ -1,22 +1,21 @@
 -- The steps by which code builds the terms of tables.
-use Rattle.std.proofs.Common.{◌≡◌, ℕ, zero, suc, ◌+◌, ◌-◌, ◌<◌, ◌∷◌, refl, arith, add-one}
-use Rattle.u_terms.specs.declared.term.U.{U}
+use Rattle.std.proofs.Common.{◌≡◌, ℕ, zero, suc, ◌+◌, ◌-◌, ◌<◌, ◌∷◌, refl, arith}
 use Rattle.u_terms.specs.declared.term.U.TheVariants as u
 use Rattle.u_terms.specs.declared.term.Val.TheVariants as v
-use Rattle.udp_prog.specs.Translation.{places, named_from, product_of, sums, table_term}
-
-pub sums-more : (count : ℕ) (body : U) → sums (count + 1) body ≡ u.Sum (sums count body)
-sums-more count body = rw add-one refl
+use Rattle.u_terms.specs.Binding.{sums}
+use Rattle.u_terms.proofs.Binding.{sums-more}
+use Rattle.u_rules.specs.Terms.{places, prod}
+use Rattle.udp_prog.specs.Translation.{named_from, table_term}
 
 pub places-more : (width : ℕ) → 0 < width → places width ≡ v.Bound (width - 1) ∷ places (width - 1)
 places-more zero h = absurd (omega arith)
 places-more (suc width) h = let e : suc width - 1 ≡ width = omega arith in rw e refl
 
-pub named_product-one : (name width : ℕ) → width ≡ 1 → product_of (named_from name (places width)) ≡ u.Eq (v.Bound (width - 1)) (v.Free name)
+pub named_product-one : (name width : ℕ) → width ≡ 1 → prod (named_from name (places width)) ≡ u.Eq (v.Bound (width - 1)) (v.Free name)
 named_product-one name width e = rw e refl
 
 pub named_product-more : (name width : ℕ) → 1 < width
-    → product_of (named_from name (places width)) ≡ u.Mul (u.Eq (v.Bound (width - 1)) (v.Free name)) (product_of (named_from (name + 1) (places (width - 1))))
+    → prod (named_from name (places width)) ≡ u.Mul (u.Eq (v.Bound (width - 1)) (v.Free name)) (prod (named_from (name + 1) (places (width - 1))))
 named_product-more name zero h = absurd (omega arith)
 named_product-more name (suc zero) h = absurd (omega arith)
 named_product-more name (suc (suc width)) h = let e : suc (suc width) - 1 ≡ suc width = omega arith in rw e refl
@@ -25,7 +24,7 @@ pub table_term-none : (number width : ℕ) → width ≡ 0 → table_term number
 table_term-none number width e = rw e refl
 
 pub table_term-some : (number width : ℕ) → 0 < width
-    → table_term number width ≡ sums width (u.Mul (u.Rel number (places width)) (product_of (named_from 0 (places width))))
+    → table_term number width ≡ sums width (u.Mul (u.Rel number (places width)) (prod (named_from 0 (places width))))
 table_term-some number zero h = absurd (omega arith)
 table_term-some number (suc width) h = refl
 

@@ -1,13 +1,10 @@
 pub mod Limits
 pub mod Translation
-pub mod Leaves
 pub mod TermText
 pub mod Steps
 pub mod ProofText
 pub mod Checking
 pub mod Answer
-pub mod LeavesMatching
-pub mod SortKey
 pub mod Reading
 pub mod Unread
 pub mod Replay

@@ -4,7 +4,7 @@ use Rattle.u_terms.specs.declared.term.U.{U}
 use Rattle.udp_prog.specs.declared.step.Direction.{Direction}
 use Rattle.udp_prog.specs.declared.step.Direction.TheVariants.{Forward, Backward}
 use Rattle.udp_prog.specs.declared.step.Step.{Step}
-use Rattle.udp_prog.specs.Leaves.{leaves}
+use Rattle.u_rules.specs.Terms.{add_leaves}
 
 abbrev pub by_direction : {X : Type 0} → Direction → X → X → X
 by_direction Forward left right = left
@@ -22,7 +22,7 @@ target step = by_direction step.direction step.right step.left
 pub record LeadsTo (step : Step) (before after : U) : Type 0 where
   pub from : before ≡ source step
   pub to : after ≡ target step
-  pub same_leaves : IsPermutation (leaves step.left) (leaves step.right)
+  pub same_leaves : IsPermutation (add_leaves step.left) (add_leaves step.right)
 
 abbrev pub HasNoResult : Step → U → Type 0
 HasNoResult step before = (after : U) → LeadsTo step before after → ⊥

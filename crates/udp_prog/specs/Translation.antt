@@ -1,7 +1,7 @@
 -- The U-expression of a query: how often the row whose columns are the names f0, f1, .. occurs in its answer (Chu, Murphy, Roesch, Cheung
 -- and Suciu, PVLDB 11(11), 2018, section 3.2, "Translating SQL to U-expressions"). Only `SELECT * FROM table` and `UNION ALL` are translated here;
 -- every other query has the term 0, and nothing is claimed of it.
-use Rattle.std.specs.Prelude.{ℕ, zero, suc, ◌+◌, Bool, true, false, not, ◌&&◌, ◌||◌, is_some, if◌then◌else◌, List, [], ◌∷◌, length, Option, Some, None, option_and_then}
+use Rattle.std.specs.Prelude.{ℕ, ◌+◌, Bool, true, false, not, ◌&&◌, ◌||◌, is_some, if◌then◌else◌, List, [], ◌∷◌, length, Option, Some, None, option_and_then}
 use Rattle.sql_model.specs.declared.schema.Schema.{Schema}
 use Rattle.sql_model.specs.declared.schema.Relation.TheVariants as relation
 use Rattle.sql_model.specs.declared.tree.Block.{out-Block}
@@ -12,30 +12,17 @@ use Rattle.u_terms.specs.declared.term.U.{U}
 use Rattle.u_terms.specs.declared.term.Val.{Val}
 use Rattle.u_terms.specs.declared.term.U.TheVariants as u
 use Rattle.u_terms.specs.declared.term.Val.TheVariants as v
-
--- the places of a row of this width, outermost first
-abbrev pub places : ℕ → List Val
-places zero = []
-places (suc width) = v.Bound width ∷ places width
+use Rattle.u_terms.specs.Binding.{sums}
+use Rattle.u_rules.specs.Terms.{places, prod}
 
 -- each value is that of the name at its position, counted from this one
 abbrev pub named_from : ℕ → List Val → List U
 named_from name [] = []
 named_from name (value ∷ values) = u.Eq value (v.Free name) ∷ named_from (name + 1) values
 
-abbrev pub product_of : List U → U
-product_of [] = u.One
-product_of (factor ∷ []) = factor
-product_of (factor ∷ next ∷ rest) = u.Mul factor (product_of (next ∷ rest))
-
--- that many sums around a body
-abbrev pub sums : ℕ → U → U
-sums zero body = body
-sums (suc count) body = u.Sum (sums count body)
-
 -- how often the row of the names occurs in the base table of this number and width
 abbrev pub table_term : ℕ → ℕ → U
-table_term number width = sums width (product_of (u.Rel number (places width) ∷ named_from 0 (places width)))
+table_term number width = sums width (prod (u.Rel number (places width) ∷ named_from 0 (places width)))
 
 abbrev pub relation_term : Option Relation → U
 relation_term (Some (relation.Table table)) = table_term table.number (length table.columns)

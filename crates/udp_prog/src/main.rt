@@ -6,7 +6,6 @@ mod argument;
 mod checker;
 mod fault;
 mod laws;
-mod leaves;
 mod lines;
 mod step;
 #[cfg(test)]

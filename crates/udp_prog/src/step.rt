@@ -2,8 +2,8 @@
 ghost use Rattle.std.specs.Prelude.{◌≡◌, ◌++◌, ◌∷◌, [], List, IfOk, OnOk, MatchBool};
 ghost use Rattle.u_terms.specs.declared.term.U.{U as TheU};
 
-use crate::leaves::same_leaves;
 use std::alloc::{AllocError, Global};
+use u_rules::same_leaves;
 use u_terms::{Boxed, U, same};
 
 /// Which way a rule is used: from its left side to its right one, or back.
@@ -52,7 +52,7 @@ impl Step {
         if !same(term.get(), self.source()) {
             return Ok(false);
         }
-        if !same_leaves(alloc, self.left.get(), self.right.get())? {
+        if !same_leaves(alloc, self.left.get(), self.right.get(), false)? {
             return Ok(false);
         }
         *term = self.into_target();

@@ -1,6 +1,8 @@
 //! Translates queries into terms.
 ghost use Rattle.std.specs.Prelude.{◌≡◌, ◌<◌, ◌≤◌, ◌+◌, ◌^◌, ◌++◌, ℕ, List, IfOk, OnOk, option_map, option_and_then};
-ghost use Rattle.udp_prog.specs.Translation.{places, named_from, product_of, sums, table_term, relation_term, block_term, set_term, query_term, shown_from, shown_name};
+ghost use Rattle.u_terms.specs.Binding.{sums};
+ghost use Rattle.u_rules.specs.Terms.{places, prod};
+ghost use Rattle.udp_prog.specs.Translation.{named_from, table_term, relation_term, block_term, set_term, query_term, shown_from, shown_name};
 ghost use Rattle.sql_model.specs.Relations.{relation_named};
 
 use sql_model::{Block, Entry, Item, Name, Query, Relation, Schema, SetOp, Source};
@@ -36,7 +38,7 @@ fn push_places(width: u32, values: &mut List<Val>) -> Result<(), AllocError>
 fn named_product(alloc: Global, name: u32, width: u32) -> Result<Boxed<U>, AllocError>
     requires some { 0 < width }
     requires fits { name + width < 2 ^ 32 }
-    ensures { IfOk result (λ term. term ≡ product_of (named_from name (places width))) }
+    ensures { IfOk result (λ term. term ≡ prod (named_from name (places width))) }
 {
     let equality = U::Eq(Val::Bound(width - 1), Val::Free(name));
     if width == 1 {

@@ -1,5 +1,5 @@
 use Rattle.std.proofs.Common.{◌≡◌}
-use Rattle.udp_prog.specs.Translation.{sums}
+use Rattle.u_terms.specs.Binding.{sums}
 use Rattle.udp_prog.proofs.translation.sums.Given as goal
 
 abbrev pub invariant-loop : goal.invariant-loop
