@@ -20,3 +20,4 @@ pub mod Answering
 pub mod Measured
 pub mod TableMeasures
 pub mod TemplatesAt
+pub mod OneInstance
