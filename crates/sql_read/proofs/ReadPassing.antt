@@ -50,7 +50,7 @@ module _ (k : Kind) where
   stays_alone {a = a} q = record { still = q.still; not_next = not_next_alone a.tokens q.not_next }
 
   pub misses_alone : {a b : Cursor} {fault : ReadFault} → Misses (among (k ∷ [])) a fault b → Misses (same k) a fault b
-  misses_alone m = record { stays = stays_alone m.stays; refusing = m.refusing }
+  misses_alone m = record { stays = stays_alone m.stays; refusing = m.refusing; memory = m.memory }
 
   pub overflows_alone : {room : ℕ} {a b : Cursor} {fault : ReadFault} → Overflows (among (k ∷ [])) room a fault b → Overflows (same k) room a fault b
   overflows_alone {a = a} q =

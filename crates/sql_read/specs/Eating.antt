@@ -12,7 +12,7 @@ use Rattle.sql_grammar.specs.declared.kinds.Kind.{Kind}
 use Rattle.sql_grammar.specs.Kinds.{kind_of, among, name_kinds, same}
 use Rattle.sql_read.specs.declared.tokens.counting.Mark.{Mark}
 use Rattle.sql_grammar.specs.Numbering.{Built}
-use Rattle.sql_read.specs.Refusals.{refusal}
+use Rattle.sql_read.specs.Refusals.{IsLeftOut, refusal}
 
 -- whether a token of these kinds stands next
 abbrev pub is_next : (Kind → Bool) → List Lexeme → Bool
@@ -40,10 +40,11 @@ Eats p before None after = Stays p before after
 abbrev pub Refusing : Cursor → ReadFault → Type 0
 Refusing cursor fault = fault ≢ NoMemory → fault ≡ refusal cursor
 
--- nothing was passed, since no token of these kinds stands next
+-- Nothing was passed, since no token of these kinds stands next. Memory is wanted for the word of a left-out token alone.
 pub record Misses (p : Kind → Bool) (before : Cursor) (fault : ReadFault) (after : Cursor) : Type 0 where
   pub stays : Stays p before after
   pub refusing : Refusing after fault
+  pub memory : fault ≡ NoMemory → IsLeftOut (refusal after)
 
 -- one token of these kinds, which is to stand next
 abbrev pub Expects : (Kind → Bool) → Cursor → Result Token ReadFault → Cursor → Type 0

@@ -25,7 +25,7 @@ pub enum ReadAllFault {
 }
 
 /// The most bytes that are taken at once.
-const PIECE: usize = 4096;
+const PIECE: usize = 4_096;
 
 // Takes one piece of at most `most` bytes to the end of the text, and answers its length.
 fn take_piece<S: Store>(
@@ -41,7 +41,7 @@ fn take_piece<S: Store>(
     ensures taken { IfOk result
         (TakesPiece (S.left store.old) (S.left store.new) text.old.items text.new.items) }
     ensures most { IfOk result (λ n. n ≤ most) }
-    ensures piece { IfOk result (λ n. n ≤ PIECE) }
+    ensures piece { IfOk result (λ n. n ≤ 4096) }
     ensures bound { TakesAtMost (S.left store.old) (S.left store.new) most }
     ensures same_texts { (other : List ℕ) → S.text store.new other ≡ S.text store.old other }
     ensures later { (other : List ℕ) → S.faults store.old other ≤ S.faults store.new other }

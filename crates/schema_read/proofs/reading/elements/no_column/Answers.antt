@@ -12,8 +12,8 @@ returns-then-sees_any-clause-columns c = column_too_many (sym c.sees_any.ensures
 
 pub returns-clause-refuses : goal.returns-clause-refuses
 returns-clause-refuses c = λ levels.
-    misses {p = among name_kinds} refl refl (record { stays = record { still = refl; not_next = sym c.sees_any.ensures ∙ c.if-sees_any.false }; refusing = c.fault.ensures.fault })
+    misses {p = among name_kinds} refl refl (record { stays = record { still = refl; not_next = sym c.sees_any.ensures ∙ c.if-sees_any.false }; refusing = c.fault.ensures.fault; memory = c.fault.ensures.memory })
 
 pub returns-clause-columns : goal.returns-clause-columns
 returns-clause-columns c =
-    column_missed (misses {p = among name_kinds} {d = 0} refl refl (record { stays = record { still = refl; not_next = sym c.sees_any.ensures ∙ c.if-sees_any.false }; refusing = c.fault.ensures.fault }))
+    column_missed (misses {p = among name_kinds} {d = 0} refl refl (record { stays = record { still = refl; not_next = sym c.sees_any.ensures ∙ c.if-sees_any.false }; refusing = c.fault.ensures.fault; memory = c.fault.ensures.memory }))
