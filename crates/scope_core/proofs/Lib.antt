@@ -25,6 +25,7 @@ pub mod SoundParts
 pub mod Soundness
 pub mod SoundTrees
 pub mod FittingTrees
+pub mod Frames
 pub mod RowsFit
 pub mod AnswersFit
 pub mod PlainTrees

@@ -25,6 +25,7 @@ mod views;
 pub use fault::{ScopeCode, ScopeFault};
 pub use plain_data::{Boxed, List};
 pub use resolved::{Resolved, Views};
+pub use shape::query_width;
 pub use sql_model::{AggFun, SetOp};
 pub use std::alloc::AllocError as NoMemory;
 pub use tree::{Grouping, RBlock, RCond, REntry, RQuery, RSource, RVal};

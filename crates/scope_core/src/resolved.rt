@@ -7,7 +7,7 @@ ghost use Rattle.scope_core.specs.Sound.{IsSoundAlone};
 ghost use Rattle.scope_core.specs.Width.{width};
 
 use crate::fault::{ScopeFault, number};
-use crate::shape::{is_plain, width};
+use crate::shape::{is_plain, query_width};
 use crate::tree::RQuery;
 use plain_data::List;
 use std::marker::Model;
@@ -45,7 +45,7 @@ impl Resolved {
         ensures value { IfOk result (λ r. r ≡ tree) }
         ensures err { IfErr result (λ f. f ≡ fault.NoMemory) }
     {
-        let width = number(width(&tree))?;
+        let width = number(query_width(&tree))?;
         let plain = is_plain(&tree);
         Ok(Resolved { tree, width, plain })
     }

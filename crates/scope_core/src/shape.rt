@@ -9,12 +9,12 @@ use crate::tree::{Grouping, RBlock, RCond, REntry, RQuery, RSource, RVal};
 
 /// How many columns the answer of a tree has.
 #[tactic(auto, using(crate::proofs::Shapes::widths))]
-pub fn width(tree: &RQuery) -> usize
+pub fn query_width(tree: &RQuery) -> usize
     ensures { result ≡ width tree.now }
 {
     match tree {
         RQuery::Block { block } => block.get().items.len(),
-        RQuery::Set { left, .. } => width(left.get()),
+        RQuery::Set { left, .. } => query_width(left.get()),
     }
 }
 
