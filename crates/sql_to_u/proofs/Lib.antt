@@ -1,0 +1,17 @@
+pub mod Places
+pub mod OverEarlier
+pub mod OverEntries
+pub mod Seeing
+pub mod Closed
+pub mod Products
+pub mod Means
+pub mod Whole
+pub mod ProductSizes
+pub mod Sized
+pub mod WholeSizes
+pub mod FreeNames
+pub mod SizeLaws
+pub mod FactorLaws
+pub mod TermLaws
+pub mod Weights
+pub mod Wholes

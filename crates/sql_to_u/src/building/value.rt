@@ -1,0 +1,115 @@
+//! Values and items.
+ghost use Rattle.std.specs.Prelude.{◌≡◌, ◌++◌, IfOk, OnOk};
+ghost use Rattle.sql_to_u.specs.TermLists.{item_factors_listed, scope_within, terms_of, value_terms_listed};
+ghost use Rattle.sql_to_u.specs.Translation.{scalar_term, value_term};
+
+use crate::aggregate::{counts_rows, number_of};
+use crate::building::aggregate::counted_term;
+use crate::factors::{close, squash_if};
+use crate::naming::name_after;
+use crate::scope::{Group, Scope, first_at, key_of};
+use plain_data::List;
+use scope_core::{NoMemory, RBlock, RVal, Resolved};
+use std::alloc::Global;
+use u_terms::{Boxed, U, Val};
+
+/// Appends the equalities of the items with the values of a row.
+#[cycle(build)]
+pub fn add_items(
+    factors: &mut Vec<U>,
+    alloc: Global,
+    items: &[RVal],
+    scope: &Scope,
+    row: &[Val],
+    next: u32,
+    views: &[Resolved],
+) -> Result<(), NoMemory>
+    ensures { OnOk result (factors.new.items ≡ factors.old.items ++ item_factors_listed (terms_of views.now) (scope_within views.now scope.now) items.now row.now next) }
+{
+    for (index, item) in items.iter().enumerate() {
+        if index < row.len() {
+            let left = value_term(alloc, item, scope, next, views)?;
+            let right = row[index].copy(alloc)?;
+            factors.push(U::Eq(left, right))?;
+        }
+    }
+    Ok(())
+}
+
+#[cycle(build)]
+#[tactic(auto, using(crate::proofs::TermLaws::values, crate::proofs::Weights::values))]
+pub fn value_term(
+    alloc: Global,
+    value: &RVal,
+    scope: &Scope,
+    next: u32,
+    views: &[Resolved],
+) -> Result<Val, NoMemory>
+    ensures { IfOk result (λ t. t ≡ value_term (terms_of views.now) value.now (scope_within views.now scope.now) next) }
+{
+    match value {
+        RVal::Col { up, entry, col } => {
+            Ok(Val::Free(name_after(first_at(scope, *up, *entry), *col)?))
+        }
+        RVal::Key { place } => Ok(Val::Free(name_after(key_of(scope), *place)?)),
+        RVal::Lit { lit } => Ok(Val::Lit(*lit)),
+        RVal::Fun { sym, args } => Ok(Val::Fun(
+            *sym,
+            value_terms(alloc, args.as_slice(), scope, next, views)?,
+        )),
+        RVal::Agg { fun, distinct, arg } => {
+            let counting = counts_rows(*fun, *distinct);
+            let body = counted_term(alloc, arg, counting, scope, next, views)?;
+            let body = squash_if(alloc, *distinct, body)?;
+            let body = close(body, next)?;
+            Ok(Val::Agg(number_of(*fun), Boxed::new(alloc, body)?))
+        }
+        RVal::Sub { block } => scalar_term(alloc, block.get(), scope, next, views),
+    }
+}
+
+#[cycle(build)]
+pub fn value_terms(
+    alloc: Global,
+    values: &[RVal],
+    scope: &Scope,
+    next: u32,
+    views: &[Resolved],
+) -> Result<List<Val>, NoMemory>
+    ensures { IfOk result (λ vs. vs ≡ value_terms_listed (terms_of views.now) (scope_within views.now scope.now) values.now next) }
+{
+    let mut terms = Vec::new(alloc);
+    for value in values {
+        let term = value_term(alloc, value, scope, next, views)?;
+        terms.push(term)?;
+    }
+    Ok(List::from_vec(terms))
+}
+
+/// Of the one item of a scalar subquery.
+#[cycle(build)]
+#[tactic(auto, using(crate::proofs::TermLaws::scalars))]
+fn scalar_term(
+    alloc: Global,
+    block: &RBlock,
+    scope: &Scope,
+    next: u32,
+    views: &[Resolved],
+) -> Result<Val, NoMemory>
+    ensures { IfOk result (λ t. t ≡ scalar_term (terms_of views.now) block.now (scope_within views.now scope.now) next) }
+{
+    match block.items.as_slice() {
+        [] => Ok(Val::Lit(0)),
+        [item, ..] => {
+            let inside = Scope::Group {
+                group: Group {
+                    block: &*block,
+                    columns: &[],
+                    key: next,
+                },
+                outer: &*scope,
+            };
+            value_term(alloc, item, &inside, next, views)
+        }
+    }
+}
