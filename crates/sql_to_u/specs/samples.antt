@@ -1,1 +1,3 @@
+mod Queries
+mod Conditions
 mod Groups

@@ -147,8 +147,8 @@ fn keys_term(
     let items = block.items.as_slice();
     add_items(&mut factors, alloc, items, &inside, row, inner, views)?;
     let product = product(alloc, factors)?;
-    let term = over_names(alloc, next, count, product)?;
-    squash_if(alloc, block.distinct, term)
+    let groups = over_names(alloc, next, count, product)?;
+    squash_if(alloc, block.distinct, groups)
 }
 
 /// That a group has a member. The columns of the member have the names from `first` on.
