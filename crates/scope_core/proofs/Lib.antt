@@ -1,5 +1,6 @@
 pub mod Booleans
 pub mod Lists
+pub mod Occurring
 pub mod Each
 pub mod Columns
 pub mod Outputs

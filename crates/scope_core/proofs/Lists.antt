@@ -1,16 +1,12 @@
 -- Items of a list that is made of parts, and lists that are mapped.
-use Rattle.std.proofs.Common.{◌≡◌, ℕ, zero, suc, ◌<◌, ◌+◌, ◌-◌, ◌||◌, Bool, true, false, List, [], ◌∷◌, ◌++◌, map, filter, length, get_or, take, drop, ◌≤◌, Some, None, cond, refl, ap, sym, ◌∙◌, arith}
-use Rattle.std.specs.Prelude.{count_by, position}
-use Rattle.std.specs.List.{position_or_len, list_any}
-use Rattle.std.proofs.lemmas.List.{drop-take, length-map, length-append, append-nil, append_assoc, drop_all}
+use Rattle.std.proofs.Common.{◌≡◌, ℕ, zero, suc, ◌<◌, ◌+◌, ◌-◌, List, [], ◌∷◌, ◌++◌, map, filter, length, get_or, take, drop, ◌≤◌, refl, ap, sym, ◌∙◌, arith}
+use Rattle.std.proofs.lemmas.List.{drop-take, length-append, append-nil, append_assoc, drop_all}
 use Rattle.std.proofs.Math.Seq.{drop-cons}
-use Rattle.std.proofs.lemmas.List.Concat.{flat_map-cons}
 use Rattle.std.proofs.lemmas.List.Elements.{filter-append}
 use Rattle.sql_model.specs.Syntax.{Name}
 use Rattle.sql_model.specs.Frames.{ColumnName}
 use Rattle.sql_model.specs.Columns.{is_called}
-use Rattle.scope_core.specs.Faults.{count_called, is_repeated, name_twice}
-use Rattle.std.proofs.lemmas.List.Recursion.{is_count_by}
+use Rattle.scope_core.specs.Faults.{count_called}
 
 pub longer : {X : Type 0} (xs : List X) (x : X) → length (xs ++ x ∷ []) ≡ suc (length xs)
 longer [] x = refl
@@ -33,31 +29,8 @@ pub map-id : {X : Type 0} (xs : List X) → map (λ x. x) xs ≡ xs
 map-id [] = refl
 map-id (x ∷ xs) = ap (λ l. x ∷ l) (map-id xs)
 
-position_or_len-map : {X Y : Type 0} (f : X → Y) (p : Y → Bool) (xs : List X) → position_or_len p (map f xs) ≡ position_or_len (λ x. p (f x)) xs
-position_or_len-map f p [] = refl
-position_or_len-map f p (x ∷ xs) = rw (position_or_len-map f p xs) refl
-
-pub position-map : {X Y : Type 0} (f : X → Y) (p : Y → Bool) (xs : List X) → position p (map f xs) ≡ position (λ x. p (f x)) xs
-position-map f p xs = let long : length (map f xs) ≡ length xs = length-map xs f in rw (position_or_len-map f p xs, long) refl
-
-pub length-filter-map : {X Y : Type 0} (f : X → Y) (p : Y → Bool) (xs : List X) → length (filter p (map f xs)) ≡ count_by (λ x. p (f x)) xs
-length-filter-map f p xs =
-    is_count_by (λ ys. length (filter p (map f ys))) (λ x. p (f x)) refl (λ x ys. by (p (f x)) (f x) (filter p (map f ys))) xs
-  where
-    by : {Z : Type 0} (b : Bool) (z : Z) (zs : List Z) → length (cond b (z ∷ zs) zs) ≡ cond b (1 + length zs) (length zs)
-    by true z zs = omega arith
-    by false z zs = refl
-
-pub list_any-map : {X Y : Type 0} (f : X → Y) (p : Y → Bool) (xs : List X) → list_any p (map f xs) ≡ list_any (λ x. p (f x)) xs
-list_any-map f p [] = refl
-list_any-map f p (x ∷ xs) = rw (list_any-map f p xs) refl
-
-pub ruleset columns = (position-map, length-filter-map, list_any-map)
-
 pub count_called-append : (name : Name) (cs ds : List ColumnName) → count_called name (cs ++ ds) ≡ count_called name cs + count_called name ds
 count_called-append name cs ds = rw (filter-append (is_called name) cs ds) (length-append (filter (is_called name) cs) (filter (is_called name) ds))
-
-pub ruleset counts = (count_called-append, flat_map-cons)
 
 -- ---- a walk along a list that appends a piece for each item
 pub drop-head : {X : Type 0} (xs : List X) (i : ℕ) (x : X) → i < length xs → x ≡ get_or xs i x → drop i xs ≡ x ∷ drop (i + 1) xs
@@ -103,15 +76,3 @@ pub between : {X : Type 0} (first end : ℕ) (xs : List X) → first ≤ end →
 between first end xs h =
     let e : first + (end - first) ≡ end = omega (arith, h) in
     sym (ap (λ k. drop first (take k xs)) (sym e) ∙ drop-take first (end - first) xs)
-
--- ---- names that stand twice
-pub names-drop : {X : Type 0} (xs : List X) (f : X → ColumnName) (i : ℕ) (x : X) → i < length xs → x ≡ get_or xs i x
-    → name_twice (map f (drop i xs)) ≡ (is_repeated (f x) (map f (drop (i + 1) xs)) || name_twice (map f (drop (i + 1) xs)))
-names-drop xs f i x h is = at-head (λ l. name_twice (map f l)) xs i x h is ∙ by (f x) (map f (drop (i + 1) xs))
-  where
-    by : (c : ColumnName) (rest : List ColumnName) → name_twice (c ∷ rest) ≡ (is_repeated c rest || name_twice rest)
-    by None rest = refl
-    by (Some name) rest = refl
-
-pub names-past : {X : Type 0} (xs : List X) (f : X → ColumnName) (i : ℕ) → length xs ≤ i → name_twice (map f (drop i xs)) ≡ false
-names-past xs f i h = at-end (λ l. name_twice (map f l)) xs i h

@@ -9,6 +9,7 @@ pub mod Evaluation
 pub mod Width
 pub mod Sites
 pub mod Faults
+pub mod Names
 pub mod WellFormed
 pub mod FirstFault
 pub mod Plain

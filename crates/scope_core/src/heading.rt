@@ -1,10 +1,12 @@
 //! Names of columns, and what stands behind a name of FROM, lent from the trees that they are written in.
-ghost use Rattle.std.specs.Prelude.{◌≡◌, ◌++◌, ◌∷◌, [], ℕ, OnOk, IfOk, count_by, length, option_map, position, map};
-ghost use Rattle.std.specs.List.{list_any};
-ghost use Rattle.sql_model.specs.Columns.{is_called, same_name};
-ghost use Rattle.scope_core.specs.Faults.{count_called, is_repeated, name_twice};
+ghost use Rattle.std.specs.Prelude.{◌≡◌, ◌++◌, ◌∷◌, [], OnOk, IfOk, Some, None, length, option_map, map};
+ghost use Rattle.sql_model.specs.Columns.{same_name};
+ghost use Rattle.scope_core.specs.Faults.{name_twice};
+ghost use Rattle.scope_core.specs.Names.{occurrences};
 
 use crate::NoMemory;
+use crate::names::{Occurrences, note};
+use indexmap::IndexMap;
 use sql_model::Name;
 use std::alloc::Global;
 use std::marker::Model;
@@ -13,15 +15,23 @@ use std::marker::Model;
 #[derive(Drop)]
 pub struct Columns<'a> {
     names: Vec<Option<&'a Name>>,
+    index: IndexMap<&'a Name, Occurrences>,
+    repeats: bool,
 }
 
 impl<'a> Model for Columns<'a> {
-    ghost use Rattle.std.specs.Prelude.{List, map, option_map};
+    ghost use Rattle.std.specs.Prelude.{◌≡◌, List};
     ghost use Rattle.sql_model.specs.Frames.{ColumnName};
+    ghost use Rattle.scope_core.specs.Faults.{name_twice};
+    ghost use Rattle.scope_core.specs.Names.{IsIndexOf, names_of};
 
     ghost Value = { List ColumnName };
 
-    ghost view = { λ columns. map (option_map (λ name. name.now)) columns.names.items };
+    ghost view = { λ columns. names_of columns.names.items };
+
+    ghost invariant = { λ columns.
+        IsIndexOf columns.index.entries (names_of columns.names.items)
+        × (columns.repeats ≡ name_twice (names_of columns.names.items)) };
 }
 
 impl<'a> Columns<'a> {
@@ -31,6 +41,8 @@ impl<'a> Columns<'a> {
     {
         Columns {
             names: Vec::new(alloc),
+            index: IndexMap::new(alloc),
+            repeats: false,
         }
     }
 
@@ -52,43 +64,44 @@ impl<'a> Columns<'a> {
         self.names.len()
     }
 
-    /// The place of the first column of this name.
-    #[tactic(auto, using(crate::proofs::Lists::columns))]
-    pub fn position(&self, name: &Name) -> Option<usize>
-        ensures { result ≡ position (is_called name.now) self.now }
+    /// Where this name stands among them, found without a walk.
+    pub fn find(&self, name: &Name) -> Option<Occurrences>
+        ensures { result ≡ occurrences name.now self.now }
     {
-        position_called(self.names.as_slice(), name)
-    }
-
-    /// Whether a column has this name.
-    #[tactic(auto, using(crate::proofs::Lists::columns))]
-    pub fn has(&self, name: &Name) -> bool
-        ensures { result ≡ list_any (is_called name.now) self.now }
-    {
-        has_called(self.names.as_slice(), name)
-    }
-
-    /// How many columns have this name.
-    #[tactic(auto, using(crate::proofs::Lists::columns))]
-    pub fn count_called(&self, name: &Name) -> usize
-        ensures { result ≡ count_called name.now self.now }
-    {
-        count_of_called(self.names.as_slice(), name)
+        self.index.get(&name).copied()
     }
 
     /// Whether two columns have one name.
-    #[tactic(auto, using(crate::proofs::Lists::columns))]
     pub fn has_name_twice(&self) -> bool
         ensures { result ≡ name_twice self.now }
     {
-        has_name_twice(self.names.as_slice())
+        self.repeats
     }
 
     /// Appends a column.
     pub fn push(&mut self, name: Option<&'a Name>) -> Result<(), NoMemory>
         ensures { OnOk result (self.new ≡ self.old ++ option_map (λ n. n.now) name.entry ∷ []) }
     {
-        self.names.push(name)?;
+        match name {
+            Some(own) => self.push_named(own),
+            None => self.push_unnamed(),
+        }
+    }
+
+    fn push_named(&mut self, name: &'a Name) -> Result<(), NoMemory>
+        ensures { OnOk result (self.new ≡ self.old ++ Some name.entry.now ∷ []) }
+    {
+        self.names.reserve(1)?;
+        let seen = note(&mut self.index, name, self.names.len())?;
+        self.repeats = self.repeats | seen;
+        self.names.push_reserved(Some(name));
+        Ok(())
+    }
+
+    fn push_unnamed(&mut self) -> Result<(), NoMemory>
+        ensures { OnOk result (self.new ≡ self.old ++ None ∷ []) }
+    {
+        self.names.push(None)?;
         Ok(())
     }
 
@@ -96,56 +109,10 @@ impl<'a> Columns<'a> {
     pub fn append(&mut self, others: &Columns<'a>) -> Result<(), NoMemory>
         ensures { OnOk result (self.new ≡ self.old ++ others.now) }
     {
-        self.names.extend_from_slice(others.names.as_slice())?;
-        Ok(())
-    }
-}
-
-fn position_called(names: &[Option<&Name>], name: &Name) -> Option<usize>
-    ensures { result ≡ position (λ own. is_called name.now (option_map (λ n. n.now) own)) names.now }
-{
-    names.iter().position(|own| is_called(name, *own))
-}
-
-fn has_called(names: &[Option<&Name>], name: &Name) -> bool
-    ensures { result ≡ list_any (λ own. is_called name.now (option_map (λ n. n.now) own)) names.now }
-{
-    names.iter().any(|own| is_called(name, *own))
-}
-
-fn has_name_twice(names: &[Option<&Name>]) -> bool
-    ensures { result ≡ name_twice (map (option_map (λ n. n.now)) names.now) }
-{
-    for (index, column) in names.iter().enumerate() {
-        if is_repeated(*column, &names[index + 1..]) {
-            return true;
+        for name in others.names.iter() {
+            self.push(*name)?;
         }
-    }
-    false
-}
-
-#[tactic(auto, using(crate::proofs::Lists::columns))]
-fn is_repeated(column: Option<&Name>, others: &[Option<&Name>]) -> bool
-    ensures { result ≡ is_repeated (option_map (λ n. n.now) column.entry) (map (option_map (λ n. n.now)) others.now) }
-{
-    match column {
-        Some(name) => has_called(others, name),
-        None => false,
-    }
-}
-
-fn count_of_called(names: &[Option<&Name>], name: &Name) -> usize
-    ensures { result ≡ count_by (λ own. is_called name.now (option_map (λ n. n.now) own)) names.now }
-{
-    names.iter().filter(|own| is_called(name, **own)).count()
-}
-
-fn is_called(name: &Name, column: Option<&Name>) -> bool
-    ensures { result ≡ is_called name.now (option_map (λ n. n.now) column.entry) }
-{
-    match column {
-        Some(own) => name == own,
-        None => false,
+        Ok(())
     }
 }
 

@@ -1,15 +1,16 @@
 //! What a place of a query sees of the blocks around it.
-ghost use Rattle.std.specs.Prelude.{◌≡◌, ◌+◌, ◌<◌, position, nat_lt, nat_eq, not, true, false, length, IfNone, IfSome, IfOk, IfErr, MatchOption, find, is_some, option_map};
+ghost use Rattle.std.specs.Prelude.{◌≡◌, ◌+◌, ◌<◌, position, nat_lt, nat_eq, not, true, false, length, IfNone, IfSome, IfOk, IfErr, MatchOption, find, is_some, option_map, unwrap_or};
 ghost use Rattle.std.specs.List.{flat_map, list_any};
 ghost use Rattle.sql_model.specs.Columns.{is_called, same_name};
 ghost use Rattle.sql_model.specs.Headings.{columns_of};
 ghost use Rattle.scope_core.specs.declared.fault.ScopeFault.TheVariants as fault;
 ghost use Rattle.scope_core.specs.Faults.{count_called, is_group, is_in_group, is_member};
+ghost use Rattle.scope_core.specs.Names.{occurrences};
 ghost use Rattle.scope_core.specs.Lent.{is_lacking_in, is_twice_in, levels_of};
 ghost use Rattle.scope_core.specs.Scope.{bare_place, headings_here, member_levels, place_in, sight_here};
 
 use crate::fault::ScopeFault;
-use crate::heading::Heading;
+use crate::heading::{Columns, Heading};
 use sql_model::Name;
 
 /// How a place sees a block around it: by the rows of its entries, by the columns of a group, or by the rows of one member.
@@ -106,47 +107,56 @@ pub struct Found {
     pub lacks: bool,
 }
 
-/// The first column of this name among all entries.
-fn bare_place(name: &Name, first: u32, headings: &[Heading]) -> Option<(usize, usize)>
-    ensures { result ≡ bare_place name.now first headings.now }
+/// Whether a column of these entries has this name.
+fn is_offered(name: &Name, headings: &[Heading]) -> bool
+    ensures { result ≡ list_any (λ h. is_some (occurrences name.now h.columns)) headings.now }
 {
-    for (index, heading) in headings.iter().enumerate() {
-        if let Some(column) = heading.columns().position(name) {
-            return Some((first as usize + index, column));
-        }
-    }
-    None
+    headings
+        .iter()
+        .any(|heading| heading.columns().find(name).is_some())
 }
 
-/// Whether two columns of all entries have this name.
-#[tactic(auto, using(crate::proofs::Lists::counts))]
-fn is_called_twice(name: &Name, headings: &[Heading]) -> bool
-    ensures { result ≡ nat_lt 1 (count_called name.now (flat_map (λ h. h.columns) headings.now)) }
-{
-    let mut seen = 0;
-    for heading in headings {
-        let count = heading.columns().count_called(name);
-        if count > 1 - seen {
-            return true;
-        }
-        seen += count;
-    }
-    false
-}
-
+/// A bare name. Each entry is asked once for it, at most: those after the first that has it tell whether it stands twice.
 fn find_bare(name: &Name, first: u32, headings: &[Heading]) -> Option<Found>
     ensures none { IfNone result (place_in None name.now first headings.now ≡ None) }
     ensures place { IfSome result (λ f. place_in None name.now first headings.now ≡ Some (f.entry, f.column)) }
     ensures twice { IfSome result (λ f. f.twice ≡ nat_lt 1 (count_called name.now (flat_map (λ h. h.columns) headings.now))) }
     ensures lacks { IfSome result (λ f. f.lacks ≡ false) }
 {
-    let (entry, column) = bare_place(name, first, headings)?;
-    Some(Found {
-        entry,
-        column,
-        twice: is_called_twice(name, headings),
-        lacks: false,
-    })
+    for (index, heading) in headings.iter().enumerate() {
+        if let Some(seen) = heading.columns().find(name) {
+            return Some(Found {
+                entry: first as usize + index,
+                column: seen.first,
+                twice: seen.twice || is_offered(name, &headings[index + 1..]),
+                lacks: false,
+            });
+        }
+    }
+    None
+}
+
+/// A name in the entry of its qualifier: one past the columns where the entry lacks it.
+#[tactic(auto, using(crate::proofs::Occurring::entry))]
+fn find_in_entry(name: &Name, entry: usize, columns: &Columns) -> Found
+    ensures place { (result.entry ≡ entry) × (result.column ≡ unwrap_or (position (is_called name.now) columns.now) (length columns.now)) }
+    ensures twice { result.twice ≡ nat_lt 1 (count_called name.now columns.now) }
+    ensures lacks { result.lacks ≡ not (list_any (is_called name.now) columns.now) }
+{
+    match columns.find(name) {
+        Some(seen) => Found {
+            entry,
+            column: seen.first,
+            twice: seen.twice,
+            lacks: false,
+        },
+        None => Found {
+            entry,
+            column: columns.len(),
+            twice: false,
+            lacks: true,
+        },
+    }
 }
 
 fn find_qualified(alias: &Name, name: &Name, first: u32, headings: &[Heading]) -> Option<Found>
@@ -157,13 +167,8 @@ fn find_qualified(alias: &Name, name: &Name, first: u32, headings: &[Heading]) -
 {
     for (index, heading) in headings.iter().enumerate() {
         if heading.is_alias(alias) {
-            let columns = heading.columns();
-            return Some(Found {
-                entry: first as usize + index,
-                column: columns.position(name).unwrap_or(columns.len()),
-                twice: columns.count_called(name) > 1,
-                lacks: !columns.has(name),
-            });
+            let entry = first as usize + index;
+            return Some(find_in_entry(name, entry, heading.columns()));
         }
     }
     None

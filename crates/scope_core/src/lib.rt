@@ -12,6 +12,7 @@ mod grouping;
 mod heading;
 pub mod laws;
 mod level;
+mod names;
 mod output;
 mod resolution;
 mod resolved;
