@@ -10,6 +10,7 @@ pub mod Width
 pub mod Sites
 pub mod Faults
 pub mod Names
+pub mod Held
 pub mod WellFormed
 pub mod FirstFault
 pub mod Plain

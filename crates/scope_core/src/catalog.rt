@@ -8,7 +8,8 @@ ghost use Rattle.scope_core.specs.Scope.{Known as TheKnown};
 ghost use Rattle.scope_core.specs.Syntax.{RQuery as Tree};
 
 use crate::fault::{ScopeFault, number};
-use crate::heading::{Columns, Known, Stored};
+use crate::heading::{Known, Stored};
+use crate::names::Columns;
 use crate::output::output_columns;
 use sql_model::{Name, Query, Relation, Schema, Table};
 use std::alloc::Global;

@@ -26,10 +26,10 @@ struct Sought<'a> {
 }
 
 /// Seeks a name from the innermost block outwards.
-fn seek<'s, 'a>(
+fn seek<'s, 'k, 'a>(
     qual: &Option<Name>,
     name: &Name,
-    levels: &Levels<'s, 'a>,
+    levels: &Levels<'s, 'k, 'a>,
 ) -> Result<Option<Sought<'s>>, ScopeFault>
     ensures err { IfErr result (λ f. f ≡ fault.NoMemory) }
     ensures none { IfOk result (λ s. IfNone s (block_meant qual.now name.now (levels_of levels.now) ≡ None)) }
@@ -171,13 +171,13 @@ pub fn resolve_column(
 /// A column of GROUP BY, which is one of its block's: its entry, and its place in that.
 #[inline(never)]
 #[tactic(auto, using(crate::proofs::Groups::own))]
-pub fn resolve_own_column<'s, 'a>(
+pub fn resolve_own_column<'s, 'k, 'a>(
     qual: &Option<Name>,
     qual_at: u32,
     name: &Name,
     at: u32,
-    headings: &'s [Heading<'a>],
-    levels: &'s Levels<'s, 'a>,
+    headings: &'s [Heading<'k, 'a>],
+    levels: &'s Levels<'s, 'k, 'a>,
 ) -> Result<(u32, u32), ScopeFault>
     ensures fine { IfOk result (λ v. group_fault (rows_level headings.now ∷ levels_of levels.now) (expr.Col qual.now qual_at name.now at) ≡ None) }
     ensures value { IfOk result (λ v. v ≡ group_place (expr.Col qual.now qual_at name.now at) headings.now) }

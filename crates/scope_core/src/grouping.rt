@@ -45,12 +45,12 @@ pub fn sight_by(grouping: &Grouping) -> Sight
 /// The key of a block, or that it has none.
 #[inline(never)]
 #[tactic(auto, using(crate::proofs::Groups::laws))]
-pub fn resolve_grouping<'s, 'a>(
+pub fn resolve_grouping<'s, 'k, 'a>(
     alloc: Global,
     groups: &Option<List<Expr>>,
     one_group: bool,
-    headings: &'s [Heading<'a>],
-    levels: &'s Levels<'s, 'a>,
+    headings: &'s [Heading<'k, 'a>],
+    levels: &'s Levels<'s, 'k, 'a>,
 ) -> Result<Grouping, ScopeFault>
     ensures fine { IfOk result (λ v. group_by_fault (rows_level headings.now ∷ levels_of levels.now) groups.now ≡ None) }
     ensures value { IfOk result (λ v. v ≡ grouping_listed groups.now one_group headings.now) }
@@ -69,11 +69,11 @@ pub fn resolve_grouping<'s, 'a>(
 }
 
 #[tactic(auto, using(crate::proofs::Groups::laws))]
-fn resolve_columns<'s, 'a>(
+fn resolve_columns<'s, 'k, 'a>(
     alloc: Global,
     columns: &[Expr],
-    headings: &'s [Heading<'a>],
-    levels: &'s Levels<'s, 'a>,
+    headings: &'s [Heading<'k, 'a>],
+    levels: &'s Levels<'s, 'k, 'a>,
 ) -> Result<List<(u32, u32)>, ScopeFault>
     ensures fine { IfOk result (λ v. columns_fault (rows_level headings.now ∷ levels_of levels.now) columns.now ≡ None) }
     ensures value { IfOk result (λ v. v ≡ places_listed headings.now columns.now) }
@@ -88,10 +88,10 @@ fn resolve_columns<'s, 'a>(
 }
 
 #[tactic(auto, using(crate::proofs::Groups::laws))]
-fn resolve_group_column<'s, 'a>(
+fn resolve_group_column<'s, 'k, 'a>(
     column: &Expr,
-    headings: &'s [Heading<'a>],
-    levels: &'s Levels<'s, 'a>,
+    headings: &'s [Heading<'k, 'a>],
+    levels: &'s Levels<'s, 'k, 'a>,
 ) -> Result<(u32, u32), ScopeFault>
     ensures fine { IfOk result (λ v. group_fault (rows_level headings.now ∷ levels_of levels.now) column.now ≡ None) }
     ensures value { IfOk result (λ v. v ≡ group_place column.now headings.now) }

@@ -1,140 +1,51 @@
-//! Names of columns, and what stands behind a name of FROM, lent from the trees that they are written in.
-ghost use Rattle.std.specs.Prelude.{◌≡◌, ◌++◌, ◌∷◌, [], OnOk, IfOk, Some, None, length, option_map, map};
+//! What stands behind a name of FROM, and the relations that a query can name.
+ghost use Rattle.std.specs.Prelude.{◌≡◌};
 ghost use Rattle.sql_model.specs.Columns.{same_name};
-ghost use Rattle.scope_core.specs.Faults.{name_twice};
-ghost use Rattle.scope_core.specs.Names.{occurrences};
+ghost use Rattle.scope_core.specs.Held.{columns_held};
 
-use crate::NoMemory;
-use crate::names::{Occurrences, note};
-use indexmap::IndexMap;
+use crate::names::Columns;
 use sql_model::Name;
-use std::alloc::Global;
 use std::marker::Model;
 
-/// The columns of a relation or of an entry of FROM, by name where they have one.
+/// The columns of a source: those of a relation, lent with their index, or those of a derived table.
 #[derive(Drop)]
-pub struct Columns<'a> {
-    names: Vec<Option<&'a Name>>,
-    index: IndexMap<&'a Name, Occurrences>,
-    repeats: bool,
+pub enum Held<'k, 'a> {
+    Lent { columns: &'k Columns<'a> },
+    Own { columns: Columns<'a> },
 }
 
-impl<'a> Model for Columns<'a> {
-    ghost use Rattle.std.specs.Prelude.{◌≡◌, List};
-    ghost use Rattle.sql_model.specs.Frames.{ColumnName};
-    ghost use Rattle.scope_core.specs.Faults.{name_twice};
-    ghost use Rattle.scope_core.specs.Names.{IsIndexOf, names_of};
-
-    ghost Value = { List ColumnName };
-
-    ghost view = { λ columns. names_of columns.names.items };
-
-    ghost invariant = { λ columns.
-        IsIndexOf columns.index.entries (names_of columns.names.items)
-        × (columns.repeats ≡ name_twice (names_of columns.names.items)) };
-}
-
-impl<'a> Columns<'a> {
-    /// No columns, which take no memory.
-    pub fn new(alloc: Global) -> Columns<'a>
-        ensures { result ≡ [] }
+impl<'k, 'a> Held<'k, 'a> {
+    /// The columns, lent.
+    pub fn columns(&self) -> &Columns<'a>
+        ensures { result.now ≡ columns_held self.now }
     {
-        Columns {
-            names: Vec::new(alloc),
-            index: IndexMap::new(alloc),
-            repeats: false,
+        match self {
+            Held::Lent { columns } => *columns,
+            Held::Own { columns } => columns,
         }
-    }
-
-    /// The columns of a table.
-    pub fn of_table(alloc: Global, names: &'a [Name]) -> Result<Columns<'a>, NoMemory>
-        ensures { IfOk result (λ columns. columns ≡ map (λ name. Some name) names.now) }
-    {
-        let mut columns = Columns::new(alloc);
-        for name in names {
-            columns.push(Some(name))?;
-        }
-        Ok(columns)
-    }
-
-    /// How many columns there are.
-    pub fn len(&self) -> usize
-        ensures { result ≡ length self.now }
-    {
-        self.names.len()
-    }
-
-    /// Where this name stands among them, found without a walk.
-    pub fn find(&self, name: &Name) -> Option<Occurrences>
-        ensures { result ≡ occurrences name.now self.now }
-    {
-        self.index.get(&name).copied()
-    }
-
-    /// Whether two columns have one name.
-    pub fn has_name_twice(&self) -> bool
-        ensures { result ≡ name_twice self.now }
-    {
-        self.repeats
-    }
-
-    /// Appends a column.
-    pub fn push(&mut self, name: Option<&'a Name>) -> Result<(), NoMemory>
-        ensures { OnOk result (self.new ≡ self.old ++ option_map (λ n. n.now) name.entry ∷ []) }
-    {
-        match name {
-            Some(own) => self.push_named(own),
-            None => self.push_unnamed(),
-        }
-    }
-
-    fn push_named(&mut self, name: &'a Name) -> Result<(), NoMemory>
-        ensures { OnOk result (self.new ≡ self.old ++ Some name.entry.now ∷ []) }
-    {
-        self.names.reserve(1)?;
-        let seen = note(&mut self.index, name, self.names.len())?;
-        self.repeats = self.repeats | seen;
-        self.names.push_reserved(Some(name));
-        Ok(())
-    }
-
-    fn push_unnamed(&mut self) -> Result<(), NoMemory>
-        ensures { OnOk result (self.new ≡ self.old ++ None ∷ []) }
-    {
-        self.names.push(None)?;
-        Ok(())
-    }
-
-    /// Appends the columns of another.
-    pub fn append(&mut self, others: &Columns<'a>) -> Result<(), NoMemory>
-        ensures { OnOk result (self.new ≡ self.old ++ others.now) }
-    {
-        for name in others.names.iter() {
-            self.push(*name)?;
-        }
-        Ok(())
     }
 }
 
 /// What stands behind a name of FROM: its alias and its columns.
 #[derive(Drop)]
-pub struct Heading<'a> {
+pub struct Heading<'k, 'a> {
     alias: &'a Name,
-    columns: Columns<'a>,
+    columns: Held<'k, 'a>,
 }
 
-impl<'a> Model for Heading<'a> {
+impl<'k, 'a> Model for Heading<'k, 'a> {
     ghost use Rattle.sql_model.specs.Headings.{Heading as TheHeading};
+    ghost use Rattle.scope_core.specs.Held.{columns_held};
 
     ghost Value = { TheHeading };
 
-    ghost view = { λ h. record { alias = h.alias.now; columns = h.columns } };
+    ghost view = { λ h. record { alias = h.alias.now; columns = columns_held h.columns } };
 }
 
-impl<'a> Heading<'a> {
+impl<'k, 'a> Heading<'k, 'a> {
     /// An entry of this alias and these columns.
-    pub fn new(alias: &'a Name, columns: Columns<'a>) -> Heading<'a>
-        ensures { result ≡ record { alias = alias.now; columns = columns.entry } }
+    pub fn new(alias: &'a Name, columns: Held<'k, 'a>) -> Heading<'k, 'a>
+        ensures { result ≡ record { alias = alias.entry.now; columns = columns_held columns.entry } }
     {
         Heading { alias, columns }
     }
@@ -143,7 +54,7 @@ impl<'a> Heading<'a> {
     pub fn columns(&self) -> &Columns<'a>
         ensures { result.now ≡ self.now.columns }
     {
-        &self.columns
+        self.columns.columns()
     }
 
     /// Whether this is its alias.

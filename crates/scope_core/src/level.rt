@@ -10,7 +10,8 @@ ghost use Rattle.scope_core.specs.Lent.{is_lacking_in, is_twice_in, levels_of};
 ghost use Rattle.scope_core.specs.Scope.{bare_place, headings_here, member_levels, place_in, sight_here};
 
 use crate::fault::ScopeFault;
-use crate::heading::{Columns, Heading};
+use crate::heading::Heading;
+use crate::names::Columns;
 use sql_model::Name;
 
 /// How a place sees a block around it: by the rows of its entries, by the columns of a group, or by the rows of one member.
@@ -23,17 +24,17 @@ pub enum Sight<'a> {
 
 /// The blocks around a place, the innermost first. The first of the headings is that of entry number `first`.
 #[derive(Clone, Copy)]
-pub enum Levels<'s, 'a> {
+pub enum Levels<'s, 'k, 'a> {
     Outside,
     Block {
         first: u32,
-        headings: &'s [Heading<'a>],
+        headings: &'s [Heading<'k, 'a>],
         sight: Sight<'s>,
-        outer: &'s Levels<'s, 'a>,
+        outer: &'s Levels<'s, 'k, 'a>,
     },
 }
 
-impl<'s, 'a> Levels<'s, 'a> {
+impl<'s, 'k, 'a> Levels<'s, 'k, 'a> {
     /// Whether this is the argument of an aggregate.
     pub fn is_member(&self) -> bool
         ensures { result ≡ is_member (sight_here (levels_of self.now)) }
@@ -68,7 +69,7 @@ impl<'s, 'a> Levels<'s, 'a> {
     }
 
     /// What stands behind the names of the innermost block.
-    pub fn headings(&self) -> &'s [Heading<'a>]
+    pub fn headings(&self) -> &'s [Heading<'k, 'a>]
         ensures { result.now ≡ headings_here (levels_of self.now) }
     {
         match self {
@@ -78,7 +79,7 @@ impl<'s, 'a> Levels<'s, 'a> {
     }
 
     /// What the argument of an aggregate sees.
-    pub fn of_member(&self) -> Levels<'s, 'a>
+    pub fn of_member(&self) -> Levels<'s, 'k, 'a>
         ensures { levels_of result ≡ member_levels (levels_of self.now) }
     {
         match self {

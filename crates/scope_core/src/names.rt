@@ -1,12 +1,15 @@
-//! An index of names: where a name stands among columns, found without a walk along them.
-ghost use Rattle.std.specs.Prelude.{◌≡◌, cond, is_some, OnOk, OnErr, IfOk, Some};
+//! Names of columns, lent from the trees that they are written in, with an index: where a name stands is found without a walk.
+ghost use Rattle.std.specs.Prelude.{◌≡◌, ◌++◌, ◌∷◌, [], cond, is_some, length, map, option_map, OnOk, OnErr, IfOk, Some, None};
 ghost use Rattle.sql_model.specs.Columns.{same_name};
 ghost use Rattle.sql_model.specs.Syntax.{Name as TheName};
-ghost use Rattle.scope_core.specs.Names.{indexed, noted};
+ghost use Rattle.scope_core.specs.Faults.{name_twice};
+ghost use Rattle.scope_core.specs.Names.{indexed, noted, occurrences};
 
 use crate::NoMemory;
 use indexmap::IndexMap;
 use sql_model::Name;
+use std::alloc::Global;
+use std::marker::Model;
 
 /// Where a name stands among columns: the place of the first that has it, and whether another has it too.
 #[derive(Clone, Copy)]
@@ -34,7 +37,7 @@ impl Occurrences {
 }
 
 /// Notes that one column more, at this place, has the name. Answers whether one before it has.
-pub fn note<'a>(
+fn note<'a>(
     index: &mut IndexMap<&'a Name, Occurrences>,
     name: &'a Name,
     place: usize,
@@ -47,4 +50,109 @@ pub fn note<'a>(
     let before = index.get(&name).copied();
     index.insert(name, Occurrences::noted(before, place))?;
     Ok(before.is_some())
+}
+
+/// The columns of a relation or of an entry of FROM, by name where they have one.
+#[derive(Drop)]
+pub struct Columns<'a> {
+    names: Vec<Option<&'a Name>>,
+    index: IndexMap<&'a Name, Occurrences>,
+    repeats: bool,
+}
+
+impl<'a> Model for Columns<'a> {
+    ghost use Rattle.std.specs.Prelude.{◌≡◌, List};
+    ghost use Rattle.sql_model.specs.Frames.{ColumnName};
+    ghost use Rattle.scope_core.specs.Faults.{name_twice};
+    ghost use Rattle.scope_core.specs.Names.{IsIndexOf, names_of};
+
+    ghost Value = { List ColumnName };
+
+    ghost view = { λ columns. names_of columns.names.items };
+
+    ghost invariant = { λ columns.
+        IsIndexOf columns.index.entries (names_of columns.names.items)
+        × (columns.repeats ≡ name_twice (names_of columns.names.items)) };
+}
+
+impl<'a> Columns<'a> {
+    /// No columns, which take no memory.
+    pub fn new(alloc: Global) -> Columns<'a>
+        ensures { result ≡ [] }
+    {
+        Columns {
+            names: Vec::new(alloc),
+            index: IndexMap::new(alloc),
+            repeats: false,
+        }
+    }
+
+    /// The columns of a table.
+    pub fn of_table(alloc: Global, names: &'a [Name]) -> Result<Columns<'a>, NoMemory>
+        ensures { IfOk result (λ columns. columns ≡ map (λ name. Some name) names.now) }
+    {
+        let mut columns = Columns::new(alloc);
+        for name in names {
+            columns.push(Some(name))?;
+        }
+        Ok(columns)
+    }
+
+    /// How many columns there are.
+    pub fn len(&self) -> usize
+        ensures { result ≡ length self.now }
+    {
+        self.names.len()
+    }
+
+    /// Where this name stands among them, found without a walk.
+    pub fn find(&self, name: &Name) -> Option<Occurrences>
+        ensures { result ≡ occurrences name.now self.now }
+    {
+        self.index.get(&name).copied()
+    }
+
+    /// Whether two columns have one name.
+    pub fn has_name_twice(&self) -> bool
+        ensures { result ≡ name_twice self.now }
+    {
+        self.repeats
+    }
+
+    /// Appends a column.
+    pub fn push(&mut self, name: Option<&'a Name>) -> Result<(), NoMemory>
+        ensures { OnOk result (self.new ≡ self.old ++ option_map (λ n. n.now) name.entry ∷ []) }
+    {
+        match name {
+            Some(own) => self.push_named(own),
+            None => self.push_unnamed(),
+        }
+    }
+
+    fn push_named(&mut self, name: &'a Name) -> Result<(), NoMemory>
+        ensures { OnOk result (self.new ≡ self.old ++ Some name.entry.now ∷ []) }
+    {
+        self.names.reserve(1)?;
+        let seen = note(&mut self.index, name, self.names.len())?;
+        self.repeats = self.repeats | seen;
+        self.names.push_reserved(Some(name));
+        Ok(())
+    }
+
+    fn push_unnamed(&mut self) -> Result<(), NoMemory>
+        ensures { OnOk result (self.new ≡ self.old ++ None ∷ []) }
+    {
+        self.names.push(None)?;
+        Ok(())
+    }
+
+    /// Appends the columns of another.
+    pub fn append(&mut self, others: &Columns<'a>) -> Result<(), NoMemory>
+        ensures { OnOk result (self.new ≡ self.old ++ others.now) }
+    {
+        for name in others.names.iter() {
+            self.push(*name)?;
+        }
+        Ok(())
+    }
 }

@@ -4,10 +4,12 @@ ghost use Rattle.std.specs.List.{flat_map};
 ghost use Rattle.std.specs.Option.{option_or};
 ghost use Rattle.sql_model.specs.Columns.{same_name};
 ghost use Rattle.sql_model.specs.Headings.{block_columns, columns_of, item_columns, output_columns, own_name, source_columns};
+ghost use Rattle.scope_core.specs.Held.{columns_held};
 ghost use Rattle.scope_core.specs.Lent.{entries_headings, headings_of, list_columns, relation_of, relations_of};
 
 use crate::NoMemory;
-use crate::heading::{Columns, Heading, Known};
+use crate::heading::{Heading, Held, Known};
+use crate::names::Columns;
 use sql_model::{Block, Entry, Expr, Item, Name, Query, Source};
 use std::alloc::Global;
 
@@ -48,11 +50,11 @@ fn block_columns<'a>(
 #[cycle(output)]
 #[inline(never)]
 #[tactic(auto, using(crate::proofs::Outputs::outputs))]
-fn entries_headings<'a>(
+fn entries_headings<'k, 'a>(
     alloc: Global,
     entries: &'a [Entry],
-    known: &[Known<'a>],
-) -> Result<Vec<Heading<'a>>, NoMemory>
+    known: &'k [Known<'a>],
+) -> Result<Vec<Heading<'k, 'a>>, NoMemory>
     ensures { IfOk result (λ hs. hs.items ≡ entries_headings entries.now (headings_of known.now)) }
 {
     let mut headings = Vec::new(alloc);
@@ -67,41 +69,42 @@ fn entries_headings<'a>(
 #[cycle(output)]
 #[inline(never)]
 #[tactic(auto, using(crate::proofs::Outputs::outputs))]
-pub fn source_columns<'a>(
+pub fn source_columns<'k, 'a>(
     alloc: Global,
     source: &'a Source,
-    known: &[Known<'a>],
-) -> Result<Columns<'a>, NoMemory>
-    ensures { IfOk result (λ c. c ≡ source_columns source.now (headings_of known.now)) }
+    known: &'k [Known<'a>],
+) -> Result<Held<'k, 'a>, NoMemory>
+    ensures { IfOk result (λ c. columns_held c ≡ source_columns source.now (headings_of known.now)) }
 {
     match source {
-        Source::Named { name, .. } => named_columns(alloc, name, known),
-        Source::Query { query } => output_columns(alloc, query.get(), known),
+        Source::Named { name, .. } => Ok(named_columns(alloc, name, known)),
+        Source::Query { query } => Ok(Held::Own {
+            columns: output_columns(alloc, query.get(), known)?,
+        }),
     }
 }
 
-fn named_columns<'a>(
-    alloc: Global,
-    name: &Name,
-    known: &[Known<'a>],
-) -> Result<Columns<'a>, NoMemory>
-    ensures { IfOk result (λ c. c ≡ columns_of name.now (headings_of known.now)) }
+/// The columns of the relation of this name, or none.
+fn named_columns<'k, 'a>(alloc: Global, name: &Name, known: &'k [Known<'a>]) -> Held<'k, 'a>
+    ensures { columns_held result ≡ columns_of name.now (headings_of known.entry.now) }
 {
-    let mut columns = Columns::new(alloc);
     for relation in known {
         if name == relation.name {
-            columns.append(&relation.columns)?;
-            return Ok(columns);
+            return Held::Lent {
+                columns: &relation.columns,
+            };
         }
     }
-    Ok(columns)
+    Held::Own {
+        columns: Columns::new(alloc),
+    }
 }
 
 /// Appends the columns of an item, over the headings of FROM.
 pub fn add_item<'a>(
     columns: &mut Columns<'a>,
     item: &'a Item,
-    headings: &[Heading<'a>],
+    headings: &[Heading<'_, 'a>],
 ) -> Result<(), NoMemory>
     ensures { OnOk result (columns.new ≡ columns.old ++ item_columns item.now headings.now) }
 {
@@ -112,7 +115,7 @@ pub fn add_item<'a>(
     }
 }
 
-fn add_all<'a>(columns: &mut Columns<'a>, headings: &[Heading<'a>]) -> Result<(), NoMemory>
+fn add_all<'a>(columns: &mut Columns<'a>, headings: &[Heading<'_, 'a>]) -> Result<(), NoMemory>
     ensures { OnOk result (columns.new ≡ columns.old ++ flat_map (λ h. h.columns) headings.now) }
 {
     for heading in headings {
@@ -124,7 +127,7 @@ fn add_all<'a>(columns: &mut Columns<'a>, headings: &[Heading<'a>]) -> Result<()
 fn add_called<'a>(
     columns: &mut Columns<'a>,
     alias: &Name,
-    headings: &[Heading<'a>],
+    headings: &[Heading<'_, 'a>],
 ) -> Result<(), NoMemory>
     ensures { OnOk result (columns.new ≡ columns.old ++ columns_of alias.now headings.now) }
 {

@@ -35,11 +35,11 @@ use std::alloc::Global;
 /// A value.
 #[cycle(resolve)]
 #[tactic(auto, using(crate::proofs::Values::laws))]
-fn resolve_value<'a>(
+fn resolve_value<'k, 'a>(
     alloc: Global,
     expr: &'a Expr,
-    known: &[Known<'a>],
-    levels: &Levels<'_, 'a>,
+    known: &'k [Known<'a>],
+    levels: &Levels<'_, 'k, 'a>,
 ) -> Result<RVal, ScopeFault>
     ensures fine { IfOk result (λ v. value_fault (relations_of known.now) (levels_of levels.now) expr.now ≡ None) }
     ensures value { IfOk result (λ v. v ≡ resolved_value expr.now (relations_of known.now) (levels_of levels.now)) }
@@ -80,11 +80,11 @@ fn resolve_value<'a>(
 
 #[cycle(resolve)]
 #[tactic(auto, using(crate::proofs::Values::laws))]
-fn resolve_values<'a>(
+fn resolve_values<'k, 'a>(
     alloc: Global,
     exprs: &'a [Expr],
-    known: &[Known<'a>],
-    levels: &Levels<'_, 'a>,
+    known: &'k [Known<'a>],
+    levels: &Levels<'_, 'k, 'a>,
 ) -> Result<List<RVal>, ScopeFault>
     ensures fine { IfOk result (λ vs. values_fault (relations_of known.now) (levels_of levels.now) exprs.now ≡ None) }
     ensures value { IfOk result (λ vs. vs ≡ values_listed (relations_of known.now) (levels_of levels.now) exprs.now) }
@@ -102,14 +102,14 @@ fn resolve_values<'a>(
 #[cycle(resolve)]
 #[inline(never)]
 #[tactic(auto, using(crate::proofs::Values::laws))]
-fn resolve_aggregate<'a>(
+fn resolve_aggregate<'k, 'a>(
     alloc: Global,
     fun: AggFun,
     distinct: bool,
     arg: &'a Option<Boxed<Expr>>,
     at: u32,
-    known: &[Known<'a>],
-    levels: &Levels<'_, 'a>,
+    known: &'k [Known<'a>],
+    levels: &Levels<'_, 'k, 'a>,
 ) -> Result<RVal, ScopeFault>
     ensures fine { IfOk result (λ v. value_fault (relations_of known.now) (levels_of levels.now) (expr.Agg fun distinct arg.now at) ≡ None) }
     ensures value { IfOk result (λ v. v ≡ resolved_value (expr.Agg fun distinct arg.now at) (relations_of known.now) (levels_of levels.now)) }
@@ -133,12 +133,12 @@ fn resolve_aggregate<'a>(
 #[cycle(resolve)]
 #[inline(never)]
 #[tactic(auto, using(crate::proofs::Values::laws))]
-fn resolve_scalar<'a>(
+fn resolve_scalar<'k, 'a>(
     alloc: Global,
     query: &'a Boxed<Query>,
     at: u32,
-    known: &[Known<'a>],
-    levels: &Levels<'_, 'a>,
+    known: &'k [Known<'a>],
+    levels: &Levels<'_, 'k, 'a>,
 ) -> Result<RVal, ScopeFault>
     ensures fine { IfOk result (λ v. value_fault (relations_of known.now) (levels_of levels.now) (expr.Sub query.now at) ≡ None) }
     ensures value { IfOk result (λ v. v ≡ resolved_value (expr.Sub query.now at) (relations_of known.now) (levels_of levels.now)) }
@@ -160,11 +160,11 @@ fn resolve_scalar<'a>(
 #[cycle(resolve)]
 #[inline(never)]
 #[tactic(auto, using(crate::proofs::Values::laws))]
-fn resolve_boxed_block<'a>(
+fn resolve_boxed_block<'k, 'a>(
     alloc: Global,
     block: &'a Boxed<Block>,
-    known: &[Known<'a>],
-    levels: &Levels<'_, 'a>,
+    known: &'k [Known<'a>],
+    levels: &Levels<'_, 'k, 'a>,
 ) -> Result<Boxed<RBlock>, ScopeFault>
     ensures fine { IfOk result (λ v. block_fault (relations_of known.now) (levels_of levels.now) block.now ≡ None) }
     ensures value { IfOk result (λ v. v ≡ resolved_block block.now (relations_of known.now) (levels_of levels.now)) }
@@ -177,11 +177,11 @@ fn resolve_boxed_block<'a>(
 /// A condition: an AND of its conjuncts, where it has more than one.
 #[cycle(resolve)]
 #[tactic(auto, using(crate::proofs::Conditions::laws))]
-fn resolve_condition<'a>(
+fn resolve_condition<'k, 'a>(
     alloc: Global,
     expr: &'a Expr,
-    known: &[Known<'a>],
-    levels: &Levels<'_, 'a>,
+    known: &'k [Known<'a>],
+    levels: &Levels<'_, 'k, 'a>,
 ) -> Result<RCond, ScopeFault>
     ensures fine { IfOk result (λ v. truth_fault (relations_of known.now) (levels_of levels.now) expr.now ≡ None) }
     ensures value { IfOk result (λ v. v ≡ conjunction (conjuncts expr.now (relations_of known.now) (levels_of levels.now))) }
@@ -230,12 +230,12 @@ fn resolve_condition<'a>(
 #[cycle(resolve)]
 #[inline(never)]
 #[tactic(auto, using(crate::proofs::Conditions::laws))]
-fn predicate<'a>(
+fn predicate<'k, 'a>(
     alloc: Global,
     sym: u32,
     args: &'a [Expr],
-    known: &[Known<'a>],
-    levels: &Levels<'_, 'a>,
+    known: &'k [Known<'a>],
+    levels: &Levels<'_, 'k, 'a>,
 ) -> Result<RCond, ScopeFault>
     ensures fine { IfOk result (λ v. values_fault (relations_of known.now) (levels_of levels.now) args.now ≡ None) }
     ensures value { IfOk result (λ v. v ≡ condition.Pred sym (values_listed (relations_of known.now) (levels_of levels.now) args.now)) }
@@ -251,12 +251,12 @@ fn predicate<'a>(
 #[cycle(resolve)]
 #[inline(never)]
 #[tactic(auto, using(crate::proofs::Conditions::laws))]
-fn resolve_exists<'a>(
+fn resolve_exists<'k, 'a>(
     alloc: Global,
     query: &'a Boxed<Query>,
     at: u32,
-    known: &[Known<'a>],
-    levels: &Levels<'_, 'a>,
+    known: &'k [Known<'a>],
+    levels: &Levels<'_, 'k, 'a>,
 ) -> Result<RCond, ScopeFault>
     ensures fine { IfOk result (λ v. truth_fault (relations_of known.now) (levels_of levels.now) (expr.Exists query.now at) ≡ None) }
     ensures value { IfOk result (λ v. v ≡ condition.Exists (resolved query.now (relations_of known.now) (levels_of levels.now))) }
@@ -270,11 +270,11 @@ fn resolve_exists<'a>(
 #[cycle(resolve)]
 #[inline(never)]
 #[tactic(auto, using(crate::proofs::Conditions::laws))]
-fn resolve_and<'a>(
+fn resolve_and<'k, 'a>(
     alloc: Global,
     parts: &'a [Expr],
-    known: &[Known<'a>],
-    levels: &Levels<'_, 'a>,
+    known: &'k [Known<'a>],
+    levels: &Levels<'_, 'k, 'a>,
 ) -> Result<RCond, ScopeFault>
     ensures fine { IfOk result (λ v. truths_fault (relations_of known.now) (levels_of levels.now) parts.now ≡ None) }
     ensures value { IfOk result (λ v. v ≡ conjunction (conjuncts_listed (relations_of known.now) (levels_of levels.now) parts.now)) }
@@ -288,11 +288,11 @@ fn resolve_and<'a>(
 #[cycle(resolve)]
 #[inline(never)]
 #[tactic(auto, using(crate::proofs::Conditions::laws))]
-fn resolve_part<'a>(
+fn resolve_part<'k, 'a>(
     alloc: Global,
     part: &'a Boxed<Expr>,
-    known: &[Known<'a>],
-    levels: &Levels<'_, 'a>,
+    known: &'k [Known<'a>],
+    levels: &Levels<'_, 'k, 'a>,
 ) -> Result<Boxed<RCond>, ScopeFault>
     ensures fine { IfOk result (λ v. truth_fault (relations_of known.now) (levels_of levels.now) part.now ≡ None) }
     ensures value { IfOk result (λ v. v ≡ conjunction (conjuncts part.now (relations_of known.now) (levels_of levels.now))) }
@@ -304,11 +304,11 @@ fn resolve_part<'a>(
 
 #[cycle(resolve)]
 #[tactic(auto, using(crate::proofs::Conditions::laws))]
-fn resolve_conditions<'a>(
+fn resolve_conditions<'k, 'a>(
     alloc: Global,
     parts: &'a [Expr],
-    known: &[Known<'a>],
-    levels: &Levels<'_, 'a>,
+    known: &'k [Known<'a>],
+    levels: &Levels<'_, 'k, 'a>,
 ) -> Result<List<RCond>, ScopeFault>
     ensures fine { IfOk result (λ v. truths_fault (relations_of known.now) (levels_of levels.now) parts.now ≡ None) }
     ensures value { IfOk result (λ v. v ≡ conditions_listed (relations_of known.now) (levels_of levels.now) parts.now) }
@@ -325,12 +325,12 @@ fn resolve_conditions<'a>(
 /// Appends the conjuncts of a condition: those of an AND's parts, and else the condition itself.
 #[cycle(resolve)]
 #[tactic(auto, using(crate::proofs::Conditions::laws))]
-fn add_conjuncts<'a>(
+fn add_conjuncts<'k, 'a>(
     conditions: &mut Vec<RCond>,
     alloc: Global,
     expr: &'a Expr,
-    known: &[Known<'a>],
-    levels: &Levels<'_, 'a>,
+    known: &'k [Known<'a>],
+    levels: &Levels<'_, 'k, 'a>,
 ) -> Result<(), ScopeFault>
     ensures fine { OnOk result (truth_fault (relations_of known.now) (levels_of levels.now) expr.now ≡ None) }
     ensures value { OnOk result (conditions.new.items ≡ conditions.old.items ++ conjuncts expr.now (relations_of known.now) (levels_of levels.now)) }
@@ -348,12 +348,12 @@ fn add_conjuncts<'a>(
 
 #[cycle(resolve)]
 #[tactic(auto, using(crate::proofs::Conditions::laws))]
-fn add_conjuncts_of_each<'a>(
+fn add_conjuncts_of_each<'k, 'a>(
     conditions: &mut Vec<RCond>,
     alloc: Global,
     parts: &'a [Expr],
-    known: &[Known<'a>],
-    levels: &Levels<'_, 'a>,
+    known: &'k [Known<'a>],
+    levels: &Levels<'_, 'k, 'a>,
 ) -> Result<(), ScopeFault>
     ensures fine { OnOk result (truths_fault (relations_of known.now) (levels_of levels.now) parts.now ≡ None) }
     ensures value { OnOk result (conditions.new.items ≡ conditions.old.items ++ conjuncts_listed (relations_of known.now) (levels_of levels.now) parts.now) }
@@ -380,11 +380,11 @@ fn check_subquery(at: u32, levels: &Levels) -> Result<(), ScopeFault>
 #[cycle(resolve)]
 #[inline(never)]
 #[tactic(auto, using(crate::proofs::Queries::laws))]
-fn resolve_boxed_query<'a>(
+fn resolve_boxed_query<'k, 'a>(
     alloc: Global,
     query: &'a Boxed<Query>,
-    known: &[Known<'a>],
-    levels: &Levels<'_, 'a>,
+    known: &'k [Known<'a>],
+    levels: &Levels<'_, 'k, 'a>,
 ) -> Result<Boxed<RQuery>, ScopeFault>
     ensures fine { IfOk result (λ v. fault_within (relations_of known.now) (levels_of levels.now) query.now ≡ None) }
     ensures value { IfOk result (λ v. v ≡ resolved query.now (relations_of known.now) (levels_of levels.now)) }
@@ -397,11 +397,11 @@ fn resolve_boxed_query<'a>(
 /// A query within the blocks around it.
 #[cycle(resolve)]
 #[tactic(auto, using(crate::proofs::Queries::laws))]
-pub fn resolve_query<'a>(
+pub fn resolve_query<'k, 'a>(
     alloc: Global,
     query: &'a Query,
-    known: &[Known<'a>],
-    levels: &Levels<'_, 'a>,
+    known: &'k [Known<'a>],
+    levels: &Levels<'_, 'k, 'a>,
 ) -> Result<RQuery, ScopeFault>
     ensures fine { IfOk result (λ v. fault_within (relations_of known.now) (levels_of levels.now) query.now ≡ None) }
     ensures value { IfOk result (λ v. v ≡ resolved query.now (relations_of known.now) (levels_of levels.now)) }
@@ -432,12 +432,12 @@ pub fn resolve_query<'a>(
 /// That the operands of a set operator have one width.
 #[inline(never)]
 #[tactic(auto, using(crate::proofs::Columns::causes))]
-fn check_operands<'a>(
+fn check_operands<'k, 'a>(
     alloc: Global,
     left: &'a Boxed<Query>,
     right: &'a Boxed<Query>,
     at: u32,
-    known: &[Known<'a>],
+    known: &'k [Known<'a>],
 ) -> Result<(), ScopeFault>
     ensures fine { OnOk result (fault_at (TwoWidths (length (output_columns left.now (headings_of known.now))) (length (output_columns right.now (headings_of known.now))) at) ≡ None) }
     ensures err { IfErr result (λ f. IsCause f (fault_at (TwoWidths (length (output_columns left.now (headings_of known.now))) (length (output_columns right.now (headings_of known.now))) at))) }
@@ -450,11 +450,11 @@ fn check_operands<'a>(
 /// That the query of an IN has one column.
 #[inline(never)]
 #[tactic(auto, using(crate::proofs::Columns::causes))]
-fn check_one_column<'a>(
+fn check_one_column<'k, 'a>(
     alloc: Global,
     query: &'a Boxed<Query>,
     at: u32,
-    known: &[Known<'a>],
+    known: &'k [Known<'a>],
 ) -> Result<(), ScopeFault>
     ensures fine { OnOk result (fault_at (TwoWidths 1 (length (output_columns query.now (headings_of known.now))) at) ≡ None) }
     ensures err { IfErr result (λ f. IsCause f (fault_at (TwoWidths 1 (length (output_columns query.now (headings_of known.now))) at))) }
@@ -467,11 +467,11 @@ fn check_one_column<'a>(
 #[cycle(resolve)]
 #[inline(never)]
 #[tactic(auto, using(crate::proofs::Blocks::laws, crate::proofs::Blocks::tree))]
-fn resolve_block<'a>(
+fn resolve_block<'k, 'a>(
     alloc: Global,
     block: &'a Block,
-    known: &[Known<'a>],
-    levels: &Levels<'_, 'a>,
+    known: &'k [Known<'a>],
+    levels: &Levels<'_, 'k, 'a>,
 ) -> Result<RBlock, ScopeFault>
     ensures fine { IfOk result (λ v. block_fault (relations_of known.now) (levels_of levels.now) block.now ≡ None) }
     ensures value { IfOk result (λ v. v ≡ resolved_block block.now (relations_of known.now) (levels_of levels.now)) }
@@ -511,20 +511,20 @@ fn resolve_block<'a>(
 
 /// The entries of FROM, and what stands behind their names.
 #[derive(Drop)]
-struct FromClause<'a> {
+struct FromClause<'k, 'a> {
     entries: List<REntry>,
-    headings: Vec<Heading<'a>>,
+    headings: Vec<Heading<'k, 'a>>,
 }
 
 #[cycle(resolve)]
 #[inline(never)]
 #[tactic(auto, using(crate::proofs::Queries::laws))]
-fn resolve_entries<'a>(
+fn resolve_entries<'k, 'a>(
     alloc: Global,
     entries: &'a [Entry],
-    known: &[Known<'a>],
-    levels: &Levels<'_, 'a>,
-) -> Result<FromClause<'a>, ScopeFault>
+    known: &'k [Known<'a>],
+    levels: &Levels<'_, 'k, 'a>,
+) -> Result<FromClause<'k, 'a>, ScopeFault>
     ensures fine { IfOk result (λ v. entries_fault (relations_of known.now) (levels_of levels.now) [] entries.now ≡ None) }
     ensures value { IfOk result (λ v. v.entries ≡ entries_listed (relations_of known.now) (levels_of levels.now) entries.now) }
     ensures headings { IfOk result (λ v. v.headings.items ≡ entries_headings entries.now (headings_of known.now)) }
@@ -536,7 +536,7 @@ fn resolve_entries<'a>(
         let source = resolve_source(alloc, &entry.source, known, levels)?;
         check_alias(&entry.alias, entry.at, headings.as_slice())?;
         let columns = source_columns(alloc, &entry.source, known)?;
-        let width = number(columns.len())?;
+        let width = number(columns.columns().len())?;
         resolved.push(REntry { source, width })?;
         headings.push(Heading::new(&entry.alias, columns))?;
     }
@@ -549,11 +549,11 @@ fn resolve_entries<'a>(
 #[cycle(resolve)]
 #[inline(never)]
 #[tactic(auto, using(crate::proofs::Queries::laws))]
-fn resolve_source<'a>(
+fn resolve_source<'k, 'a>(
     alloc: Global,
     source: &'a Source,
-    known: &[Known<'a>],
-    levels: &Levels<'_, 'a>,
+    known: &'k [Known<'a>],
+    levels: &Levels<'_, 'k, 'a>,
 ) -> Result<RSource, ScopeFault>
     ensures fine { IfOk result (λ v. source_fault (relations_of known.now) (levels_of levels.now) source.now ≡ None) }
     ensures value { IfOk result (λ v. v ≡ resolved_source source.now (relations_of known.now) (levels_of levels.now)) }
@@ -571,13 +571,13 @@ fn resolve_source<'a>(
 #[cycle(resolve)]
 #[inline(never)]
 #[tactic(auto, using(crate::proofs::Queries::laws))]
-fn add_on_conditions<'s, 'a>(
+fn add_on_conditions<'s, 'k, 'a>(
     conditions: &mut Vec<RCond>,
     alloc: Global,
     entries: &'a [Entry],
-    headings: &'s [Heading<'a>],
-    known: &[Known<'a>],
-    levels: &'s Levels<'s, 'a>,
+    headings: &'s [Heading<'k, 'a>],
+    known: &'k [Known<'a>],
+    levels: &'s Levels<'s, 'k, 'a>,
 ) -> Result<(), ScopeFault>
     requires { headings.now ≡ entries_headings entries.now (headings_of known.now) }
     ensures fine { OnOk result (on_fault (relations_of known.now) (levels_of levels.now) 0 no_entry entries.now ≡ None) }
@@ -604,12 +604,12 @@ fn add_on_conditions<'s, 'a>(
 #[cycle(resolve)]
 #[inline(never)]
 #[tactic(auto, using(crate::proofs::Conditions::laws))]
-fn add_written<'a>(
+fn add_written<'k, 'a>(
     conditions: &mut Vec<RCond>,
     alloc: Global,
     condition: &'a Option<Expr>,
-    known: &[Known<'a>],
-    levels: &Levels<'_, 'a>,
+    known: &'k [Known<'a>],
+    levels: &Levels<'_, 'k, 'a>,
 ) -> Result<(), ScopeFault>
     ensures fine { OnOk result (written_fault (relations_of known.now) (levels_of levels.now) condition.now ≡ None) }
     ensures value { OnOk result (conditions.new.items ≡ conditions.old.items ++ written_listed (relations_of known.now) (levels_of levels.now) condition.now) }
@@ -624,11 +624,11 @@ fn add_written<'a>(
 #[cycle(resolve)]
 #[inline(never)]
 #[tactic(auto, using(crate::proofs::Conditions::laws))]
-fn resolve_having<'a>(
+fn resolve_having<'k, 'a>(
     alloc: Global,
     condition: &'a Option<Expr>,
-    known: &[Known<'a>],
-    levels: &Levels<'_, 'a>,
+    known: &'k [Known<'a>],
+    levels: &Levels<'_, 'k, 'a>,
 ) -> Result<Option<RCond>, ScopeFault>
     ensures fine { IfOk result (λ v. written_fault (relations_of known.now) (levels_of levels.now) condition.now ≡ None) }
     ensures value { IfOk result (λ v. v ≡ having_listed (relations_of known.now) (levels_of levels.now) condition.now) }
@@ -644,11 +644,11 @@ fn resolve_having<'a>(
 #[cycle(resolve)]
 #[inline(never)]
 #[tactic(auto, using(crate::proofs::Queries::laws))]
-fn resolve_items<'a>(
+fn resolve_items<'k, 'a>(
     alloc: Global,
     items: &'a [Item],
-    known: &[Known<'a>],
-    levels: &Levels<'_, 'a>,
+    known: &'k [Known<'a>],
+    levels: &Levels<'_, 'k, 'a>,
 ) -> Result<List<RVal>, ScopeFault>
     ensures fine { IfOk result (λ v. items_fault (relations_of known.now) (levels_of levels.now) 0 items.now ≡ None) }
     ensures value { IfOk result (λ v. v ≡ items_listed (relations_of known.now) (levels_of levels.now) items.now) }
@@ -666,12 +666,12 @@ fn resolve_items<'a>(
 #[cycle(resolve)]
 #[inline(never)]
 #[tactic(auto, using(crate::proofs::Queries::laws))]
-fn add_item<'a>(
+fn add_item<'k, 'a>(
     values: &mut Vec<RVal>,
     alloc: Global,
     item: &'a Item,
-    known: &[Known<'a>],
-    levels: &Levels<'_, 'a>,
+    known: &'k [Known<'a>],
+    levels: &Levels<'_, 'k, 'a>,
 ) -> Result<(), ScopeFault>
     ensures fine { OnOk result (item_fault (relations_of known.now) (levels_of levels.now) item.now ≡ None) }
     ensures value { OnOk result (values.new.items ≡ values.old.items ++ resolved_item item.now (relations_of known.now) (levels_of levels.now)) }

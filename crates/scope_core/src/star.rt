@@ -11,8 +11,9 @@ ghost use Rattle.scope_core.specs.Scope.{headings_here};
 ghost use Rattle.scope_core.specs.Sites.{AStar, AnAliasStar};
 
 use crate::fault::{ScopeCode, ScopeFault, number, refused};
-use crate::heading::{Columns, Heading};
+use crate::heading::Heading;
 use crate::level::Levels;
+use crate::names::Columns;
 use crate::tree::RVal;
 use sql_model::Name;
 

@@ -20,8 +20,9 @@ ghost use Rattle.scope_core.specs.Width.{width};
 
 use crate::catalog::{known_relations, known_table, known_view};
 use crate::fault::{ScopeCode, ScopeFault, refused};
-use crate::heading::{Columns, Known};
+use crate::heading::Known;
 use crate::level::Levels;
+use crate::names::Columns;
 use crate::resolution::resolve_query;
 use crate::resolved::{Resolved, Views};
 use plain_data::List;
@@ -70,16 +71,16 @@ pub fn resolve<'a>(
 
 /// A query that stands by itself, over these relations.
 #[tactic(auto, using(crate::proofs::Schemas::alone))]
-fn resolve_over<'a>(
+fn resolve_over<'k, 'a>(
     alloc: Global,
     query: &'a Query,
-    known: &[Known<'a>],
+    known: &'k [Known<'a>],
 ) -> Result<Resolved, ScopeFault>
     ensures fine { IfOk result (λ tree. fault_within (relations_of known.now) [] query.now ≡ None) }
     ensures value { IfOk result (λ tree. tree ≡ resolved query.now (relations_of known.now) []) }
     ensures err { IfErr result (λ f. IsCause f (fault_within (relations_of known.now) [] query.now)) }
 {
-    let outside: Levels<'a, 'a> = Levels::Outside;
+    let outside: Levels<'k, 'k, 'a> = Levels::Outside;
     let tree = resolve_query(alloc, query, known, &outside)?;
     Resolved::new(tree)
 }

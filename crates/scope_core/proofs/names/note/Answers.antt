@@ -1,4 +1,4 @@
-use Rattle.std.proofs.Common.{cond, Some, ap, sym, ◌∙◌}
+use Rattle.std.proofs.Common.{cond, Some, ap, ◌∙◌}
 use Rattle.sql_model.specs.Columns.{same_name}
 use Rattle.scope_core.specs.Names.{indexed, noted}
 use Rattle.scope_core.proofs.names.note.Goals as goal

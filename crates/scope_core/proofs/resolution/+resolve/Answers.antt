@@ -185,7 +185,7 @@ resolve_entries-loop-entry-preserved t c =
     let alias_is_new = subst P c.as_slice.ensures.value c.in_ok-check_alias.ensures.fine in
     let aliases = ap (λ hs. map (λ h. h.alias) hs) (c.in_ok-push-2.ensures.items ∙ ap (λ h. hs ++ h ∷ []) c.new.ensures) ∙ map-append (λ h. h.alias) hs _ in
     let wide : c.in_ok-width.width ≡ length (source_columns e.source relations) =
-    c.in_ok-width.ensures.fits ∙ (c.len.ensures ∙ ap (λ cs. length cs) c.in_ok-columns.ensures) in (
+    c.in_ok-width.ensures.fits ∙ (c.len.ensures ∙ ap (λ cs. length cs) (c.columns.ensures ∙ c.in_ok-columns.ensures)) in (
       ap (λ names. entries_fault K L names (drop (i + 1) xs)) aliases
           ∙ (sym (eq ∙ (ap (λ o. option_or o (option_or (fault_at (AnAlias e.alias before e.at)) rest)) c.in_ok-source.ensures.fine ∙ ap (λ o. option_or o rest) alias_is_new))
           ∙ c.loop-entry.invariant.0),

@@ -1,6 +1,6 @@
 use Rattle.std.proofs.Common.{ap, ◌∙◌}
 use Rattle.scope_core.specs.Names.{occurrences}
-use Rattle.scope_core.proofs.heading.Columns.find.Goals as goal
+use Rattle.scope_core.proofs.names.Columns.find.Goals as goal
 
 pub returns : goal.returns
 returns c =

@@ -3,7 +3,7 @@ use Rattle.std.proofs.lemmas.List.{map-append}
 use Rattle.scope_core.specs.Faults.{name_twice}
 use Rattle.scope_core.specs.Names.{IsIndexOf, names_of}
 use Rattle.scope_core.proofs.Occurring.{index-unnamed, unnamed-repeats}
-use Rattle.scope_core.proofs.heading.Columns.push_unnamed.Goals as goal
+use Rattle.scope_core.proofs.names.Columns.push_unnamed.Goals as goal
 
 pub invariant_of-self-2 : goal.invariant_of-self-2
 invariant_of-self-2 c =
