@@ -2,9 +2,8 @@
 //! many and alike.
 #![tactic(auto)]
 
-#[cfg(test)]
-mod arguments;
+pub mod arguments;
+pub mod calls;
 #[cfg(test)]
 mod tests;
-#[cfg(test)]
-mod text;
+pub mod text;

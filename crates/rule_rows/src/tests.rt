@@ -1,12 +1,8 @@
-use crate::arguments::{arguments, facts};
+use crate::arguments::{arguments, facts, sum_of, units};
+use crate::calls::{has_sides, is_side, other_side_is, sides_stand, why};
 use crate::text::spells;
-use std::alloc::Global;
 use std::test::Fail;
-use u_binder::close_path;
-use u_rules::{
-    Arg, InstanceFault, Rule, Sizes, Why, instance, leaves, same_leaves, side, sizes, stands,
-};
-use u_terms::{Boxed, Facts, List, NoMemory, U, Val, depth, nodes, same};
+use u_rules::{Rule, Why, instance, leaves, same_leaves};
 
 // A rule, its arguments, and its two sides.
 const ROWS: [(Rule, &str, &str, &str); 41] = [
@@ -203,38 +199,17 @@ const REFUSALS: [(Rule, &str, Why); 46] = [
     (Rule::Fkey, "9S", Why::NotClosed),
 ];
 
-// What `instance` refuses.
-fn why(alloc: Global, facts: &Facts, rule: Rule, args: &[Arg]) -> Option<Why> {
-    match instance(alloc, facts, rule, args) {
-        Err(InstanceFault::BadInstance { why }) => Some(why),
-        _ => None,
-    }
-}
-
 #[test]
 fn each_rule_has_its_two_sides(rt: HostRuntime) -> Result<(), Fail> {
     let alloc = rt.alloc();
     let facts = facts(alloc)?;
     for (rule, letters, left, right) in ROWS {
-        let args = arguments(alloc, letters)?;
-        match instance(alloc, &facts, rule, &args) {
-            Ok((l, r)) => {
-                assert!(rt; spells(left, &l) && spells(right, &r), "{left}");
-                assert!(rt; sizes(&facts, rule, &args) == sizes_of(&l, &r), "{left}");
-            }
-            Err(_) => assert!(rt; false, "{left}"),
-        }
+        assert!(rt;
+            has_sides(alloc, &facts, rule, letters, left, right)?,
+            "{left}"
+        );
     }
     Ok(())
-}
-
-fn sizes_of(left: &U, right: &U) -> Sizes {
-    Sizes {
-        left_nodes: nodes(left),
-        left_depth: depth(left),
-        right_nodes: nodes(right),
-        right_depth: depth(right),
-    }
 }
 
 #[test]
@@ -242,102 +217,43 @@ fn refusals_say_the_first_reason(rt: HostRuntime) -> Result<(), Fail> {
     let alloc = rt.alloc();
     let facts = facts(alloc)?;
     for (rule, letters, reason) in REFUSALS {
-        let args = arguments(alloc, letters)?;
-        assert_eq!(rt; why(alloc, &facts, rule, &args), Some(reason), "{letters}");
+        assert_eq!(rt;
+            why(alloc, &facts, rule, letters)?,
+            Some(reason),
+            "{letters}"
+        );
     }
     Ok(())
-}
-
-// A term with its names closed under this many binders.
-fn closed_copy(alloc: Global, term: &U, count: u32) -> Result<U, NoMemory> {
-    let mut copy = term.copy(alloc)?;
-    if depth(&copy) < 99 && count < 10 {
-        close_path(&mut copy, 0, count);
-    }
-    Ok(copy)
-}
-
-// Whether a term in place, under this many binders, is the left and the right side of a rule.
-fn in_place(
-    alloc: Global,
-    facts: &Facts,
-    rule: Rule,
-    args: &[Arg],
-    part: &U,
-    count: u32,
-) -> Option<(bool, bool)> {
-    if depth(part) > 99 || count > 9 {
-        return None;
-    }
-    let left = stands(alloc, facts, rule, args, false, part, 0, count).ok()?;
-    let right = stands(alloc, facts, rule, args, true, part, 0, count).ok()?;
-    Some((left, right))
 }
 
 #[test]
 fn sides_stand_in_place(rt: HostRuntime) -> Result<(), Fail> {
     let alloc = rt.alloc();
     let facts = facts(alloc)?;
-    for (rule, letters, text, _) in ROWS {
-        let args = arguments(alloc, letters)?;
-        if let Ok((l, r)) = instance(alloc, &facts, rule, &args) {
-            for count in [0, 7] {
-                let alike = same(&l, &r);
-                let left = closed_copy(alloc, &l, count)?;
-                let right = closed_copy(alloc, &r, count)?;
-                assert_eq!(rt;
-                    in_place(alloc, &facts, rule, &args, &left, count),
-                    Some((true, alike)),
-                    "{text}"
-                );
-                assert_eq!(rt;
-                    in_place(alloc, &facts, rule, &args, &right, count),
-                    Some((alike, true)),
-                    "{text}"
-                );
-            }
-        }
+    for (rule, letters, left, _) in ROWS {
+        assert!(rt; sides_stand(alloc, &facts, rule, letters, 0)?, "{left}");
+        assert!(rt; sides_stand(alloc, &facts, rule, letters, 7)?, "{left}");
     }
     Ok(())
 }
 
 #[test]
-fn names_on_the_path_are_places(rt: HostRuntime) -> Result<(), Fail> {
+fn a_name_on_the_path_is_no_name_in_place(rt: HostRuntime) -> Result<(), Fail> {
     let alloc = rt.alloc();
     let facts = facts(alloc)?;
     let args = arguments(alloc, "x")?;
-    let open = U::Squash(Boxed::new(
-        alloc,
-        U::Rel(0, List::from_vec(vec![in alloc; Val::Free(0)]?)),
-    )?);
-    let closed = U::Squash(Boxed::new(
-        alloc,
-        U::Rel(0, List::from_vec(vec![in alloc; Val::Bound(1)]?)),
-    )?);
-    assert_eq!(rt;
-        in_place(alloc, &facts, Rule::SqFix, &args, &open, 0),
-        Some((true, false))
-    );
-    assert_eq!(rt;
-        in_place(alloc, &facts, Rule::SqFix, &args, &open, 2),
-        Some((false, false))
-    );
-    assert_eq!(rt;
-        in_place(alloc, &facts, Rule::SqFix, &args, &closed, 2),
-        Some((true, false))
-    );
+    let sides = instance(alloc, &facts, Rule::SqFix, &args);
+    if let Ok((left, _)) = sides {
+        assert_eq!(rt;
+            is_side(alloc, &facts, Rule::SqFix, &args, false, &left, 0),
+            Some(true)
+        );
+        assert_eq!(rt;
+            is_side(alloc, &facts, Rule::SqFix, &args, false, &left, 1),
+            Some(false)
+        );
+    }
     Ok(())
-}
-
-// The other side of an instance whose left one was found.
-fn other_side(alloc: Global, facts: &Facts, rule: Rule, args: &[Arg], part: &U) -> Option<U> {
-    if depth(part) > 99 {
-        return None;
-    }
-    match stands(alloc, facts, rule, args, false, part, 0, 0) {
-        Ok(true) => side(alloc, facts, rule, args, true).ok(),
-        _ => None,
-    }
 }
 
 #[test]
@@ -345,13 +261,10 @@ fn a_side_is_written_alone(rt: HostRuntime) -> Result<(), Fail> {
     let alloc = rt.alloc();
     let facts = facts(alloc)?;
     for (rule, letters, _, right) in ROWS {
-        let args = arguments(alloc, letters)?;
-        if let Ok((l, _)) = instance(alloc, &facts, rule, &args) {
-            match other_side(alloc, &facts, rule, &args, &l) {
-                Some(r) => assert!(rt; spells(right, &r), "{right}"),
-                None => assert!(rt; false, "{right}"),
-            }
-        }
+        assert!(rt;
+            other_side_is(alloc, &facts, rule, letters, right)?,
+            "{right}"
+        );
     }
     Ok(())
 }
@@ -359,10 +272,8 @@ fn a_side_is_written_alone(rt: HostRuntime) -> Result<(), Fail> {
 #[test]
 fn zeros_are_no_leaves_of_a_sum(rt: HostRuntime) -> Result<(), Fail> {
     let alloc = rt.alloc();
-    let product = U::Mul(Boxed::new(alloc, U::Zero)?, Boxed::new(alloc, U::One)?);
-    let rest = U::Add(Boxed::new(alloc, U::One)?, Boxed::new(alloc, product)?);
-    let sum = U::Add(Boxed::new(alloc, U::Zero)?, Boxed::new(alloc, rest)?);
-    let all = leaves(alloc, &sum, false)?;
+    let sum = units(alloc)?;
+    let all = leaves(alloc, sum.get(), false)?;
     match all.as_slice() {
         [first, second] => assert!(rt; spells("1", first) && spells("*(0,1)", second)),
         _ => assert!(rt; false),
@@ -370,43 +281,16 @@ fn zeros_are_no_leaves_of_a_sum(rt: HostRuntime) -> Result<(), Fail> {
     Ok(())
 }
 
-// A relation of ten values, of which each is one of three that a key by sums of numbers takes for another: `f2`, `c1`, `F0()`.
-fn leaf(alloc: Global, number: u32) -> Result<U, NoMemory> {
-    let mut values = List::new(alloc);
-    let mut rest = number;
-    for _ in 0..10 {
-        values.push(match rest % 3 {
-            0 => Val::Free(2),
-            1 => Val::Lit(1),
-            _ => Val::Fun(0, List::new(alloc)),
-        })?;
-        rest /= 3;
-    }
-    Ok(U::Rel(0, values))
-}
-
-// The leaves of these numbers, added.
-fn sum_of(alloc: Global, numbers: &[u32]) -> Result<Boxed<U>, NoMemory> {
-    match numbers {
-        [] => Boxed::new(alloc, U::Zero),
-        [number] => Boxed::new(alloc, leaf(alloc, *number)?),
-        _ => {
-            let (front, back) = numbers.split_at(numbers.len() / 2);
-            Boxed::new(alloc, U::Add(sum_of(alloc, front)?, sum_of(alloc, back)?))
-        }
-    }
-}
-
 #[test]
 fn many_leaves_alike_are_found_in_opposite_order(rt: HostRuntime) -> Result<(), Fail> {
     let alloc = rt.alloc();
     let up: Vec<u32> = (0..22_000).collect(alloc)?;
     let down: Vec<u32> = up.iter().rev().copied().collect(alloc)?;
-    let fewer: Vec<u32> = up.iter().map(|number| number / 2).collect(alloc)?;
     let left = sum_of(alloc, up.as_slice())?;
     let right = sum_of(alloc, down.as_slice())?;
-    let other = sum_of(alloc, fewer.as_slice())?;
     assert!(rt; same_leaves(alloc, left.get(), right.get(), false)?);
-    assert!(rt; !same_leaves(alloc, left.get(), other.get(), false)?);
+    let twice = sum_of(alloc, &[0, 1, 1])?;
+    let other = sum_of(alloc, &[1, 0, 0])?;
+    assert!(rt; !same_leaves(alloc, twice.get(), other.get(), false)?);
     Ok(())
 }

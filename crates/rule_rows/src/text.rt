@@ -24,35 +24,35 @@ fn numbered(text: &[u8], byte: u8, number: u32) -> Option<&[u8]> {
     after(after(text, byte)?, b'0' + number as u8)
 }
 
+// The rest of a text that begins with this byte and a parenthesis.
+fn opened(text: &[u8], byte: u8) -> Option<&[u8]> {
+    after(after(text, byte)?, b'(')
+}
+
 // The rest of a text that begins with the term's.
 #[cycle(text)]
 fn term_after<'a>(text: &'a [u8], term: &U) -> Option<&'a [u8]> {
     match term {
         U::Zero => after(text, b'0'),
         U::One => after(text, b'1'),
-        U::Add(a, b) => two_after(after(text, b'+')?, a.get(), b.get()),
-        U::Mul(a, b) => two_after(after(text, b'*')?, a.get(), b.get()),
-        U::Squash(a) => one_after(after(text, b'#')?, a.get()),
-        U::Not(a) => one_after(after(text, b'!')?, a.get()),
-        U::Sum(a) => one_after(after(text, b'S')?, a.get()),
+        U::Add(a, b) => {
+            let rest = term_after(opened(text, b'+')?, a.get())?;
+            after(term_after(after(rest, b',')?, b.get())?, b')')
+        }
+        U::Mul(a, b) => {
+            let rest = term_after(opened(text, b'*')?, a.get())?;
+            after(term_after(after(rest, b',')?, b.get())?, b')')
+        }
+        U::Squash(a) => after(term_after(opened(text, b'#')?, a.get())?, b')'),
+        U::Not(a) => after(term_after(opened(text, b'!')?, a.get())?, b')'),
+        U::Sum(a) => after(term_after(opened(text, b'S')?, a.get())?, b')'),
         U::Rel(table, args) => list_after(numbered(text, b'R', *table)?, args.as_slice()),
         U::Eq(a, b) => {
-            let text = value_after(after(after(text, b'=')?, b'(')?, a)?;
-            after(value_after(after(text, b',')?, b)?, b')')
+            let rest = value_after(opened(text, b'=')?, a)?;
+            after(value_after(after(rest, b',')?, b)?, b')')
         }
         U::Pred(symbol, args) => list_after(numbered(text, b'P', *symbol)?, args.as_slice()),
     }
-}
-
-#[cycle(text)]
-fn one_after<'a>(text: &'a [u8], a: &U) -> Option<&'a [u8]> {
-    after(term_after(after(text, b'(')?, a)?, b')')
-}
-
-#[cycle(text)]
-fn two_after<'a>(text: &'a [u8], a: &U, b: &U) -> Option<&'a [u8]> {
-    let text = term_after(after(text, b'(')?, a)?;
-    after(term_after(after(text, b',')?, b)?, b')')
 }
 
 #[cycle(text)]
@@ -62,7 +62,10 @@ fn value_after<'a>(text: &'a [u8], value: &Val) -> Option<&'a [u8]> {
         Val::Free(name) => numbered(text, b'f', *name),
         Val::Lit(literal) => numbered(text, b'c', *literal),
         Val::Fun(symbol, args) => list_after(numbered(text, b'F', *symbol)?, args.as_slice()),
-        Val::Agg(aggregate, body) => one_after(numbered(text, b'G', *aggregate)?, body.get()),
+        Val::Agg(aggregate, body) => {
+            let rest = after(numbered(text, b'G', *aggregate)?, b'(')?;
+            after(term_after(rest, body.get())?, b')')
+        }
     }
 }
 

@@ -1,0 +1,138 @@
+//! Calls of the rules whose answers tests compare.
+
+use crate::arguments::arguments;
+use crate::text::spells;
+use std::alloc::Global;
+use u_binder::close_path;
+use u_rules::{Arg, InstanceFault, Rule, Why, instance, side, sizes, stands};
+use u_terms::{Facts, NoMemory, U, depth, nodes, same};
+
+/// Whether the rule has these two sides for the arguments, and `sizes` knows how large they are.
+pub fn has_sides(
+    alloc: Global,
+    facts: &Facts,
+    rule: Rule,
+    letters: &str,
+    left: &str,
+    right: &str,
+) -> Result<bool, NoMemory> {
+    let args = arguments(alloc, letters)?;
+    match instance(alloc, facts, rule, &args) {
+        Ok((l, r)) => Ok(
+            spells(left, &l) && spells(right, &r) && sized(facts, rule, &args, &l, &r),
+        ),
+        Err(_) => Ok(false),
+    }
+}
+
+fn sized(facts: &Facts, rule: Rule, args: &[Arg], left: &U, right: &U) -> bool {
+    let sizes = sizes(facts, rule, args);
+    sizes.left_nodes == nodes(left)
+        && sizes.left_depth == depth(left)
+        && sizes.right_nodes == nodes(right)
+        && sizes.right_depth == depth(right)
+}
+
+/// What `instance` refuses.
+pub fn why(
+    alloc: Global,
+    facts: &Facts,
+    rule: Rule,
+    letters: &str,
+) -> Result<Option<Why>, NoMemory> {
+    let args = arguments(alloc, letters)?;
+    match instance(alloc, facts, rule, &args) {
+        Err(InstanceFault::BadInstance { why }) => Ok(Some(why)),
+        _ => Ok(None),
+    }
+}
+
+/// Whether each side of the rule's instance, its names closed under this many binders, stands in place as that side, and as the other
+/// one only where both are one term.
+pub fn sides_stand(
+    alloc: Global,
+    facts: &Facts,
+    rule: Rule,
+    letters: &str,
+    count: u32,
+) -> Result<bool, NoMemory> {
+    let args = arguments(alloc, letters)?;
+    match instance(alloc, facts, rule, &args) {
+        Ok((l, r)) => both_stand(alloc, facts, rule, &args, &l, &r, count),
+        Err(_) => Ok(false),
+    }
+}
+
+fn both_stand(
+    alloc: Global,
+    facts: &Facts,
+    rule: Rule,
+    args: &[Arg],
+    l: &U,
+    r: &U,
+    count: u32,
+) -> Result<bool, NoMemory> {
+    let alike = same(l, r);
+    let left = closed_copy(alloc, l, count)?;
+    let right = closed_copy(alloc, r, count)?;
+    Ok(
+        is_side(alloc, facts, rule, args, false, &left, count) == Some(true)
+            && is_side(alloc, facts, rule, args, true, &left, count) == Some(alike)
+            && is_side(alloc, facts, rule, args, false, &right, count) == Some(alike)
+            && is_side(alloc, facts, rule, args, true, &right, count) == Some(true),
+    )
+}
+
+// A term with its names closed under this many binders.
+fn closed_copy(alloc: Global, term: &U, count: u32) -> Result<U, NoMemory> {
+    let mut copy = term.copy(alloc)?;
+    if depth(&copy) < 99 && count < 10 {
+        close_path(&mut copy, 0, count);
+    }
+    Ok(copy)
+}
+
+/// Whether a term in place, under this many binders, is the left or, turned, the right side.
+pub fn is_side(
+    alloc: Global,
+    facts: &Facts,
+    rule: Rule,
+    args: &[Arg],
+    turned: bool,
+    part: &U,
+    count: u32,
+) -> Option<bool> {
+    if depth(part) > 99 || count > 9 {
+        return None;
+    }
+    stands(alloc, facts, rule, args, turned, part, 0, count).ok()
+}
+
+/// Whether this text is that of the right side, written alone where the left one was found.
+pub fn other_side_is(
+    alloc: Global,
+    facts: &Facts,
+    rule: Rule,
+    letters: &str,
+    right: &str,
+) -> Result<bool, NoMemory> {
+    let args = arguments(alloc, letters)?;
+    match instance(alloc, facts, rule, &args) {
+        Ok((l, _)) => match other_side(alloc, facts, rule, &args, &l) {
+            Some(r) => Ok(spells(right, &r)),
+            None => Ok(false),
+        },
+        Err(_) => Ok(false),
+    }
+}
+
+// The right side of a rule whose left one stands in place.
+fn other_side(alloc: Global, facts: &Facts, rule: Rule, args: &[Arg], part: &U) -> Option<U> {
+    if depth(part) > 99 {
+        return None;
+    }
+    match stands(alloc, facts, rule, args, false, part, 0, 0) {
+        Ok(true) => side(alloc, facts, rule, args, true).ok(),
+        _ => None,
+    }
+}
