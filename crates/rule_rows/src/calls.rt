@@ -92,8 +92,8 @@ fn closed_copy(alloc: Global, term: &U, count: u32) -> Result<U, NoMemory> {
     Ok(copy)
 }
 
-/// Whether a term in place, under this many binders, is the left or, turned, the right side.
-pub fn is_side(
+// Whether a term in place, under this many binders, is the left or, turned, the right side.
+fn is_side(
     alloc: Global,
     facts: &Facts,
     rule: Rule,
@@ -106,6 +106,22 @@ pub fn is_side(
         return None;
     }
     stands(alloc, facts, rule, args, turned, part, 0, count).ok()
+}
+
+/// Whether a side with a name stands in place as it is outside all binders, and not under one, where the name is a place.
+pub fn names_are_closed(alloc: Global, facts: &Facts) -> Result<bool, NoMemory> {
+    let args = arguments(alloc, "x")?;
+    match instance(alloc, facts, Rule::SqFix, &args) {
+        Ok((left, _)) => Ok(
+            is_left(alloc, facts, &args, &left, 0) == Some(true)
+                && is_left(alloc, facts, &args, &left, 1) == Some(false),
+        ),
+        Err(_) => Ok(false),
+    }
+}
+
+fn is_left(alloc: Global, facts: &Facts, args: &[Arg], part: &U, count: u32) -> Option<bool> {
+    is_side(alloc, facts, Rule::SqFix, args, false, part, count)
 }
 
 /// Whether this text is that of the right side, written alone where the left one was found.

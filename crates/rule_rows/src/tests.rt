@@ -1,8 +1,8 @@
-use crate::arguments::{arguments, facts, sum_of, units};
-use crate::calls::{has_sides, is_side, other_side_is, sides_stand, why};
+use crate::arguments::{facts, sum_of, units};
+use crate::calls::{has_sides, names_are_closed, other_side_is, sides_stand, why};
 use crate::text::spells;
 use std::test::Fail;
-use u_rules::{Rule, Why, instance, leaves, same_leaves};
+use u_rules::{Rule, Why, leaves, same_leaves};
 
 // A rule, its arguments, and its two sides.
 const ROWS: [(Rule, &str, &str, &str); 41] = [
@@ -241,18 +241,7 @@ fn sides_stand_in_place(rt: HostRuntime) -> Result<(), Fail> {
 fn a_name_on_the_path_is_no_name_in_place(rt: HostRuntime) -> Result<(), Fail> {
     let alloc = rt.alloc();
     let facts = facts(alloc)?;
-    let args = arguments(alloc, "x")?;
-    let sides = instance(alloc, &facts, Rule::SqFix, &args);
-    if let Ok((left, _)) = sides {
-        assert_eq!(rt;
-            is_side(alloc, &facts, Rule::SqFix, &args, false, &left, 0),
-            Some(true)
-        );
-        assert_eq!(rt;
-            is_side(alloc, &facts, Rule::SqFix, &args, false, &left, 1),
-            Some(false)
-        );
-    }
+    assert!(rt; names_are_closed(alloc, &facts)?);
     Ok(())
 }
 
