@@ -5,3 +5,13 @@ pub mod Subterms
 pub mod OneContext
 pub mod Holes
 pub mod Congruence
+pub mod Edited
+pub mod Made
+pub mod Extents
+pub mod Turning
+pub mod Keeps
+pub mod OneResult
+pub mod Soundness
+pub mod StepHeights
+pub mod Applied
+pub mod Lines

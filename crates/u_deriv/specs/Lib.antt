@@ -2,5 +2,10 @@ pub mod Turns
 pub mod Normal
 pub mod Contexts
 pub mod Subterms
+pub mod Steps
+pub mod StepText
+pub mod Applying
+pub mod StepHeight
 pub mod Walk
+pub mod Editing
 pub mod Samples

@@ -1,13 +1,23 @@
-//! Laws of contexts, each the contract of a function that does nothing.
-ghost use Rattle.std.specs.Prelude.{◌≡◌, ◌+◌, ◌<◌, ◌++◌, ℕ, List, []};
+//! Laws of contexts, of steps and of their text, each the contract of a function that does nothing.
+ghost use Rattle.std.specs.Prelude.{◌≡◌, ◌↔◌, ◌+◌, ◌≤◌, ◌<◌, ◌++◌, ℕ, List, [], length};
 ghost use Rattle.data_model.specs.Database.{Database};
 ghost use Rattle.data_model.specs.Reading.{Reading};
 ghost use Rattle.data_model.specs.Rows.{AllBelow, IsRow};
 ghost use Rattle.u_terms.specs.Binding.{closed_path, put_path};
+ghost use Rattle.u_terms.specs.Facts.{FactsOk};
 ghost use Rattle.u_terms.specs.Meaning.{meaning};
+ghost use Rattle.u_terms.specs.Names.{IsFreeBelow};
 ghost use Rattle.u_terms.specs.Places.{IsClosed};
+ghost use Rattle.u_terms.specs.Size.{depth, nodes};
 ghost use Rattle.u_terms.specs.Syntax.{U};
+ghost use Rattle.u_terms.specs.declared.facts.Facts.{Facts};
+ghost use Rattle.u_rules.specs.Sides.{SameMeaning};
 ghost use Rattle.u_deriv.specs.Contexts.{Context, binders, filled, in_aggregate, in_sum, value_binders, way};
+ghost use Rattle.u_deriv.specs.StepText.{lines_length, steps_text};
+ghost use Rattle.u_deriv.specs.Steps.{Replaced, Replays, Rewrites};
+ghost use Rattle.u_deriv.specs.Turns.{turns};
+ghost use Rattle.u_deriv.specs.declared.run.Run.{Run};
+ghost use Rattle.u_deriv.specs.declared.step.Step.{Step};
 
 /// A term has one context at a path, and one subterm.
 #[tactic(auto, using(crate::proofs::OneContext::laws))]
@@ -50,4 +60,52 @@ pub fn contexts_by_names()
         ((others : List ℕ) → AllBelow n others → meaning n reading db others [] s ≡ meaning n reading db others [] t) →
         meaning n reading db names places (filled c (closed_path s first (binders c)))
         ≡ meaning n reading db names places (filled c (closed_path t first (binders c))) }
+{}
+
+/// What is written in the place of a term makes the difference in nodes; and where the term was no deeper than some bound,
+/// it stays within it exactly where the new part does, as many nodes further down as its path has turns.
+pub fn sizes_after_a_replacement()
+    ensures nodes { (outs : ℕ) (path : List Run) (before from to after : U) → Replaced outs path before from to after →
+        nodes after + nodes from ≡ nodes before + nodes to }
+    ensures depth { (outs : ℕ) (path : List Run) (before from to after : U) → Replaced outs path before from to after →
+        (most : ℕ) → depth before ≤ most → (depth after ≤ most) ↔ (length (turns path) + depth to ≤ most) }
+{}
+
+/// A step keeps what a term means wherever the facts are met, under sums and inside the bodies of aggregates too. So do
+/// steps one after the other.
+#[tactic(auto, using(crate::proofs::Soundness::laws))]
+pub fn steps_keep_the_meaning()
+    ensures one { (facts : Facts) → FactsOk facts → (outs : ℕ) (before : U) (step : Step) (after : U) →
+        Rewrites facts outs before step after → SameMeaning facts before after }
+    ensures all { (facts : Facts) → FactsOk facts → (outs : ℕ) (before : U) (steps : List Step) (after : U) →
+        Replays facts outs before steps after → SameMeaning facts before after }
+{}
+
+/// A step has at most one result on a term, and so have steps one after the other.
+#[tactic(auto, using(crate::proofs::Applied::laws))]
+pub fn one_result()
+    ensures one { (facts : Facts) (outs : ℕ) (before : U) (step : Step) (after other : U) →
+        Rewrites facts outs before step after → Rewrites facts outs before step other → after ≡ other }
+    ensures all { (facts : Facts) (outs : ℕ) (before : U) (steps : List Step) (after other : U) →
+        Replays facts outs before steps after → Replays facts outs before steps other → after ≡ other }
+{}
+
+/// A step keeps that a term is closed, and that its names are below `outs`. So do steps one after the other.
+#[tactic(auto, using(crate::proofs::Keeps::laws))]
+pub fn steps_keep_terms_closed()
+    ensures closed { (facts : Facts) (outs : ℕ) (before : U) (step : Step) (after : U) →
+        Rewrites facts outs before step after → IsClosed 0 before → IsClosed 0 after }
+    ensures named { (facts : Facts) (outs : ℕ) (before : U) (step : Step) (after : U) →
+        Rewrites facts outs before step after → IsFreeBelow outs before → IsFreeBelow outs after }
+    ensures all_closed { (facts : Facts) (outs : ℕ) (before : U) (steps : List Step) (after : U) →
+        Replays facts outs before steps after → IsClosed 0 before → IsClosed 0 after }
+    ensures all_named { (facts : Facts) (outs : ℕ) (before : U) (steps : List Step) (after : U) →
+        Replays facts outs before steps after → IsFreeBelow outs before → IsFreeBelow outs after }
+{}
+
+/// The lines of steps one after the other are those of the first ones and then those of the rest, and as long together.
+#[tactic(auto, using(crate::proofs::Lines::laws))]
+pub fn lines_of_steps()
+    ensures text { (first rest : List Step) → steps_text (first ++ rest) ≡ steps_text first ++ steps_text rest }
+    ensures length { (first rest : List Step) → lines_length (first ++ rest) ≡ lines_length first + lines_length rest }
 {}

@@ -1,15 +1,28 @@
-//! Derivations. So far: paths into a term, the subterm at a path, and the law of contexts.
+//! Derivations. So far: paths into a term, the subterm at a path, steps that rewrite a term in place, and the laws of contexts and of
+//! steps.
 #![tactic(auto)]
 
+mod applying;
+mod edit;
+mod fault;
 pub mod laws;
 mod path;
+mod place;
+mod replacing;
 mod run;
+mod sides;
+mod step;
 mod subterm;
 #[cfg(test)]
 mod tests;
 mod way;
 
+pub use applying::{apply, turn};
+pub use fault::StepFault;
 pub use path::Path;
+pub use place::Place;
+pub use replacing::replace;
 pub use run::Run;
 pub use std::alloc::AllocError as NoMemory;
+pub use step::Step;
 pub use subterm::at;
