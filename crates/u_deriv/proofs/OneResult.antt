@@ -1,12 +1,9 @@
 -- A step has one result, and so have steps one after another.
-use Rattle.std.proofs.Common.{◌≡◌, ℕ, Bool, true, false, List, Option, Some, None, sym, ap, ◌∙◌}
+use Rattle.std.proofs.Common.{◌≡◌, ℕ, Bool, true, false, List, sym, ap, ◌∙◌}
 use Rattle.u_terms.specs.Syntax.{U}
-use Rattle.u_terms.specs.declared.term.U.TheVariants as u
 use Rattle.u_terms.specs.declared.facts.Facts.{Facts}
 use Rattle.u_terms.specs.Binding.{closed_path}
-use Rattle.u_rules.specs.declared.rule.Arg.{Arg}
-use Rattle.u_rules.specs.declared.rule.Rule.{Rule}
-use Rattle.u_rules.specs.Rows.{Row, Instance}
+use Rattle.u_rules.proofs.OneInstance.{one-instance}
 use Rattle.u_deriv.specs.declared.run.Run.{Run}
 use Rattle.u_deriv.specs.declared.step.Step.{Step, out-Step}
 use Rattle.u_deriv.specs.Contexts.{Context, filled, binders}
@@ -14,27 +11,9 @@ use Rattle.u_deriv.specs.Steps.{Replaced, Sides, Rewrites}
 use Rattle.u_deriv.proofs.OneContext as one
 use Rattle.u_deriv.proofs.Keeps.{turned-of}
 
-abbrev left_of : Option Row → U
-left_of None = u.Zero
-left_of (Some r) = r.left
-
-abbrev right_of : Option Row → U
-right_of None = u.Zero
-right_of (Some r) = r.right
-
-one_left : (facts : Facts) (q : Rule) (args : List Arg) (l r l' r' : U) → Instance facts q args l r → Instance facts q args l' r' → l ≡ l'
-one_left facts q args l r l' r' i j = ap left_of (sym i.row ∙ j.row)
-
-one_right : (facts : Facts) (q : Rule) (args : List Arg) (l r l' r' : U) → Instance facts q args l r → Instance facts q args l' r' → r ≡ r'
-one_right facts q args l r l' r' i j = ap right_of (sym i.row ∙ j.row)
-
-pub one_from : (facts : Facts) (forward : Bool) (step : Step) (f t f' t' : U) → Sides facts forward step f t → Sides facts forward step f' t' → f ≡ f'
-one_from facts true step f t f' t' i j = one_left facts (out-Step step).rule (out-Step step).args f t f' t' i j
-one_from facts false step f t f' t' i j = one_right facts (out-Step step).rule (out-Step step).args t f t' f' i j
-
 one_to : (facts : Facts) (forward : Bool) (step : Step) (f t f' t' : U) → Sides facts forward step f t → Sides facts forward step f' t' → t ≡ t'
-one_to facts true step f t f' t' i j = one_right facts (out-Step step).rule (out-Step step).args f t f' t' i j
-one_to facts false step f t f' t' i j = one_left facts (out-Step step).rule (out-Step step).args t f t' f' i j
+one_to facts true step f t f' t' i j = let e = one-instance facts (out-Step step).rule (out-Step step).args f t f' t' i j in e.1
+one_to facts false step f t f' t' i j = let e = one-instance facts (out-Step step).rule (out-Step step).args t f t' f' i j in e.0
 
 one_replaced : (outs : ℕ) (path : List Run) (before from to to' after after' : U) (from' : U) → Replaced outs path before from to after → Replaced outs path before from' to' after' → to ≡ to' → after ≡ after'
 one_replaced outs path before from to to' after after' from' r s e =

@@ -52,6 +52,8 @@ room-within outs path before to shallow c part at is =
 pub room-Zero : (outs : ℕ) (path : List Run) (before : U) → outs + depth before < 2 ^ 32 → HasRoomAt outs path before u.Zero
 room-Zero outs path before shallow = room-within outs path before u.Zero (omega (arith, depth-Zero, shallow))
 
+pub ruleset room = (room-within)
+
 -- ---- a replacement
 module _ (outs : ℕ) (path : List Run) (before to after : U) (from : Bor U) where
   pub replaced : (place : Place) → after ≡ ended (part_after (edit.Term from) outs to (Ok place)) (turns path) root before

@@ -13,8 +13,6 @@ mod run;
 mod sides;
 mod step;
 mod subterm;
-#[cfg(test)]
-mod tests;
 mod way;
 
 pub use applying::{apply, turn};
