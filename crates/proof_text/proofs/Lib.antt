@@ -1,0 +1,14 @@
+pub mod Answering
+pub mod Counting
+pub mod Goes
+pub mod LineAnswers
+pub mod LinesCounted
+pub mod LinesRead
+pub mod Loops
+pub mod NumbersRead
+pub mod OneLine
+pub mod PartsRead
+pub mod TermsRead
+pub mod NumbersAgain
+pub mod TermsAgain
+pub mod LinesAgain

@@ -1,0 +1,14 @@
+pub mod Begun
+pub mod Faults
+pub mod Grammar
+pub mod Limits
+pub mod LinesOfText
+pub mod NumberSteps
+pub mod Outcomes
+pub mod Paths
+pub mod Reading
+pub mod ReadingLines
+pub mod RuleNames
+pub mod Signs
+pub mod Words
+pub mod Written

@@ -1,0 +1,21 @@
+-- The lines of a text: each ends with a line feed, but for a last one that is not empty.
+use Rattle.std.specs.Prelude.{ℕ, ◌+◌, ◌≡◌, Bool, true, false, List, [], ◌∷◌, ◌++◌, Option, Some, None}
+use Rattle.data_model.specs.Lists.{Each}
+
+-- a line with its line feed, where it has one
+abbrev pub fed : List ℕ → Bool → List ℕ
+fed bytes true = bytes ++ 10 ∷ []
+fed bytes false = bytes
+
+-- the text that is left, and how many lines were before
+pub record Unread : Type 0 where
+  pub number : ℕ
+  pub text : List ℕ
+
+pub record IsNextLine (before : Unread) (bytes : List ℕ) (number : ℕ) (ended : Bool) (after : Unread) : Type 0 where
+  pub some : before.text ≡ [] → ⊥
+  pub text : before.text ≡ fed bytes ended ++ after.text
+  pub unbroken : Each (λ byte. byte ≡ 10 → ⊥) bytes
+  pub last : ended ≡ false → after.text ≡ []
+  pub counted : number ≡ before.number + 1
+  pub count : after.number ≡ number

@@ -1,0 +1,71 @@
+//! Lines of proofs.
+ghost use Rattle.std.specs.Prelude.{◌≡◌, ◌+◌, ◌<◌, ◌^◌};
+ghost use Rattle.proof_text.specs.LinesOfText.{fed};
+ghost use Rattle.proof_text.specs.ReadingLines.{IsAnswer};
+ghost use Rattle.proof_text.specs.Faults.{fault_of};
+
+use crate::cursor::{Cursor, Stop};
+use crate::limits::{LimitKind, MOST_DEPTH, MOST_NODES};
+use crate::step::whole_line;
+use std::alloc::Global;
+use thiserror::Error;
+use u_deriv::Step;
+
+/// What a line says.
+#[derive(Debug, Drop)]
+pub enum LineStep {
+    /// A step without inner steps.
+    Whole(Step),
+    /// A step of `sq_fix`, whose inner steps follow.
+    Opens(Step),
+    /// The inner steps end.
+    Closes,
+    /// The proof ends.
+    Ends,
+}
+
+/// Why bytes are no line.
+#[derive(Clone, Copy, Debug, PartialEq, Eq, Error)]
+pub enum LineFault {
+    /// No line goes on with the byte at this column, counted from 1; behind the last byte where the line is cut.
+    #[error("no line goes on at column {column}")]
+    Bad { column: u64 },
+    /// An argument passes this limit, with this count.
+    #[error("an argument passes a limit with {count}")]
+    Limit { what: LimitKind, count: u64 },
+    /// There was no memory for what the line says.
+    #[error("out of memory")]
+    NoMemory,
+}
+
+// Why a reader that stopped behind so many bytes did not go on.
+fn fault(stop: Stop, passed: u64) -> LineFault
+    requires { passed + 1 < 2 ^ 64 }
+    ensures { result ≡ fault_of stop passed }
+{
+    match stop {
+        Stop::Unexpected => LineFault::Bad { column: passed + 1 },
+        Stop::TooMany => LineFault::Limit {
+            what: LimitKind::Nodes,
+            count: u64::from(MOST_NODES) + 1,
+        },
+        Stop::TooDeep => LineFault::Limit {
+            what: LimitKind::Depth,
+            count: u64::from(MOST_DEPTH) + 1,
+        },
+        Stop::NoMemory => LineFault::NoMemory,
+    }
+}
+
+/// What the line says whose bytes these are; `ended` says that a line feed follows them. Each byte is looked at once, and nothing is
+/// built of an argument behind the byte at which it passes a limit.
+pub fn read_step(alloc: Global, line: &[u8], ended: bool) -> Result<LineStep, LineFault>
+    ensures { IsAnswer (fed line.now ended) result }
+{
+    let mut cursor = Cursor::new(line, ended);
+    let length = cursor.left();
+    match whole_line(alloc, &mut cursor) {
+        Ok(says) => Ok(says),
+        Err(stop) => Err(fault(stop, length.saturating_sub(cursor.left()) as u64)),
+    }
+}
