@@ -1,5 +1,5 @@
 -- The readers count the nodes that begin.
-use Rattle.std.proofs.Common.{◌≡◌, ◌≢◌, ℕ, zero, suc, ◌+◌, ◌*◌, ◌-◌, ◌<◌, ◌≤◌, Bool, true, false, not, ◌&&◌, ◌||◌, List, [], ◌∷◌, ◌++◌, fold, length, Result, Ok, Err, refl, sym, ap, ◌∙◌, subst, arith, append_assoc}
+use Rattle.std.proofs.Common.{◌≡◌, ◌≢◌, ℕ, zero, suc, ◌+◌, ◌*◌, ◌-◌, ◌<◌, ◌≤◌, Bool, true, false, not, ◌&&◌, ◌||◌, List, [], ◌∷◌, ◌++◌, length, Ok, Err, refl, sym, ap, ◌∙◌, subst, arith, append_assoc}
 use Rattle.std.specs.Prelude.{◌==◌, nat_lt, if◌then◌else◌}
 use Rattle.std.proofs.lemmas.Bool.{eq-eqb, eqb-true, ltb-true}
 use Rattle.std.proofs.Math.Bool.{and-false}
@@ -10,11 +10,11 @@ use Rattle.u_terms.specs.declared.term.Val.{Val}
 use Rattle.u_terms.specs.declared.term.U.TheVariants as u
 use Rattle.u_terms.specs.declared.term.Val.TheVariants as v
 use Rattle.proof_text.specs.declared.cursor.Stop.{Stop}
-use Rattle.proof_text.specs.declared.cursor.Stop.TheVariants.{Unexpected, TooMany, TooDeep, NoMemory}
+use Rattle.proof_text.specs.declared.cursor.Stop.TheVariants.{Unexpected, TooMany, TooDeep}
 use Rattle.proof_text.specs.Signs as s
 use Rattle.proof_text.specs.Signs.{Sign, code, sign, signs}
 use Rattle.proof_text.specs.Grammar.{begins_term, begins_value}
-use Rattle.proof_text.specs.Reading.{Rest, Reading, ◌>>=◌, next, passed, bad, entered, expected, is_longer, longest, longest_at, within, both, pair_of, values_with, values_at, list_of, numbered, number_at, term_with, value_with, term_at, value_at}
+use Rattle.proof_text.specs.Reading.{Rest, Reading, ◌>>=◌, next, passed, bad, entered, expected, is_longer, longest, within, both, pair_of, values_with, values_at, list_of, numbered, number_at, term_with, value_with, term_at, value_at}
 use Rattle.proof_text.specs.Begun.{Begun, is_parenthesis, opens, begun_with, begun_from}
 use Rattle.proof_text.proofs.OneLine.{every}
 use Rattle.proof_text.proofs.NumbersRead.{not_equal}
@@ -178,7 +178,7 @@ number_counts rest = at rest.nodes rest.text
         go false true i k =
             rw (i, k)
             (λ b j. let d = digit_counts nodes byte text k b j in
-              moves d.passed (longest_moves (code (sign byte)) nodes text (begun_from b d.passed.taken) d.state))
+            moves d.passed (longest_moves (code (sign byte)) nodes text (begun_from b d.passed.taken) d.state))
         go false false i k = rw (i, k) (stuck ℕ false false (record { nodes = nodes; text = byte ∷ text }))
 
 -- ---- in parentheses
@@ -284,7 +284,7 @@ node_counts {A = A} levels nodes byte text p more k b e = go (nodes == 0) (level
     go false false i =
         let h = positive i in
         let passed : Passed b (record { nodes = nodes; text = byte ∷ text }) (record { nodes = nodes - 1; text = text }) =
-            record { taken = byte ∷ []; whole = refl; count = rw w (omega arith); kept = then_more (omega arith) (rw w (at_end {b = record { nodes = b.nodes + 1; may = false }} (omega arith))) } in
+        record { taken = byte ∷ []; whole = refl; count = rw w (omega arith); kept = then_more (omega arith) (rw w (at_end {b = record { nodes = b.nodes + 1; may = false }} (omega arith))) } in
         joined passed (more (record { nodes = nodes - 1; text = text })) (k (record { nodes = nodes - 1; text = text }) (begun_with b byte) (rw w refl))
       where
         joined : (passed : Passed b (record { nodes = nodes; text = byte ∷ text }) (record { nodes = nodes - 1; text = text })) (reading : Reading A)
@@ -303,6 +303,7 @@ module _ {A : Type 0} (p : Sign → Bool) (a : list_all (λ k. not (p k) || plai
 
 mutual
   unfolding term_at value_at
+
   pub term_counts : (levels : ℕ) (rest : Rest) → Counts true false rest (term_at levels rest)
   term_counts zero rest = at_node begins_term refl refl 0 (λ k r. bad r) (λ k r. stuck U false false r) rest.nodes rest.text
   term_counts (suc levels) rest = at_node begins_term refl refl (suc levels) (term_with (term_at levels) (value_at levels)) (term_with_counts (term_at levels) (value_at levels) (term_counts levels) (value_counts levels)) rest.nodes rest.text

@@ -1,20 +1,18 @@
 -- The steps of a reading through the forms of the grammar.
-use Rattle.std.proofs.Common.{◌≡◌, ℕ, zero, suc, Bool, true, false, not, ◌&&◌, List, [], ◌∷◌, ◌++◌, inl, inr, Some, None, Result, Ok, Err, refl, sym, subst}
+use Rattle.std.proofs.Common.{◌≡◌, ℕ, Bool, true, false, not, ◌&&◌, List, [], ◌∷◌, Some, None, Ok, Err, refl}
 use Rattle.std.specs.Prelude.{◌==◌, if◌then◌else◌}
-use Rattle.grammar.specs.Form.{Form, token, seq, alt, nest, map, ref, star, form_language, language}
-use Rattle.grammar.specs.Language.{Language}
+use Rattle.grammar.specs.Form.{token, seq, alt, map, ref, language}
 use Rattle.grammar.specs.Lookahead.{Lookahead}
-use Rattle.grammar.specs.Reading.{Took, Failed, Exceeded, Began, Remains}
-use Rattle.grammar.proofs.Choices.{is_absent, absent_failed}
-use Rattle.grammar.proofs.Predictions.{ok, ahead, known, within, limits_within, produced}
+use Rattle.grammar.specs.Reading.{Took, Failed, Remains}
+use Rattle.grammar.proofs.Choices.{is_absent}
+use Rattle.grammar.proofs.Predictions.{ok, ahead, within, limits_within, produced}
 use Rattle.grammar.proofs.Remaining as r
-use Rattle.grammar.proofs.Steps.{IsWithin, token_took, token_failed, token_ended, empty_took}
-use Rattle.proof_text.specs.declared.cursor.Stop.{Stop}
+use Rattle.grammar.proofs.Steps.{IsWithin, token_took, token_failed, token_ended}
 use Rattle.proof_text.specs.declared.cursor.Stop.TheVariants.{Unexpected, TooMany, TooDeep, NoMemory}
 use Rattle.proof_text.specs.Signs.{Sign, code, sign}
 use Rattle.proof_text.specs.Grammar.{F, Name, Tree, rules, of_code}
-use Rattle.proof_text.specs.Reading.{Rest, Reading, ◌>>=◌, next, sign_at, passed, expected}
-use Rattle.proof_text.specs.Outcomes.{free, bounded, GoesOn, Outcome}
+use Rattle.proof_text.specs.Reading.{Rest, Reading, ◌>>=◌, sign_at, expected}
+use Rattle.proof_text.specs.Outcomes.{free, bounded, Outcome}
 use Rattle.proof_text.proofs.OneLine.{grammar}
 
 pub deep_within : {A : Type 0} (levels : ℕ) (f : F A) → IsWithin (free f) (bounded levels f)
@@ -140,4 +138,3 @@ module _ {A : Type 0} {N : F A} {most : ℕ} {start : List ℕ} {levels : ℕ} (
           → Outcome N most start (◌>>=◌ {A = Unit {0}} (if b then (Ok (tt {0}), record { nodes = nodes; text = text }) else (Err Unexpected, record { nodes = nodes; text = byte ∷ text })) (λ t r. (Ok a, r)))
       go true e = l.deep.took byte text (takes levels (λ x. code x == c) byte text e)
       go false e = l.deep.failed (byte ∷ text) (misses levels (λ x. code x == c) (byte ∷ text) e)
-

@@ -1,8 +1,8 @@
 -- What is read of a line, and where it stops, is what is told of it.
-use Rattle.std.proofs.Common.{◌≡◌, ℕ, ◌+◌, ◌-◌, ◌≤◌, false, List, [], ◌∷◌, ◌++◌, length, length-append, Result, Ok, Err, refl, sym, ap, ◌∙◌, subst, arith, append_assoc}
+use Rattle.std.proofs.Common.{◌≡◌, ℕ, ◌+◌, ◌-◌, ◌≤◌, false, List, [], ◌∷◌, ◌++◌, length, length-append, Ok, Err, refl, sym, ap, ◌∙◌, subst, arith, append_assoc}
 use Rattle.std.proofs.lemmas.List.{append-nil, append_cancel_right}
 use Rattle.grammar.specs.Form.{ref}
-use Rattle.grammar.specs.Reading.{Took, Failed, Exceeded, Passes, IsLongestFront}
+use Rattle.grammar.specs.Reading.{Took, Exceeded, Passes, IsLongestFront}
 use Rattle.grammar.proofs.Longest.{took_longest, failed_longest}
 use Rattle.proof_text.specs.declared.line.LineStep.{LineStep}
 use Rattle.proof_text.specs.declared.cursor.Stop.{Stop}
@@ -11,14 +11,14 @@ use Rattle.proof_text.specs.Limits.{most_nodes, most_depth}
 use Rattle.proof_text.specs.Signs.{sign}
 use Rattle.proof_text.specs.Grammar.{rules, line}
 use Rattle.proof_text.specs.Reading.{Rest, Reading, Stops, ◌>>=◌, line_at, if_over, alone}
-use Rattle.proof_text.specs.Outcomes.{free, bounded, GoesOn, Outcome}
-use Rattle.proof_text.specs.Begun.{Begun, begun_with, begun_from, begun_in, KeepsNodes}
+use Rattle.proof_text.specs.Outcomes.{GoesOn, Outcome}
+use Rattle.proof_text.specs.Begun.{Begun, begun_with, begun_from, KeepsNodes}
 use Rattle.proof_text.specs.ReadingLines.{lines, shallow_lines, IsRead, IsBad, PassesNodes, PassesDepth, IsRefused}
 use Rattle.proof_text.specs.Faults.{fault_of}
 use Rattle.proof_text.proofs.Goes.{deep_within, any_within}
 use Rattle.proof_text.proofs.LinesRead.{reads_line}
 use Rattle.proof_text.proofs.Counting.{Kept, at_end, then_more, begun_from-append, kept-append}
-use Rattle.proof_text.proofs.LinesCounted.{Stays, Stands, LineAt, keeps_nodes, keeps_whole_line, at_start}
+use Rattle.proof_text.proofs.LinesCounted.{Stands, LineAt, keeps_nodes, keeps_whole_line, at_start}
 
 abbrev start : Begun
 start = record { nodes = 0; may = false }
@@ -70,7 +70,7 @@ module _ (text : List ℕ) where
       let whole : text ≡ c.taken ++ (c.stopped.byte ∷ c.stopped.more) = c.whole ∙ ap (λ (z : List ℕ). c.taken ++ z) c.stopped.text in
       let i : g.up_to.taken ≡ c.taken = same_front text g.up_to.taken c.taken r.text g.up_to.whole c.whole in
       let j : g.with_it.taken ≡ c.taken ++ c.stopped.byte ∷ [] =
-          same_front text g.with_it.taken (c.taken ++ c.stopped.byte ∷ []) g.more g.with_it.whole (whole ∙ sym (append_assoc c.taken (c.stopped.byte ∷ []) c.stopped.more) ∙ ap (λ (z : List ℕ). (c.taken ++ c.stopped.byte ∷ []) ++ z) (sym m)) in
+      same_front text g.with_it.taken (c.taken ++ c.stopped.byte ∷ []) g.more g.with_it.whole (whole ∙ sym (append_assoc c.taken (c.stopped.byte ∷ []) c.stopped.more) ∙ ap (λ (z : List ℕ). (c.taken ++ c.stopped.byte ∷ []) ++ z) (sym m)) in
       record {
         front = c.taken;
         byte = c.stopped.byte;
@@ -129,3 +129,18 @@ halted_told text Unexpected rest e = stop_told text Unexpected rest e
 halted_told text TooMany rest e = stop_told text TooMany rest e
 halted_told text TooDeep rest e = stop_told text TooDeep rest e
 halted_told text NoMemory rest e = tt
+
+-- want of memory is no reading
+pub never_told : (text : List ℕ) (rest : Rest) → alone line_at (record { nodes = 0; text = text }) ≡ (Err NoMemory, rest) → ⊥
+never_told text rest e = by (line_at (all_of text)) (reads_line (all_of text)) e
+  where
+    over : (says : LineStep) (r : Rest) (left : List ℕ) → if_over left says r ≡ (Err NoMemory, rest) → ⊥
+    over says r [] e = let i : Ok says ≡ Err NoMemory = ap (λ (p : Reading LineStep). p.0) e in cc
+    over says r (byte ∷ left) e = let i : Err Unexpected ≡ Err NoMemory = ap (λ (p : Reading LineStep). p.0) e in cc
+
+    by : (reading : Reading LineStep) → Outcome (ref line) most_depth text reading → (reading >>= λ a r. if_over r.text a r) ≡ (Err NoMemory, rest) → ⊥
+    by (Ok says, r) t e = over says r r.text e
+    by (Err Unexpected, r) t e = let i : Err Unexpected ≡ Err NoMemory = ap (λ (p : Reading LineStep). p.0) e in cc
+    by (Err TooMany, r) t e = let i : Err TooMany ≡ Err NoMemory = ap (λ (p : Reading LineStep). p.0) e in cc
+    by (Err TooDeep, r) t e = let i : Err TooDeep ≡ Err NoMemory = ap (λ (p : Reading LineStep). p.0) e in cc
+    by (Err NoMemory, r) t e = t

@@ -1,39 +1,40 @@
 -- A line that was written is read again.
-use Rattle.std.proofs.Common.{◌≡◌, ℕ, zero, suc, ◌+◌, ◌*◌, ◌-◌, ◌/◌, ◌%◌, ◌^◌, ◌<◌, ◌≤◌, Bool, true, false, ◌&&◌, List, [], ◌∷◌, ◌++◌, length, length-append, Option, Some, None, Result, Ok, Err, refl, sym, ap, ◌∙◌, subst, arith, append_assoc}
-use Rattle.std.specs.Prelude.{◌==◌, nat_lt, if◌then◌else◌, codes}
-use Rattle.std.specs.Fmt.{decimal}
+use Rattle.std.proofs.Common.{◌≡◌, ℕ, zero, suc, ◌+◌, ◌-◌, ◌/◌, ◌%◌, ◌^◌, ◌<◌, ◌≤◌, Bool, true, false, ◌&&◌, List, [], ◌∷◌, ◌++◌, length, length-append, Some, Ok, refl, subst, arith, append_assoc, append-nil}
+use Rattle.std.specs.Prelude.{nat_lt, codes}
 use Rattle.std.specs.List.{flat_map}
 use Rattle.std.proofs.lemmas.Fmt.{decimal_by_steps}
-use Rattle.std.proofs.lemmas.Bool.{eq-eqb, lt-ltb}
+use Rattle.std.proofs.lemmas.Bool.{lt-ltb}
 use Rattle.std.proofs.Math.Bool.{and-false}
 use Rattle.data_model.specs.Lists.{Each}
-use Rattle.u_terms.specs.Syntax.{U, Val}
-use Rattle.u_terms.specs.Size.{nodes, value_nodes, list_nodes, depth, value_depth, list_depth}
+use Rattle.u_terms.specs.Size.{nodes, value_nodes, list_nodes}
 use Rattle.u_rules.specs.declared.rule.Rule.{Rule}
 use Rattle.u_rules.specs.declared.rule.Rule.TheVariants as rule
 use Rattle.u_rules.specs.declared.rule.Arg.{Arg}
 use Rattle.u_rules.specs.declared.rule.Arg.TheVariants as arg
 use Rattle.u_deriv.specs.declared.run.Run.{Run}
 use Rattle.u_deriv.specs.declared.run.Run.TheVariants as run
+use Rattle.u_deriv.specs.declared.step.Step.{Step, out-Step, roll-Step}
+use Rattle.u_deriv.specs.declared.step.Step.TheViews.{roll-out-Step}
+use Rattle.u_deriv.specs.declared.step.Step.TheOpen.{Step-F}
 use Rattle.u_deriv.specs.Normal.{IsLike, EachNeighbour, IsNormal}
-use Rattle.u_deriv.specs.StepText.{term_text, value_text, counted, run_text, path_text, direction_text, rule_text, argument_text, arguments_text, head_text, newline}
+use Rattle.u_deriv.specs.StepText.{counted, run_text, direction_text, rule_text, argument_text, arguments_text, newline}
 use Rattle.proof_text.specs.declared.kinds.Kind.{Kind}
 use Rattle.proof_text.specs.declared.kinds.Kind.TheVariants as kind
 use Rattle.proof_text.specs.declared.path.Last.{Last}
 use Rattle.proof_text.specs.declared.path.Last.TheVariants as last
+use Rattle.proof_text.specs.declared.line.LineStep.{LineStep}
 use Rattle.proof_text.specs.declared.line.LineStep.TheVariants as says
 use Rattle.proof_text.specs.Limits.{most_nodes, most_depth}
-use Rattle.proof_text.specs.Signs.{code, sign}
-use Rattle.proof_text.specs.Signs as s
+use Rattle.proof_text.specs.Signs.{code}
 use Rattle.proof_text.specs.RuleNames.{names, mul_names, squash_names, sum_names, not_names, eq_names, s_names, kinds_of, has_inner}
-use Rattle.proof_text.specs.Grammar.{made}
+use Rattle.proof_text.specs.Grammar.{made, with_inner}
 use Rattle.proof_text.specs.Words.{RunHasWord, ArgumentHasWords}
-use Rattle.proof_text.specs.Written.{IsOf, AreOf, HasLine, IsSmall, end_text, line_text}
+use Rattle.proof_text.specs.Written.{IsOf, AreOf, HasLine, IsSmall, end_text, line_text, SaysStep, Says, text_of}
 use Rattle.proof_text.specs.Paths.{IsApart}
-use Rattle.proof_text.specs.Reading.{Rest, Reading, ◌>>=◌, sign_at, next, passed, expected, fresh, number_at, count_at, turns_at, word_at, may_be_left, may_be_right, may_be_inside, run_at, runs_with, runs_at, path_at, last_of, direction_at, rule_at, argument_at, arguments_at, end_at, step_at, line_at, if_over, alone}
+use Rattle.proof_text.specs.Reading.{Reading, sign_at, turns_at, word_at, run_at, runs_at, path_at, last_of, direction_at, rule_at, argument_at, arguments_at, end_at, step_at, line_at, alone}
 use Rattle.proof_text.specs.ReadingLines.{IsRead}
 use Rattle.proof_text.proofs.NumbersAgain.{Ends, number_again, count_again, digit_code}
-use Rattle.proof_text.proofs.TermsAgain.{first_text-list, list_text, term_again, value_again, values_again}
+use Rattle.proof_text.proofs.TermsAgain.{first_text-list, term_again, value_again, values_again}
 use Rattle.proof_text.proofs.LineAnswers.{read_told}
 
 -- ---- paths
@@ -115,8 +116,11 @@ runs_again [] zero n l k h w a = refl
 runs_again [] (suc most) n l k h w a = refl
 runs_again (x ∷ xs) zero n l k h w a = absurd (omega (arith, h))
 runs_again (x ∷ xs) (suc most) n l k h w a =
-    rw (append_assoc (run_text x) (flat_map run_text xs) (32 ∷ k), run_again l x n (flat_map run_text xs ++ (32 ∷ k)) w.0 a.0 (run_ends xs k),
-      runs_again xs most n (last_of x) k (omega (arith, h)) w.1 a.1)
+    rw (
+      append_assoc (run_text x) (flat_map run_text xs) (32 ∷ k),
+      run_again l x n (flat_map run_text xs ++ (32 ∷ k)) w.0 a.0 (run_ends xs k),
+      runs_again xs most n (last_of x) k (omega (arith, h)) w.1 a.1,
+    )
     refl
 
 runs_long : (path : List Run) → length path ≤ length (flat_map run_text path)
@@ -235,7 +239,36 @@ line_again path forward q args n k l h =
     let r = arguments_again (kinds_of q) args n (end_text (has_inner q) ++ k) l.kinds l.words h (end_ends (has_inner q) k) in
     record {
       left = r.left;
-      is = rw (line_parts path forward q args k, path_again path n (direction_text forward ++ (32 ∷ (rule_text q ++ (arguments_text args ++ (end_text (has_inner q) ++ k))))) l.turns (apart_all path l.normal),
+      is = rw (
+        line_parts path forward q args k,
+        path_again path n (direction_text forward ++ (32 ∷ (rule_text q ++ (arguments_text args ++ (end_text (has_inner q) ++ k))))) l.turns (apart_all path l.normal),
         direction_again forward n (32 ∷ (rule_text q ++ (arguments_text args ++ (end_text (has_inner q) ++ k)))),
-        rule_again q n (arguments_text args ++ (end_text (has_inner q) ++ k)), r.is, end_again (has_inner q) r.left k) refl;
+        rule_again q n (arguments_text args ++ (end_text (has_inner q) ++ k)),
+        r.is,
+        end_again (has_inner q) r.left k,
+      ) refl;
     }
+
+-- ---- what a line says is read of it
+step_read : (b : Bool) (d : Step-F Step) → SaysStep b d → IsRead (line_text d.path d.forward d.rule d.args) (with_inner b (roll-Step (record { path = d.path; forward = d.forward; rule = d.rule; args = d.args; inner = [] })))
+step_read b d h =
+    let r = line_again d.path d.forward d.rule d.args 0 [] h.parts h.small in
+    let e : line_at (record { nodes = 0; text = line_text d.path d.forward d.rule d.args }) ≡ (Ok (made d.path d.forward d.rule d.args), record { nodes = r.left; text = [] }) =
+    subst (λ (t : List ℕ). line_at (record { nodes = 0; text = t }) ≡ (Ok (made d.path d.forward d.rule d.args), record { nodes = r.left; text = [] })) (append-nil (line_text d.path d.forward d.rule d.args)) r.is in
+    let i : alone line_at (record { nodes = 0; text = line_text d.path d.forward d.rule d.args }) ≡ (Ok (made d.path d.forward d.rule d.args), record { nodes = r.left; text = [] }) = rw e refl in
+    subst (λ c. IsRead (line_text d.path d.forward d.rule d.args) (with_inner c (roll-Step (record { path = d.path; forward = d.forward; rule = d.rule; args = d.args; inner = [] })))) h.opens
+    (read_told (line_text d.path d.forward d.rule d.args) (made d.path d.forward d.rule d.args) (record { nodes = r.left; text = [] }) i)
+
+-- a step without inner steps is made of its parts
+same_step : (s : Step) → (out-Step s).inner ≡ [] → roll-Step (record { path = (out-Step s).path; forward = (out-Step s).forward; rule = (out-Step s).rule; args = (out-Step s).args; inner = [] }) ≡ s
+same_step s e =
+    subst (λ (l : List Step). roll-Step (record { path = (out-Step s).path; forward = (out-Step s).forward; rule = (out-Step s).rule; args = (out-Step s).args; inner = l }) ≡ s) e (roll-out-Step s)
+
+pub says_read : (l : LineStep) → Says l → IsRead (text_of l) l
+unfolding line_at word_at
+says_read (says.Whole s) h =
+    subst (λ z. IsRead (text_of (says.Whole s)) (says.Whole z)) (same_step s h.none) (step_read false (out-Step s) h)
+says_read (says.Opens s) h =
+    subst (λ z. IsRead (text_of (says.Opens s)) (says.Opens z)) (same_step s h.none) (step_read true (out-Step s) h)
+says_read says.Closes h = read_told (codes "}" ++ newline) says.Closes (record { nodes = 0; text = [] }) refl
+says_read says.Ends h = read_told (codes "end" ++ newline) says.Ends (record { nodes = 0; text = [] }) refl

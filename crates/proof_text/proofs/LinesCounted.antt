@@ -1,5 +1,5 @@
 -- The nodes of each argument of a line are counted.
-use Rattle.std.proofs.Common.{◌≡◌, ℕ, zero, suc, ◌+◌, ◌*◌, ◌≤◌, ◌<◌, Bool, true, false, not, ◌&&◌, ◌||◌, List, [], ◌∷◌, ◌++◌, length, inl, inr, Option, Some, None, Result, Ok, Err, refl, sym, ap, ◌∙◌, subst, arith, append_assoc}
+use Rattle.std.proofs.Common.{◌≡◌, ℕ, zero, suc, ◌+◌, ◌*◌, ◌≤◌, ◌<◌, Bool, true, false, not, ◌&&◌, ◌||◌, List, [], ◌∷◌, ◌++◌, Option, Some, None, Ok, Err, refl, sym, ap, ◌∙◌, subst, arith, append_assoc}
 use Rattle.std.specs.Prelude.{◌==◌, nat_lt, if◌then◌else◌, codes}
 use Rattle.std.specs.List.{list_all}
 use Rattle.std.proofs.lemmas.Bool.{eqb-true, ltb-true}
@@ -19,12 +19,11 @@ use Rattle.proof_text.specs.declared.cursor.Stop.{Stop}
 use Rattle.proof_text.specs.declared.cursor.Stop.TheVariants.{Unexpected, TooMany, TooDeep, NoMemory}
 use Rattle.proof_text.specs.Limits.{most_nodes, most_depth}
 use Rattle.proof_text.specs.Signs.{Sign, code, sign}
-use Rattle.proof_text.specs.Signs as s
 use Rattle.proof_text.specs.RuleNames.{Names, found, word, either, names, mul_names, squash_names, sum_names, not_names, eq_names, s_names, kinds_of, has_inner}
 use Rattle.proof_text.specs.Grammar.{made}
 use Rattle.proof_text.specs.Reading.{Rest, Reading, ◌>>=◌, next, passed, bad, expected, fresh, is_longer, longest, longest_at, number_at, count_at, turns_at, term_at, value_at, list_of, word_at, may_be_left, may_be_right, may_be_inside, run_at, runs_with, runs_at, path_at, last_of, direction_at, rule_at, argument_at, arguments_at, end_at, step_at, line_at, if_over, alone}
-use Rattle.proof_text.specs.Begun.{Begun, is_parenthesis, opens, begun_with, begun_from, begun_in, KeepsNodes}
-use Rattle.proof_text.proofs.Counting.{Kept, at_end, then_more, begun_from-append, kept-append, Moves, Halted, Counts, At, term_counts, value_counts, values_list_counts}
+use Rattle.proof_text.specs.Begun.{Begun, is_parenthesis, opens, begun_with, begun_from, KeepsNodes}
+use Rattle.proof_text.proofs.Counting.{Kept, at_end, then_more, begun_from-append, kept-append, Counts, term_counts, value_counts, values_list_counts}
 use Rattle.proof_text.proofs.NumbersRead.{not_equal}
 
 -- so far no argument has too many nodes, and one that may begin has none
@@ -129,7 +128,7 @@ fine_behind b byte f o = go (code (sign byte) == 23) b.may refl
 behind_byte : {A : Type 0} (nodes byte : ℕ) (text : List ℕ) (reading : Reading A) → opens (sign byte) ≡ false → Keeps (record { nodes = nodes; text = text }) reading → Keeps (record { nodes = nodes; text = byte ∷ text }) reading
 behind_byte nodes byte text reading o k b f =
     let step : Stays b (record { nodes = nodes; text = byte ∷ text }) (record { nodes = nodes; text = text }) =
-        record { taken = byte ∷ []; whole = refl; kept = then_more f.few (at_end (fine_behind b byte f o).few); fine = fine_behind b byte f o } in
+    record { taken = byte ∷ []; whole = refl; kept = then_more f.few (at_end (fine_behind b byte f o).few); fine = fine_behind b byte f o } in
     join step reading (k (begun_with b byte) (fine_behind b byte f o))
 
 -- signs behind which none may begin
@@ -184,7 +183,7 @@ keeps_longest m rest = by m rest.nodes rest.text
       where
         go : (x : Bool) → is_longer m (code (sign byte)) ≡ x → Keeps (record { nodes = nodes; text = text }) (longest_at (10 * m + code (sign byte)) (record { nodes = nodes; text = text }))
             → Keeps {A = ℕ} (record { nodes = nodes; text = byte ∷ text })
-              (Ok (if x then longest (10 * m + code (sign byte)) text else (m, byte ∷ text)).0, record { nodes = nodes; text = (if x then longest (10 * m + code (sign byte)) text else (m, byte ∷ text)).1 })
+            (Ok (if x then longest (10 * m + code (sign byte)) text else (m, byte ∷ text)).0, record { nodes = nodes; text = (if x then longest (10 * m + code (sign byte)) text else (m, byte ∷ text)).1 })
         go true e k = behind_byte nodes byte text (longest_at (10 * m + code (sign byte)) (record { nodes = nodes; text = text })) (digit_quiet (code (sign byte)) (and_left (nat_lt (code (sign byte)) 10) _ e)) k
         go false e k = keeps_still ℕ m (record { nodes = nodes; text = byte ∷ text })
 
@@ -194,7 +193,7 @@ keeps_number rest =
     either_way {A = ℕ} rest (Ok 0, passed rest) (if nat_lt (code (next rest)) 10 then longest_at (code (next rest)) (passed rest) else bad rest) (code (next rest) == 0)
     (λ e. behind_sign {A = ℕ} 0 refl rest (Ok 0, passed rest) e (keeps_still ℕ 0 (passed rest)))
     (λ e. either_way rest (longest_at (code (next rest)) (passed rest)) (bad rest) (nat_lt (code (next rest)) 10)
-      (λ i. behind_digit rest (longest_at (code (next rest)) (passed rest)) i (keeps_longest (code (next rest)) (passed rest))) (λ i. keeps_bad ℕ rest))
+    (λ i. behind_digit rest (longest_at (code (next rest)) (passed rest)) i (keeps_longest (code (next rest)) (passed rest))) (λ i. keeps_bad ℕ rest))
 
 module _ (rest : Rest) where
   abbrev behind_more : Reading ℕ
@@ -211,9 +210,9 @@ module _ (rest : Rest) where
   keeps_count =
       either_way rest (bad rest) behind_zero (code (next rest) == 0) (λ e. keeps_bad ℕ rest)
       (λ e. either_way rest behind_one behind_more (code (next rest) == 1)
-        (λ i. behind_sign 1 refl rest behind_one i (either_way (passed rest) (longest_at 1 (passed rest)) (bad (passed rest)) (nat_lt (code (next (passed rest))) 10) (λ j. keeps_longest 1 (passed rest)) (λ j. keeps_bad ℕ (passed rest))))
-        (λ i. either_way rest (longest_at (code (next rest)) (passed rest)) (bad rest) (nat_lt (code (next rest)) 10)
-          (λ j. behind_digit rest (longest_at (code (next rest)) (passed rest)) j (keeps_longest (code (next rest)) (passed rest))) (λ j. keeps_bad ℕ rest)))
+      (λ i. behind_sign 1 refl rest behind_one i (either_way (passed rest) (longest_at 1 (passed rest)) (bad (passed rest)) (nat_lt (code (next (passed rest))) 10) (λ j. keeps_longest 1 (passed rest)) (λ j. keeps_bad ℕ (passed rest))))
+      (λ i. either_way rest (longest_at (code (next rest)) (passed rest)) (bad rest) (nat_lt (code (next rest)) 10)
+      (λ j. behind_digit rest (longest_at (code (next rest)) (passed rest)) j (keeps_longest (code (next rest)) (passed rest))) (λ j. keeps_bad ℕ rest)))
 
 keeps_turns : (rest : Rest) → Keeps rest (turns_at rest)
 keeps_turns rest = either_way {A = ℕ} rest (count_at rest) (Ok 1, rest) (nat_lt 0 (code (next rest)) && nat_lt (code (next rest)) 10) (λ e. keeps_count rest) (λ e. keeps_still ℕ 1 rest)
@@ -247,12 +246,12 @@ module _ (l : Last) (rest : Rest) where
       either_way rest lefts others_left ((code (next rest) == 39) && may_be_left l)
       (λ e. behind_sign 39 refl rest lefts (and_left (code (next rest) == 39) (may_be_left l) e) (keeps_gives (passed rest) (turns_at (passed rest)) (λ n. Some (run.Left n)) (keeps_turns (passed rest))))
       (λ e. either_way rest rights others_right ((code (next rest) == 45) && may_be_right l)
-        (λ e. behind_sign 45 refl rest rights (and_left (code (next rest) == 45) (may_be_right l) e) (keeps_gives (passed rest) (turns_at (passed rest)) (λ n. Some (run.Right n)) (keeps_turns (passed rest))))
-        (λ e. either_way rest insides others_inside ((code (next rest) == 37) && may_be_inside l)
-          (λ e. behind_sign 37 refl rest insides (and_left (code (next rest) == 37) (may_be_inside l) e) (keeps_gives (passed rest) (turns_at (passed rest)) (λ n. Some (run.Inside n)) (keeps_turns (passed rest))))
-          (λ e. either_way {A = Option Run} rest arguments (Ok None, rest) (code (next rest) == 31)
-            (λ e. behind_sign 31 refl rest arguments e (keeps_gives (passed rest) (number_at (passed rest)) (λ n. Some (run.Argument n)) (keeps_number (passed rest))))
-            (λ e. keeps_still (Option Run) None rest))))
+      (λ e. behind_sign 45 refl rest rights (and_left (code (next rest) == 45) (may_be_right l) e) (keeps_gives (passed rest) (turns_at (passed rest)) (λ n. Some (run.Right n)) (keeps_turns (passed rest))))
+      (λ e. either_way rest insides others_inside ((code (next rest) == 37) && may_be_inside l)
+      (λ e. behind_sign 37 refl rest insides (and_left (code (next rest) == 37) (may_be_inside l) e) (keeps_gives (passed rest) (turns_at (passed rest)) (λ n. Some (run.Inside n)) (keeps_turns (passed rest))))
+      (λ e. either_way {A = Option Run} rest arguments (Ok None, rest) (code (next rest) == 31)
+      (λ e. behind_sign 31 refl rest arguments e (keeps_gives (passed rest) (number_at (passed rest)) (λ n. Some (run.Argument n)) (keeps_number (passed rest))))
+      (λ e. keeps_still (Option Run) None rest))))
 
 keeps_runs : (n : ℕ) (l : Last) (rest : Rest) → Keeps rest (runs_at n l rest)
 unfolding runs_at
@@ -330,7 +329,7 @@ behind_space {A = A} rest more k = at rest.nodes rest.text
             let w : begun_with b byte ≡ begins = rw e refl in
             let fine : Fine begins = record { few = omega arith; none = λ e. refl } in
             let step : Stays b (record { nodes = nodes; text = byte ∷ text }) (record { nodes = nodes; text = text }) =
-                record { taken = byte ∷ []; whole = refl; kept = then_more f.few (subst (λ z. Kept most_nodes z []) (sym w) (at_end fine.few)); fine = subst Fine (sym w) fine } in
+            record { taken = byte ∷ []; whole = refl; kept = then_more f.few (subst (λ z. Kept most_nodes z []) (sym w) (at_end fine.few)); fine = subst Fine (sym w) fine } in
             join step (more (record { nodes = nodes; text = text })) (subst (λ z. LineAt z (record { nodes = nodes; text = text }) (more (record { nodes = nodes; text = text }))) (sym w) (k (record { nodes = nodes; text = text })))
         go false e = keeps_bad A (record { nodes = nodes; text = byte ∷ text }) b f
 
@@ -340,7 +339,7 @@ keeps_arguments [] rest = keeps_still (List Arg) [] rest
 keeps_arguments (k ∷ ks) rest =
     behind_space rest (λ r. argument_at k r >>= λ a r. arguments_at ks r >>= λ others r. (Ok (a ∷ others), r))
     (λ r. line_then begins r (argument_at k r) (λ a r. arguments_at ks r >>= λ others r. (Ok (a ∷ others), r)) (argument_keeps k r)
-      (λ a r. keeps_gives r (arguments_at ks r) (λ others. a ∷ others) (keeps_arguments ks r)))
+    (λ a r. keeps_gives r (arguments_at ks r) (λ others. a ∷ others) (keeps_arguments ks r)))
 
 -- ---- the other parts of a line
 keeps_direction : (rest : Rest) → Keeps rest (direction_at rest)
@@ -398,8 +397,8 @@ module _ (rest : Rest) where
   keeps_line =
       either_way rest (step_at (passed rest)) others (code (next rest) == 25) (λ e. behind_sign 25 refl rest (step_at (passed rest)) e (keeps_step (passed rest)))
       (λ e. either_way rest closes ends (code (next rest) == 29)
-        (λ e. behind_sign 29 refl rest closes e (keeps_gives (passed rest) (expected 24 (passed rest)) (λ o. Closes) (keeps_expected 24 refl (passed rest))))
-        (λ e. keeps_then rest (word_at (codes "end") rest) _ (keeps_word (codes "end") refl rest) (λ o r. keeps_gives r (expected 24 r) (λ o. Ends) (keeps_expected 24 refl r))))
+      (λ e. behind_sign 29 refl rest closes e (keeps_gives (passed rest) (expected 24 (passed rest)) (λ o. Closes) (keeps_expected 24 refl (passed rest))))
+      (λ e. keeps_then rest (word_at (codes "end") rest) _ (keeps_word (codes "end") refl rest) (λ o r. keeps_gives r (expected 24 r) (λ o. Ends) (keeps_expected 24 refl r))))
 
 pub keeps_whole_line : (rest : Rest) → Keeps rest (alone line_at rest)
 keeps_whole_line rest = keeps_then rest (line_at rest) (λ a r. if_over r.text a r) (keeps_line rest) (λ a r. over a r.text r)

@@ -1,19 +1,18 @@
 -- Lines are read as the grammar takes them.
-use Rattle.std.proofs.Common.{◌≡◌, ℕ, zero, suc, ◌+◌, ◌≤◌, Bool, true, false, not, ◌&&◌, ◌||◌, List, [], ◌∷◌, ◌++◌, length, length-append, inl, inr, Option, Some, None, Result, Ok, Err, refl, sym, ap, subst, arith}
+use Rattle.std.proofs.Common.{◌≡◌, ℕ, zero, suc, ◌≤◌, Bool, true, false, not, ◌&&◌, List, [], ◌∷◌, length, length-append, inl, inr, Option, Some, Ok, Err, refl, ap, subst, arith}
 use Rattle.std.specs.Prelude.{◌==◌, nat_lt, if◌then◌else◌, codes}
 use Rattle.std.specs.List.{list_all}
 use Rattle.std.proofs.lemmas.Bool.{eqb-true}
 use Rattle.std.proofs.Math.Bool.{and-false}
-use Rattle.grammar.specs.Form.{empty, token, seq, alt, map, ref}
+use Rattle.grammar.specs.Form.{empty, seq, alt, map, ref}
 use Rattle.grammar.specs.Productions.{skip_then}
-use Rattle.grammar.specs.Reading.{Took, Failed}
-use Rattle.grammar.proofs.Predictions.{ok, ahead}
+use Rattle.grammar.specs.Reading.{Took}
+use Rattle.grammar.proofs.Predictions.{ok}
 use Rattle.grammar.proofs.Sets.{and_left, and_right}
 use Rattle.grammar.proofs.Steps.{empty_took}
 use Rattle.u_rules.specs.declared.rule.Rule.{Rule}
 use Rattle.u_rules.specs.declared.rule.Rule.TheVariants as rule
 use Rattle.u_rules.specs.declared.rule.Arg.{Arg}
-use Rattle.u_rules.specs.declared.rule.Arg.TheVariants as arg
 use Rattle.u_deriv.specs.declared.run.Run.{Run}
 use Rattle.u_deriv.specs.declared.run.Run.TheVariants as run
 use Rattle.proof_text.specs.declared.kinds.Kind.{Kind}
@@ -27,11 +26,11 @@ use Rattle.proof_text.specs.Limits.{most_depth}
 use Rattle.proof_text.specs.Signs.{Sign, code, sign}
 use Rattle.proof_text.specs.Signs as s
 use Rattle.proof_text.specs.RuleNames.{Names, found, word, either, names, mul_names, squash_names, sum_names, not_names, eq_names, s_names, kinds_of, has_inner}
-use Rattle.proof_text.specs.Grammar.{F, Name, term, value, arguments, number, count, runs, use_of_rule, line, header, outs, rules, of_code, the, spelled, line_feed, counted_run, run_then, lefts, rights, insides, an_argument, no_run, argument_form, arguments_then, end_of_line, of_rule, named, direction, step_line, made}
-use Rattle.proof_text.specs.Reading.{Rest, Reading, ◌>>=◌, next, passed, bad, expected, fresh, number_at, count_at, turns_at, term_at, value_at, list_of, word_at, run_at, runs_with, runs_at, path_at, last_of, direction_at, rule_at, argument_at, arguments_at, end_at, step_at, line_at}
+use Rattle.proof_text.specs.Grammar.{F, term, value, arguments, number, count, runs, use_of_rule, line, rules, the, spelled, line_feed, counted_run, run_then, an_argument, no_run, argument_form, arguments_then, end_of_line, of_rule, named, direction, made}
+use Rattle.proof_text.specs.Reading.{Rest, Reading, ◌>>=◌, expected, fresh, number_at, count_at, turns_at, term_at, value_at, list_of, word_at, run_at, runs_with, runs_at, path_at, last_of, direction_at, rule_at, argument_at, arguments_at, end_at, step_at, line_at}
 use Rattle.proof_text.specs.Outcomes.{free, bounded, Outcome}
 use Rattle.proof_text.proofs.OneLine.{grammar}
-use Rattle.proof_text.proofs.Goes.{Goes, deep_within, whole, mapped, production, second, then_next, then_known, ends_in, first, other, by_next, takes, passing, closing}
+use Rattle.proof_text.proofs.Goes.{Goes, whole, mapped, production, second, then_next, then_known, ends_in, first, other, by_next, takes, passing, closing}
 use Rattle.proof_text.proofs.NumbersRead.{fails, reads_number, reads_count, count_front}
 use Rattle.proof_text.proofs.TermsRead.{reads_term, reads_value, reads_values}
 
@@ -81,8 +80,8 @@ module _ {A : Type 0} {N : F A} {most : ℕ} {start : List ℕ} where
   reads_word f (byte ∷ bytes) rest e o l more k =
       rw (then_then (expected (code (sign byte)) rest) (λ o r. word_at bytes r) (λ o r. more r))
       (passing (code (sign byte)) (is_not (54 == code (sign byte)) (and_left (not (54 == code (sign byte))) (are_signs bytes) e)) rest.nodes rest.text
-        (mapped {k = λ p. p.1} {f = seq (the (sign byte)) (spelled bytes f)} l) o (λ r. word_at bytes r >>= λ o r. more r)
-        (λ b mid g. reads_word f bytes mid (and_right (not (54 == code (sign byte))) (are_signs bytes) e) (and_left (ok grammar (spelled bytes f)) true o) g more k))
+      (mapped {k = λ p. p.1} {f = seq (the (sign byte)) (spelled bytes f)} l) o (λ r. word_at bytes r >>= λ o r. more r)
+      (λ b mid g. reads_word f bytes mid (and_right (not (54 == code (sign byte))) (are_signs bytes) e) (and_left (ok grammar (spelled bytes f)) true o) g more k))
 
   -- ---- names of rules
   reads_either : {levels : ℕ} {h : Rule × List Arg → A} (letter : Sign) (a b : Names) → (54 == code letter) ≡ false
@@ -111,7 +110,7 @@ module _ {A : Type 0} {N : F A} {most : ℕ} {start : List ℕ} where
   reads_name (word bytes t) rest e o l more k =
       rw (then_then (word_at bytes rest) (λ o r. rule_at t r) more)
       (reads_word (named t) bytes rest (and_left (are_signs bytes) (name_signs t) e) o l (λ r. rule_at t r >>= more)
-        (λ mid g. reads_name t mid (and_right (are_signs bytes) (name_signs t) e) (ok_behind (named t) bytes o) g more k))
+      (λ mid g. reads_name t mid (and_right (are_signs bytes) (name_signs t) e) (ok_behind (named t) bytes o) g more k))
   reads_name (either letter a b) rest e o l more k =
       let signs_too = and_right (not (54 == code letter)) (name_signs a && name_signs b) e in
       let both = and_left (ok grammar (skip_then (the letter) (named a)) && ok grammar (named b)) _ o in
@@ -131,13 +130,13 @@ module _ {A : Type 0} {N : F A} {most : ℕ} {start : List ℕ} where
   reads_arguments f (kind ∷ ks) rest o l more k =
       rw (then_then (expected 23 rest) (λ o r. argument_at kind r >>= λ a r. arguments_at ks r >>= λ others r. (Ok (a ∷ others), r)) more)
       (passing 23 refl rest.nodes rest.text (mapped {k = λ p. p.1} {f = seq (the s.Space) (seq (argument_form kind) (arguments_then ks f))} (mapped l)) o
-        (λ r. (argument_at kind r >>= λ a r. arguments_at ks r >>= λ others r. (Ok (a ∷ others), r)) >>= more)
-        (λ b r g.
-          rw (then_then (argument_at kind r) (λ a r. arguments_at ks r >>= λ others r. (Ok (a ∷ others), r)) more)
-          (then_next g ok_both (argument_at kind r) (λ a r. (arguments_at ks r >>= λ others r. (Ok (a ∷ others), r)) >>= more) (reads_argument kind r)
-            (λ a r g.
-              rw (then_then (arguments_at ks r) (λ others r. (Ok (a ∷ others), r)) more)
-              (reads_arguments f ks r ok_others g (λ others r. more (a ∷ others) r) (λ args r g. k (a ∷ args) r g))))))
+      (λ r. (argument_at kind r >>= λ a r. arguments_at ks r >>= λ others r. (Ok (a ∷ others), r)) >>= more)
+      (λ b r g.
+      rw (then_then (argument_at kind r) (λ a r. arguments_at ks r >>= λ others r. (Ok (a ∷ others), r)) more)
+      (then_next g ok_both (argument_at kind r) (λ a r. (arguments_at ks r >>= λ others r. (Ok (a ∷ others), r)) >>= more) (reads_argument kind r)
+      (λ a r g.
+      rw (then_then (arguments_at ks r) (λ others r. (Ok (a ∷ others), r)) more)
+      (reads_arguments f ks r ok_others g (λ others r. more (a ∷ others) r) (λ args r g. k (a ∷ args) r g))))))
     where
       ok_both : ok grammar (seq (argument_form kind) (arguments_then ks f)) ≡ true
       ok_both = and_left (ok grammar (seq (argument_form kind) (arguments_then ks f))) true o
@@ -202,7 +201,7 @@ module _ (levels n nodes byte : ℕ) (text : List ℕ) (within : length text ≤
   reads_letter letter made o e =
       as_read (turns_at here >>= λ n r. (Ok (made n), r))
       (ends_in (second (mapped {k = λ p. p.1} {f = seq (the letter) (turns_form made)} (whole {N = counted_run letter made} {levels = levels} {start = byte ∷ text})) o byte text (takes levels (λ x. code x == code letter) byte text e))
-        (turns_at here >>= λ n r. (Ok (made n), r)) (reads_turns levels made nodes text))
+      (turns_at here >>= λ n r. (Ok (made n), r)) (reads_turns levels made nodes text))
     where
       as_read : (reading : Reading Run) → Outcome (counted_run letter made) levels (byte ∷ text) (reading >>= λ v r. (Ok v, r)) → Outcome (counted_run letter made) levels (byte ∷ text) reading
       as_read (Ok v, r) t = t
@@ -220,8 +219,8 @@ module _ (levels n nodes byte : ℕ) (text : List ℕ) (within : length text ≤
     behind_run f l o reading reads fits g =
         then_known g o reading (λ x r. runs_with (runs_at n) (Some x) r) reads
         (λ x r e g.
-          let h : length r.text ≤ length text = (fits x r e).1 in
-          rw ((fits x r e).0) (ends_in g (runs_at n l r) (others l r (omega arith))))
+        let h : length r.text ≤ length text = (fits x r e).1 in
+        rw ((fits x r e).0) (ends_in g (runs_at n l r) (others l r (omega arith))))
 
     counted_case : (letter : Sign) (made : ℕ → Run) (l : Last) → ok grammar (counted_run letter made) ≡ true → ok grammar (seq (counted_run letter made) (ref (runs l))) ≡ true
         → ((m : ℕ) → last_of (made m) ≡ l) → (code (sign byte) == code letter) ≡ true
@@ -231,21 +230,21 @@ module _ (levels n nodes byte : ℕ) (text : List ℕ) (within : length text ≤
     counted_case letter made l o p is e g =
         rw (as_run made (turns_at here) (runs_with (runs_at n)))
         (behind_run (counted_run letter made) l p (turns_at here >>= λ m r. (Ok (made m), r)) (reads_letter letter made o e)
-          (λ x r i. (made_by made l is (turns_at here) x r i, shorter (turns_form made) levels text (turns_at here >>= λ m r. (Ok (made m), r)) (reads_turns levels made nodes text) x r i))
-          (mapped g))
+        (λ x r i. (made_by made l is (turns_at here) x r i, shorter (turns_form made) levels text (turns_at here >>= λ m r. (Ok (made m), r)) (reads_turns levels made nodes text) x r i))
+        (mapped g))
 
     argument_case : (code (sign byte) == 31) ≡ true → Goes an_argument levels (byte ∷ text) N levels (byte ∷ text) (λ v. v)
         → Outcome N levels (byte ∷ text) ((number_at here >>= λ m r. (Ok (Some (run.Argument m)), r)) >>= runs_with (runs_at n))
     argument_case e g =
         rw (as_run run.Argument (number_at here) (runs_with (runs_at n)))
         (behind_run (skip_then (the s.SmallA) (map run.Argument (ref number))) last.Other refl (number_at here >>= λ m r. (Ok (run.Argument m), r)) reads
-          (λ x r i. (made_by run.Argument last.Other (λ m. refl) (number_at here) x r i, short x r i))
-          (mapped g))
+        (λ x r i. (made_by run.Argument last.Other (λ m. refl) (number_at here) x r i, short x r i))
+        (mapped g))
       where
         reads : Outcome (skip_then (the s.SmallA) (map run.Argument (ref number))) levels (byte ∷ text) (number_at here >>= λ m r. (Ok (run.Argument m), r))
         reads =
             ends_in (mapped {k = run.Argument} {f = ref number} (second (mapped {k = λ p. p.1} {f = seq (the s.SmallA) (map run.Argument (ref number))}
-              (whole {N = skip_then (the s.SmallA) (map run.Argument (ref number))} {levels = levels} {start = byte ∷ text})) refl byte text (takes levels (λ x. code x == 31) byte text e)))
+            (whole {N = skip_then (the s.SmallA) (map run.Argument (ref number))} {levels = levels} {start = byte ∷ text})) refl byte text (takes levels (λ x. code x == 31) byte text e)))
             (number_at here) (reads_number levels here)
 
         short : (x : Run) (r : Rest) → (number_at here >>= λ m r. (Ok (run.Argument m), r)) ≡ (Ok x, r) → length r.text ≤ length text
@@ -403,7 +402,7 @@ module _ {N : F LineStep} {most : ℕ} {start : List ℕ} where
   reads_use of rest l =
       reads_name names rest names_signs names_ok (production use_of_rule l) (λ q r. arguments_at (kinds_of q) r >>= λ args r. end_at (has_inner q) r >>= λ o r. (Ok (of q args), r))
       (λ q r g. reads_arguments (end_of_line (has_inner q)) (kinds_of q) r (rule_ok q) (mapped g) (λ args r. end_at (has_inner q) r >>= λ o r. (Ok (of q args), r))
-        (λ args r g. reads_end (has_inner q) r (of q args) g))
+      (λ args r g. reads_end (has_inner q) r (of q args) g))
 
   reads_step : (rest : Rest)
       → Goes (seq (ref (runs last.Other)) (skip_then (the s.Space) (seq direction (skip_then (the s.Space) (ref use_of_rule))))) most_depth rest.text N most start (λ p. made p.0 p.1.0 p.1.1.0 p.1.1.1)
@@ -412,12 +411,12 @@ module _ {N : F LineStep} {most : ℕ} {start : List ℕ} where
   reads_step rest l =
       then_next l refl (path_at rest) (λ path r. expected 23 r >>= λ o r. direction_at r >>= λ forward r. expected 23 r >>= λ o r. used (made path forward) r) (reads_path most_depth rest)
       (λ path r g.
-        passing 23 refl r.nodes r.text (mapped {k = λ p. p.1} {f = seq (the s.Space) (seq direction (skip_then (the s.Space) (ref use_of_rule)))} g) refl
-          (λ r. direction_at r >>= λ forward r. expected 23 r >>= λ o r. used (made path forward) r)
-          (λ b r g.
-            then_next g refl (direction_at r) (λ forward r. expected 23 r >>= λ o r. used (made path forward) r) (reads_direction most_depth r)
-            (λ forward r g.
-              passing 23 refl r.nodes r.text (mapped {k = λ p. p.1} {f = seq (the s.Space) (ref use_of_rule)} g) refl (used (made path forward)) (λ b r g. reads_use (made path forward) r g))))
+      passing 23 refl r.nodes r.text (mapped {k = λ p. p.1} {f = seq (the s.Space) (seq direction (skip_then (the s.Space) (ref use_of_rule)))} g) refl
+      (λ r. direction_at r >>= λ forward r. expected 23 r >>= λ o r. used (made path forward) r)
+      (λ b r g.
+      then_next g refl (direction_at r) (λ forward r. expected 23 r >>= λ o r. used (made path forward) r) (reads_direction most_depth r)
+      (λ forward r g.
+      passing 23 refl r.nodes r.text (mapped {k = λ p. p.1} {f = seq (the s.Space) (ref use_of_rule)} g) refl (used (made path forward)) (λ b r g. reads_use (made path forward) r g))))
 
 -- ---- lines
 pub reads_line : (rest : Rest) → Outcome (ref line) most_depth rest.text (line_at rest)
@@ -435,10 +434,10 @@ reads_line rest = at rest.nodes rest.text
         go true b i j =
             let e : code (sign byte) ≡ 25 = eqb-true (code (sign byte)) 25 i in
             rw i (reads_step (record { nodes = nodes; text = text }) (second (mapped {k = λ p. p.1} {f = seq (the s.Slash) (seq (ref (runs last.Other)) (skip_then (the s.Space) (seq direction (skip_then (the s.Space) (ref use_of_rule)))))}
-              (mapped (first (there (byte ∷ text)) refl (rw e refl)))) refl byte text (takes most_depth (λ x. code x == 25) byte text i)))
+            (mapped (first (there (byte ∷ text)) refl (rw e refl)))) refl byte text (takes most_depth (λ x. code x == 25) byte text i)))
         go false true i j =
             let e : code (sign byte) ≡ 29 = eqb-true (code (sign byte)) 29 j in
             rw (i, j) (closing 24 refl nodes text Closes (second (mapped {k = λ p. p.1} {f = seq (the s.CloseBrace) line_feed} (mapped (first (other (there (byte ∷ text)) refl (rw i refl)) refl (rw e refl)))) refl byte text (takes most_depth (λ x. code x == 29) byte text j)))
         go false false i j =
             rw (i, j) (reads_word line_feed (codes "end") (record { nodes = nodes; text = byte ∷ text }) refl refl (mapped {k = λ t. Ends} (other (other (there (byte ∷ text)) refl (rw i refl)) refl (rw j refl))) (λ r. expected 24 r >>= λ o r. (Ok Ends, r))
-              (λ r g. closing 24 refl r.nodes r.text Ends g))
+            (λ r g. closing 24 refl r.nodes r.text Ends g))

@@ -1,5 +1,5 @@
 -- The readers step by step.
-use Rattle.std.proofs.Common.{◌≡◌, ℕ, zero, suc, ◌+◌, ◌*◌, ◌-◌, ◌<◌, ◌≤◌, Bool, true, false, List, [], ◌∷◌, ◌++◌, length, get_or, drop, drop-cons, add-one, Option, Some, None, Result, Ok, Err, refl, sym, ap, ◌∙◌, subst, arith, append_assoc}
+use Rattle.std.proofs.Common.{◌≡◌, ℕ, zero, suc, ◌+◌, ◌-◌, ◌<◌, ◌≤◌, Bool, true, false, List, [], ◌∷◌, ◌++◌, length, get_or, drop, drop-cons, add-one, Some, None, Ok, Err, refl, sym, ap, ◌∙◌, subst, arith, append_assoc}
 use Rattle.std.specs.Prelude.{if◌then◌else◌, ◌==◌}
 use Rattle.std.proofs.lemmas.List.{append-nil, drop_all}
 use Rattle.u_terms.specs.declared.term.Val.{Val}
@@ -7,7 +7,7 @@ use Rattle.proof_text.specs.declared.cursor.Stop.{Stop}
 use Rattle.proof_text.specs.declared.cursor.Stop.TheVariants.{Unexpected, TooMany, TooDeep, NoMemory}
 use Rattle.proof_text.specs.Signs.{code}
 use Rattle.proof_text.specs.Grammar.{begins_term, begins_value}
-use Rattle.proof_text.specs.Reading.{Rest, Reading, Stops, ◌>>=◌, next, passed, bad, expected, entered, longest, longest_at, values_with, values_at, term_with, value_with, term_at, value_at}
+use Rattle.proof_text.specs.Reading.{Rest, Reading, Stops, ◌>>=◌, next, passed, bad, expected, entered, longest_at, values_with, values_at, term_with, value_with, term_at, value_at}
 use Rattle.proof_text.specs.Signs.{Sign, sign}
 use Rattle.proof_text.specs.Signs as s
 use Rattle.proof_text.specs.Reading.{word_at, run_at, runs_with, runs_at, last_of, argument_at, arguments_at}

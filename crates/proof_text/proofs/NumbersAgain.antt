@@ -1,12 +1,11 @@
 -- A number that was written is read again.
-use Rattle.std.proofs.Common.{◌≡◌, ℕ, zero, suc, ◌+◌, ◌*◌, ◌/◌, ◌%◌, ◌^◌, ◌<◌, ◌≤◌, Bool, true, false, ◌&&◌, List, [], ◌∷◌, ◌++◌, Ok, refl, sym, ap, ◌∙◌, subst, arith, append_assoc}
-use Rattle.std.specs.Prelude.{◌==◌, nat_lt, if◌then◌else◌}
+use Rattle.std.proofs.Common.{◌≡◌, ℕ, zero, suc, ◌+◌, ◌*◌, ◌/◌, ◌%◌, ◌^◌, ◌<◌, ◌≤◌, Bool, true, false, List, [], ◌∷◌, ◌++◌, Ok, refl, sym, ◌∙◌, arith, append_assoc}
+use Rattle.std.specs.Prelude.{◌==◌, nat_lt}
 use Rattle.std.specs.Fmt.{decimal}
 use Rattle.std.proofs.lemmas.Fmt.{decimal_by_steps, decimal_digit}
 use Rattle.std.proofs.lemmas.Bool.{lt-ltb, eqb-true}
-use Rattle.std.proofs.Math.Bool.{and-false}
 use Rattle.proof_text.specs.Signs.{code, sign}
-use Rattle.proof_text.specs.Reading.{Rest, Reading, sign_at, number_at, count_at, is_longer, longest_at}
+use Rattle.proof_text.specs.Reading.{sign_at, number_at, count_at, longest_at}
 use Rattle.proof_text.proofs.NumbersRead.{not_equal}
 
 -- no digit stands in front
@@ -66,7 +65,6 @@ one_counts n h = (λ e. rw e refl, λ two s nodes k. rw (digit_code n h, not_equ
 teens : (d n nodes : ℕ) (k : List ℕ) → d < 10 → n ≡ 10 * 1 + d → n < 2 ^ 32 → count_at (record { nodes = nodes; text = 49 ∷ ((48 + d) ∷ k) }) ≡ longest_at n (record { nodes = nodes; text = k })
 unfolding count_at
 teens d n nodes k h e s = rw (digit_code d h, lt-ltb d 10 h, sym e, lt-ltb n (2 ^ 32) s) refl
-
 
 at_least : (m : ℕ) → 1 ≤ m → (m == 1) ≡ false → 2 ≤ m
 at_least zero h e = absurd (omega arith)

@@ -1,9 +1,9 @@
 -- The longest number is what the grammar takes of digits.
-use Rattle.std.proofs.Common.{◌≡◌, ◌≢◌, subst, ℕ, zero, suc, ◌+◌, ◌*◌, ◌^◌, ◌≤◌, ◌<◌, Bool, true, false, not, ◌&&◌, ◌||◌, List, [], ◌∷◌, inl, inr, None, refl, sym, ap, ◌∙◌, arith}
+use Rattle.std.proofs.Common.{◌≡◌, ◌≢◌, subst, ℕ, zero, suc, ◌+◌, ◌*◌, ◌^◌, ◌≤◌, ◌<◌, Bool, true, false, ◌&&◌, List, [], ◌∷◌, inl, inr, None, refl, sym, ap, ◌∙◌, arith}
 use Rattle.std.proofs.Math.Bool.{and-false}
 use Rattle.std.proofs.lemmas.Bool.{eq-eqb, eqb-true, ltb-true, ltb-false, lt-ltb, le-ltb}
 use Rattle.std.specs.Prelude.{◌==◌, nat_lt, if◌then◌else◌, fold}
-use Rattle.grammar.specs.Form.{empty, token, seq, alt, map, ref}
+use Rattle.grammar.specs.Form.{empty, token, seq, alt, ref}
 use Rattle.grammar.specs.Reading.{Took, Failed}
 use Rattle.grammar.proofs.Predictions.{ok, ahead, known, produced}
 use Rattle.grammar.proofs.Sets.{and_left, and_right}
@@ -167,19 +167,19 @@ module _ (q : Place) (m d few : ℕ) (o : ok grammar (alt (beside d few q) no_di
       go true b true i j k =
           longer (fits_longer m (code (sign byte)) k fits)
           (λ ds rest t. (by_next (by_next starts o byte text refl (inl (digit_begins (ref (upto (suc few))) (λ x. nat_lt (code x) d) i))) ob byte text refl (digit_begins (ref (upto (suc few))) (λ x. nat_lt (code x) d) i)).deep.took (byte ∷ ds) rest
-            (digit_took (ref (upto (suc few))) levels (λ x. nat_lt (code x) d) refl i ds rest t))
+          (digit_took (ref (upto (suc few))) levels (λ x. nat_lt (code x) d) refl i ds rest t))
           (reads_upto (suc few) (10 * m + code (sign byte)) (below_few (code (sign byte)) (ltb-true (code (sign byte)) d i)) levels text)
       go false true true i j k =
           longer (fits_longer m (code (sign byte)) k fits)
           (λ ds rest t. (by_next (other (by_next starts o byte text refl (inr (inl (digit_begins (ref (greatest q)) (λ x. code x == d) j)))) refl (rw i refl)) oc byte text refl (digit_begins (ref (greatest q)) (λ x. code x == d) j)).deep.took (byte ∷ ds) rest
-            (digit_took (ref (greatest q)) levels (λ x. code x == d) od j ds rest t))
+          (digit_took (ref (greatest q)) levels (λ x. code x == d) od j ds rest t))
           (subst (λ z. Digits (ref (greatest q)) levels (10 * m + z) text) (sym (eqb-true (code (sign byte)) d j)) (goes text))
       go false false true i j k =
           let h : d < code (sign byte) = is_above (code (sign byte)) d i j in
           let g : (nat_lt d (code (sign byte)) && nat_lt (code (sign byte)) 10) ≡ true = rw (lt-ltb d (code (sign byte)) h, k) refl in
           longer (fits_longer m (code (sign byte)) k fits)
           (λ ds rest t. (other (other (by_next starts o byte text refl (inr (inr (digit_begins (ref (upto few)) (λ x. nat_lt d (code x) && nat_lt (code x) 10) g)))) refl (rw i refl)) od (rw j refl)).deep.took (byte ∷ ds) rest
-            (digit_took (ref (upto few)) levels (λ x. nat_lt d (code x) && nat_lt (code x) 10) refl g ds rest t))
+          (digit_took (ref (upto few)) levels (λ x. nat_lt d (code x) && nat_lt (code x) 10) refl g ds rest t))
           (reads_upto few (10 * m + code (sign byte)) (above_few (code (sign byte)) h (ltb-true (code (sign byte)) 10 k)) levels text)
 
 few_at : (n m : ℕ) → most n m < 2 ^ 32 → 2 ^ 32 ≤ least (suc n) m → Few n m
@@ -222,13 +222,13 @@ reads_P9 levels text = by_rule P9 levels 429496729 text (last text)
             let low : code (sign byte) < 5 = ltb-true (code (sign byte)) 5 i in
             longer (rw (lt-ltb (code (sign byte)) 10 (omega arith), lt-ltb (10 * 429496729 + code (sign byte)) (2 ^ 32) (omega arith)) refl)
             (λ ds rest t. (by_next (by_next starts refl byte text refl (inl (digit_begins (ref (upto 0)) (λ x. nat_lt (code x) 5) i))) refl byte text refl (digit_begins (ref (upto 0)) (λ x. nat_lt (code x) 5) i)).deep.took (byte ∷ ds) rest
-              (digit_took (ref (upto 0)) levels (λ x. nat_lt (code x) 5) refl i ds rest t))
+            (digit_took (ref (upto 0)) levels (λ x. nat_lt (code x) 5) refl i ds rest t))
             (reads_upto 0 (10 * 429496729 + code (sign byte)) (few_at 0 (10 * 429496729 + code (sign byte)) (omega arith) (omega arith)) levels text)
         go false true i j =
             let e : code (sign byte) ≡ 5 = eqb-true (code (sign byte)) 5 j in
             longer (rw e refl)
             (λ ds rest t. (other (by_next starts refl byte text refl (inr (digit_begins (ref (greatest P10)) (λ x. code x == 5) j))) refl (rw i refl)).deep.took (byte ∷ ds) rest
-              (digit_took (ref (greatest P10)) levels (λ x. code x == 5) refl j ds rest t))
+            (digit_took (ref (greatest P10)) levels (λ x. code x == 5) refl j ds rest t))
             (subst (λ z. Digits (ref (greatest P10)) levels (10 * 429496729 + z) text) (sym e) (reads_P10 levels text))
         go false false i j =
             let h : 5 < code (sign byte) = is_above (code (sign byte)) 5 i j in
@@ -239,65 +239,65 @@ reads_P8 : (levels : ℕ) (text : List ℕ) → Digits (ref (greatest P8)) level
 reads_P8 levels text =
     by_rule P8 levels 42949672 text
     (reads_beside P9 42949672 9 0 refl refl refl refl (omega arith) (omega arith)
-      (λ c h. few_below 1 42949672 8 c h (ltb-true (most 1 (10 * 42949672 + 8)) (2 ^ 32) refl) (ltb-false (least 2 (10 * 42949672)) (2 ^ 32) refl))
-      (λ c h l. few_above 0 42949672 9 c h l (ltb-true (most 0 (10 * 42949672 + 9)) (2 ^ 32) refl) (ltb-false (least 1 (10 * 42949672 + 9 + 1)) (2 ^ 32) refl))
-      levels (λ t. reads_P9 levels t) text)
+    (λ c h. few_below 1 42949672 8 c h (ltb-true (most 1 (10 * 42949672 + 8)) (2 ^ 32) refl) (ltb-false (least 2 (10 * 42949672)) (2 ^ 32) refl))
+    (λ c h l. few_above 0 42949672 9 c h l (ltb-true (most 0 (10 * 42949672 + 9)) (2 ^ 32) refl) (ltb-false (least 1 (10 * 42949672 + 9 + 1)) (2 ^ 32) refl))
+    levels (λ t. reads_P9 levels t) text)
 
 reads_P7 : (levels : ℕ) (text : List ℕ) → Digits (ref (greatest P7)) levels 4294967 text
 reads_P7 levels text =
     by_rule P7 levels 4294967 text
     (reads_beside P8 4294967 2 1 refl refl refl refl (omega arith) (omega arith)
-      (λ c h. few_below 2 4294967 1 c h (ltb-true (most 2 (10 * 4294967 + 1)) (2 ^ 32) refl) (ltb-false (least 3 (10 * 4294967)) (2 ^ 32) refl))
-      (λ c h l. few_above 1 4294967 2 c h l (ltb-true (most 1 (10 * 4294967 + 9)) (2 ^ 32) refl) (ltb-false (least 2 (10 * 4294967 + 2 + 1)) (2 ^ 32) refl))
-      levels (λ t. reads_P8 levels t) text)
+    (λ c h. few_below 2 4294967 1 c h (ltb-true (most 2 (10 * 4294967 + 1)) (2 ^ 32) refl) (ltb-false (least 3 (10 * 4294967)) (2 ^ 32) refl))
+    (λ c h l. few_above 1 4294967 2 c h l (ltb-true (most 1 (10 * 4294967 + 9)) (2 ^ 32) refl) (ltb-false (least 2 (10 * 4294967 + 2 + 1)) (2 ^ 32) refl))
+    levels (λ t. reads_P8 levels t) text)
 
 reads_P6 : (levels : ℕ) (text : List ℕ) → Digits (ref (greatest P6)) levels 429496 text
 reads_P6 levels text =
     by_rule P6 levels 429496 text
     (reads_beside P7 429496 7 2 refl refl refl refl (omega arith) (omega arith)
-      (λ c h. few_below 3 429496 6 c h (ltb-true (most 3 (10 * 429496 + 6)) (2 ^ 32) refl) (ltb-false (least 4 (10 * 429496)) (2 ^ 32) refl))
-      (λ c h l. few_above 2 429496 7 c h l (ltb-true (most 2 (10 * 429496 + 9)) (2 ^ 32) refl) (ltb-false (least 3 (10 * 429496 + 7 + 1)) (2 ^ 32) refl))
-      levels (λ t. reads_P7 levels t) text)
+    (λ c h. few_below 3 429496 6 c h (ltb-true (most 3 (10 * 429496 + 6)) (2 ^ 32) refl) (ltb-false (least 4 (10 * 429496)) (2 ^ 32) refl))
+    (λ c h l. few_above 2 429496 7 c h l (ltb-true (most 2 (10 * 429496 + 9)) (2 ^ 32) refl) (ltb-false (least 3 (10 * 429496 + 7 + 1)) (2 ^ 32) refl))
+    levels (λ t. reads_P7 levels t) text)
 
 reads_P5 : (levels : ℕ) (text : List ℕ) → Digits (ref (greatest P5)) levels 42949 text
 reads_P5 levels text =
     by_rule P5 levels 42949 text
     (reads_beside P6 42949 6 3 refl refl refl refl (omega arith) (omega arith)
-      (λ c h. few_below 4 42949 5 c h (ltb-true (most 4 (10 * 42949 + 5)) (2 ^ 32) refl) (ltb-false (least 5 (10 * 42949)) (2 ^ 32) refl))
-      (λ c h l. few_above 3 42949 6 c h l (ltb-true (most 3 (10 * 42949 + 9)) (2 ^ 32) refl) (ltb-false (least 4 (10 * 42949 + 6 + 1)) (2 ^ 32) refl))
-      levels (λ t. reads_P6 levels t) text)
+    (λ c h. few_below 4 42949 5 c h (ltb-true (most 4 (10 * 42949 + 5)) (2 ^ 32) refl) (ltb-false (least 5 (10 * 42949)) (2 ^ 32) refl))
+    (λ c h l. few_above 3 42949 6 c h l (ltb-true (most 3 (10 * 42949 + 9)) (2 ^ 32) refl) (ltb-false (least 4 (10 * 42949 + 6 + 1)) (2 ^ 32) refl))
+    levels (λ t. reads_P6 levels t) text)
 
 reads_P4 : (levels : ℕ) (text : List ℕ) → Digits (ref (greatest P4)) levels 4294 text
 reads_P4 levels text =
     by_rule P4 levels 4294 text
     (reads_beside P5 4294 9 4 refl refl refl refl (omega arith) (omega arith)
-      (λ c h. few_below 5 4294 8 c h (ltb-true (most 5 (10 * 4294 + 8)) (2 ^ 32) refl) (ltb-false (least 6 (10 * 4294)) (2 ^ 32) refl))
-      (λ c h l. few_above 4 4294 9 c h l (ltb-true (most 4 (10 * 4294 + 9)) (2 ^ 32) refl) (ltb-false (least 5 (10 * 4294 + 9 + 1)) (2 ^ 32) refl))
-      levels (λ t. reads_P5 levels t) text)
+    (λ c h. few_below 5 4294 8 c h (ltb-true (most 5 (10 * 4294 + 8)) (2 ^ 32) refl) (ltb-false (least 6 (10 * 4294)) (2 ^ 32) refl))
+    (λ c h l. few_above 4 4294 9 c h l (ltb-true (most 4 (10 * 4294 + 9)) (2 ^ 32) refl) (ltb-false (least 5 (10 * 4294 + 9 + 1)) (2 ^ 32) refl))
+    levels (λ t. reads_P5 levels t) text)
 
 reads_P3 : (levels : ℕ) (text : List ℕ) → Digits (ref (greatest P3)) levels 429 text
 reads_P3 levels text =
     by_rule P3 levels 429 text
     (reads_beside P4 429 4 5 refl refl refl refl (omega arith) (omega arith)
-      (λ c h. few_below 6 429 3 c h (ltb-true (most 6 (10 * 429 + 3)) (2 ^ 32) refl) (ltb-false (least 7 (10 * 429)) (2 ^ 32) refl))
-      (λ c h l. few_above 5 429 4 c h l (ltb-true (most 5 (10 * 429 + 9)) (2 ^ 32) refl) (ltb-false (least 6 (10 * 429 + 4 + 1)) (2 ^ 32) refl))
-      levels (λ t. reads_P4 levels t) text)
+    (λ c h. few_below 6 429 3 c h (ltb-true (most 6 (10 * 429 + 3)) (2 ^ 32) refl) (ltb-false (least 7 (10 * 429)) (2 ^ 32) refl))
+    (λ c h l. few_above 5 429 4 c h l (ltb-true (most 5 (10 * 429 + 9)) (2 ^ 32) refl) (ltb-false (least 6 (10 * 429 + 4 + 1)) (2 ^ 32) refl))
+    levels (λ t. reads_P4 levels t) text)
 
 reads_P2 : (levels : ℕ) (text : List ℕ) → Digits (ref (greatest P2)) levels 42 text
 reads_P2 levels text =
     by_rule P2 levels 42 text
     (reads_beside P3 42 9 6 refl refl refl refl (omega arith) (omega arith)
-      (λ c h. few_below 7 42 8 c h (ltb-true (most 7 (10 * 42 + 8)) (2 ^ 32) refl) (ltb-false (least 8 (10 * 42)) (2 ^ 32) refl))
-      (λ c h l. few_above 6 42 9 c h l (ltb-true (most 6 (10 * 42 + 9)) (2 ^ 32) refl) (ltb-false (least 7 (10 * 42 + 9 + 1)) (2 ^ 32) refl))
-      levels (λ t. reads_P3 levels t) text)
+    (λ c h. few_below 7 42 8 c h (ltb-true (most 7 (10 * 42 + 8)) (2 ^ 32) refl) (ltb-false (least 8 (10 * 42)) (2 ^ 32) refl))
+    (λ c h l. few_above 6 42 9 c h l (ltb-true (most 6 (10 * 42 + 9)) (2 ^ 32) refl) (ltb-false (least 7 (10 * 42 + 9 + 1)) (2 ^ 32) refl))
+    levels (λ t. reads_P3 levels t) text)
 
 reads_P1 : (levels : ℕ) (text : List ℕ) → Digits (ref (greatest P1)) levels 4 text
 reads_P1 levels text =
     by_rule P1 levels 4 text
     (reads_beside P2 4 2 7 refl refl refl refl (omega arith) (omega arith)
-      (λ c h. few_below 8 4 1 c h (ltb-true (most 8 (10 * 4 + 1)) (2 ^ 32) refl) (ltb-false (least 9 (10 * 4)) (2 ^ 32) refl))
-      (λ c h l. few_above 7 4 2 c h l (ltb-true (most 7 (10 * 4 + 9)) (2 ^ 32) refl) (ltb-false (least 8 (10 * 4 + 2 + 1)) (2 ^ 32) refl))
-      levels (λ t. reads_P2 levels t) text)
+    (λ c h. few_below 8 4 1 c h (ltb-true (most 8 (10 * 4 + 1)) (2 ^ 32) refl) (ltb-false (least 9 (10 * 4)) (2 ^ 32) refl))
+    (λ c h l. few_above 7 4 2 c h l (ltb-true (most 7 (10 * 4 + 9)) (2 ^ 32) refl) (ltb-false (least 8 (10 * 4 + 2 + 1)) (2 ^ 32) refl))
+    levels (λ t. reads_P2 levels t) text)
 
 -- ---- numbers
 
@@ -330,7 +330,7 @@ module _ {N : F ℕ} {room levels : ℕ} {start : List ℕ} (byte : ℕ) (text :
           let d : Digits (ref (greatest P1)) levels (code (sign byte)) text = subst (λ z. Digits (ref (greatest P1)) levels z text) (sym e) (reads_P1 levels text) in
           number_of N room start byte d.digits _ _ d.value
           ((by_next l refl byte text refl (digit_begins (ref (greatest P1)) (λ x. code x == 4) i)).deep.took (byte ∷ d.digits) _
-            (digit_took (ref (greatest P1)) levels (λ x. code x == 4) refl i d.digits _ d.took))
+          (digit_took (ref (greatest P1)) levels (λ x. code x == 4) refl i d.digits _ d.took))
       go false i =
           let low : code (sign byte) < 10 = ltb-true (code (sign byte)) 10 k in
           let h : 4 < code (sign byte) = is_above (code (sign byte)) 4 j i in
@@ -339,7 +339,7 @@ module _ {N : F ℕ} {room levels : ℕ} {start : List ℕ} (byte : ℕ) (text :
           let p : (nat_lt 4 (code (sign byte)) && nat_lt (code (sign byte)) 10) ≡ true = rw (lt-ltb 4 (code (sign byte)) h, k) refl in
           number_of N room start byte d.digits _ _ d.value
           ((other l refl (rw i refl)).deep.took (byte ∷ d.digits) _
-            (digit_took (ref (upto 8)) levels (λ x. nat_lt 4 (code x) && nat_lt (code x) 10) refl p d.digits _ d.took))
+          (digit_took (ref (upto 8)) levels (λ x. nat_lt 4 (code x) && nat_lt (code x) 10) refl p d.digits _ d.took))
 
 module _ (levels : ℕ) (byte : ℕ) (text : List ℕ) where
   numbered : Goes (rules number) levels (byte ∷ text) (ref number) levels (byte ∷ text) (λ v. v)
@@ -406,8 +406,8 @@ module _ (levels : ℕ) (byte : ℕ) (text : List ℕ) where
       let ds = reads_upto 8 (10 * 1 + code (sign d)) few levels more in
       let z : 10 * (10 * 0 + code (sign byte)) + code (sign d) ≡ 10 * 1 + code (sign d) = omega arith in
       let t : Took (free tens) (bounded levels tens) text (d ∷ ds.digits) (longest (10 * 1 + code (sign d)) more).1 =
-          subst (λ (x : List ℕ). Took (free tens) (bounded levels tens) x (d ∷ ds.digits) (longest (10 * 1 + code (sign d)) more).1) (sym i)
-          (digit_took (ref (upto 8)) levels (λ x. nat_lt (code x) 10) refl k ds.digits _ ds.took) in
+      subst (λ (x : List ℕ). Took (free tens) (bounded levels tens) x (d ∷ ds.digits) (longest (10 * 1 + code (sign d)) more).1) (sym i)
+      (digit_took (ref (upto 8)) levels (λ x. nat_lt (code x) 10) refl k ds.digits _ ds.took) in
       subst (λ z. Took (free (ref count)) (bounded levels (ref count)) (byte ∷ text) z (longest (10 * 1 + code (sign d)) more).1)
       (ap (λ m. fold (λ m b. 10 * m + code (sign b)) m ds.digits) z ∙ sym ds.value)
       ((behind_one j).deep.took (d ∷ ds.digits) _ t)

@@ -1,25 +1,24 @@
 -- What stands in parentheses is read as the grammar takes it.
-use Rattle.std.proofs.Common.{◌≡◌, ℕ, zero, suc, ◌+◌, ◌≤◌, ◌<◌, Bool, true, false, not, ◌&&◌, List, [], ◌∷◌, ◌++◌, length, length-append, inl, inr, Option, Some, None, Result, Ok, Err, refl, sym, ap, ◌∙◌, subst, arith}
+use Rattle.std.proofs.Common.{◌≡◌, ℕ, zero, suc, ◌≤◌, ◌<◌, Bool, true, false, List, [], ◌∷◌, length, length-append, inl, inr, Option, Some, None, Ok, Err, refl, ap, ◌∙◌, subst, arith}
 use Rattle.std.specs.Prelude.{◌==◌, if◌then◌else◌}
 use Rattle.std.proofs.lemmas.Bool.{eqb-true}
-use Rattle.grammar.specs.Form.{empty, token, seq, alt, star, map, ref}
+use Rattle.grammar.specs.Form.{empty, seq, star, ref}
 use Rattle.grammar.specs.Productions.{skip_then, then_skip, optional, separated}
-use Rattle.grammar.specs.Reading.{Took, Failed, Exceeded, Began}
+use Rattle.grammar.specs.Reading.{Took}
 use Rattle.grammar.proofs.Predictions.{ok, ahead, named}
 use Rattle.grammar.proofs.Choices.{is_absent}
 use Rattle.grammar.proofs.Remaining as r
 use Rattle.grammar.proofs.Steps.{empty_took}
 use Rattle.u_terms.specs.declared.term.Val.{Val}
-use Rattle.proof_text.specs.declared.cursor.Stop.{Stop}
 use Rattle.proof_text.specs.declared.cursor.Stop.TheVariants.{Unexpected, TooMany, TooDeep, NoMemory}
-use Rattle.proof_text.specs.Signs.{Sign, code, sign}
+use Rattle.proof_text.specs.Signs.{code, sign}
 use Rattle.proof_text.specs.Grammar.{F, Name, value, arguments, rules, of_code, pair}
 use Rattle.proof_text.specs.Grammar as g
 use Rattle.proof_text.specs.Grammar.{begins_value}
-use Rattle.proof_text.specs.Reading.{Rest, Reading, ◌>>=◌, next, sign_at, passed, bad, expected, within, both, pair_of, values_with, values_at, list_of}
-use Rattle.proof_text.specs.Outcomes.{free, bounded, GoesOn, Outcome}
+use Rattle.proof_text.specs.Reading.{Rest, Reading, ◌>>=◌, next, passed, bad, expected, within, both, values_with, values_at, list_of}
+use Rattle.proof_text.specs.Outcomes.{free, bounded, Outcome}
 use Rattle.proof_text.proofs.OneLine.{grammar}
-use Rattle.proof_text.proofs.Goes.{Goes, deep_within, any_within, whole, mapped, production, second, then_next, then_known, ends_in, first, other, by_next, takes, passing, closing, misses}
+use Rattle.proof_text.proofs.Goes.{Goes, deep_within, any_within, whole, mapped, production, second, then_next, then_known, ends_in, other, by_next, takes, passing, closing, misses}
 
 module _ {C : Type 0} (f : F C) (levels : ℕ) (read : Rest → Reading C) (reads : (rest : Rest) → Outcome f levels rest.text (read rest)) where
   pub reads_within : ok grammar (seq (of_code 20) (then_skip f (of_code 21))) ≡ true → ok grammar (seq f (of_code 21)) ≡ true → (rest : Rest) → Outcome (g.within f) levels rest.text (within read rest)
@@ -50,13 +49,13 @@ module _ (read : Rest → Reading Val) where
 
   then_others : (a b : Val) (reading : Reading (List Val))
       → ((reading >>= λ others r. expected 21 r >>= λ c r. (Ok (b ∷ others), r)) >>= λ others r. (Ok (a ∷ others), r))
-        ≡ ((reading >>= λ others r. (Ok (b ∷ others), r)) >>= λ others r. expected 21 r >>= λ c r. (Ok (a ∷ others), r))
+      ≡ ((reading >>= λ others r. (Ok (b ∷ others), r)) >>= λ others r. expected 21 r >>= λ c r. (Ok (a ∷ others), r))
   then_others a b (Ok others, r) = last_sign a b others (expected 21 r)
   then_others a b (Err stop, r) = refl
 
   one_by_one : (a : Val) (reading : Reading Val) (more : Rest → Reading (List Val))
       → ((reading >>= λ b r. more r >>= λ others r. expected 21 r >>= λ c r. (Ok (b ∷ others), r)) >>= λ others r. (Ok (a ∷ others), r))
-        ≡ ((reading >>= λ b r. more r >>= λ others r. (Ok (b ∷ others), r)) >>= λ others r. expected 21 r >>= λ c r. (Ok (a ∷ others), r))
+      ≡ ((reading >>= λ b r. more r >>= λ others r. (Ok (b ∷ others), r)) >>= λ others r. expected 21 r >>= λ c r. (Ok (a ∷ others), r))
   one_by_one a (Ok b, r) more = then_others a b (more r)
   one_by_one a (Err stop, r) more = refl
 
@@ -69,7 +68,7 @@ module _ (read : Rest → Reading Val) where
     where
       last : (a : Val) (r : Rest) (b : Bool)
           → (if b then (bad (passed r) >>= λ others r. (Ok (a ∷ others), r)) else (expected 21 r >>= λ c r. (Ok (a ∷ []), r)))
-            ≡ ((if b then bad (passed r) else (Ok [], r)) >>= λ others r. expected 21 r >>= λ c r. (Ok (a ∷ others), r))
+          ≡ ((if b then bad (passed r) else (Ok [], r)) >>= λ others r. expected 21 r >>= λ c r. (Ok (a ∷ others), r))
       last a r true = refl
       last a r false = refl
 
@@ -80,7 +79,7 @@ module _ (read : Rest → Reading Val) where
     where
       go : (a : Val) (r : Rest) → values_at read (suc most) (passed r) ≡ (read (passed r) >>= closing_all most) → (b : Bool)
           → (if b then (values_at read (suc most) (passed r) >>= λ others r. (Ok (a ∷ others), r)) else (expected 21 r >>= λ c r. (Ok (a ∷ []), r)))
-            ≡ ((if b then (read (passed r) >>= λ b r. more_values most r >>= λ others r. (Ok (b ∷ others), r)) else (Ok [], r)) >>= λ others r. expected 21 r >>= λ c r. (Ok (a ∷ others), r))
+          ≡ ((if b then (read (passed r) >>= λ b r. more_values most r >>= λ others r. (Ok (b ∷ others), r)) else (Ok [], r)) >>= λ others r. expected 21 r >>= λ c r. (Ok (a ∷ others), r))
       go a r e true = ap (λ reading. reading >>= λ others r. (Ok (a ∷ others), r)) e ∙ one_by_one a (read (passed r)) (more_values most)
       go a r e false = refl
 
@@ -103,7 +102,7 @@ module _ (levels : ℕ) (read : Rest → Reading Val) (reads : (rest : Rest) →
       more_left a rest t = record {
         deep = r.left_next grammar _ _ (byte ∷ text) (Some levels) None comma_value (bounded levels comma_value) (deep_within levels comma_value) (byte ∷ text) (λ v. v) refl (whole {N = stars} {levels = levels} {start = byte ∷ text}).deep a rest.text t;
         any = r.left_next grammar _ _ (byte ∷ text) None None comma_value (free comma_value) (any_within comma_value) (byte ∷ text) (λ v. v) refl (whole {N = stars} {levels = levels} {start = byte ∷ text}).any a rest.text
-          (record { taken = t.taken; whole = t.whole; spelled = (deep_within levels comma_value).includes.spells t.taken a t.spelled; stops = t.stops });
+            (record { taken = t.taken; whole = t.whole; spelled = (deep_within levels comma_value).includes.spells t.taken a t.spelled; stops = t.stops });
       }
   over_star byte text e most (Err Unexpected, rest) t k =
       r.left_next_failed grammar _ _ (byte ∷ text) (Some levels) None comma_value (bounded levels comma_value) (deep_within levels comma_value) (byte ∷ text) (λ v. v) refl (whole {N = stars} {levels = levels} {start = byte ∷ text}).deep
@@ -146,7 +145,7 @@ module _ (levels : ℕ) (read : Rest → Reading Val) (reads : (rest : Rest) →
       go true e k =
           over_star byte text e most (read (record { nodes = nodes; text = text }))
           (same_reading (byte ∷ text) (read (record { nodes = nodes; text = text }))
-            (ends_in (second (mapped {k = λ p. p.1} {f = seq (of_code 22) (ref value)} (whole {N = comma_value} {levels = levels} {start = byte ∷ text})) refl byte text (takes levels (λ x. code x == 22) byte text e)) (read (record { nodes = nodes; text = text })) (reads (record { nodes = nodes; text = text }))))
+          (ends_in (second (mapped {k = λ p. p.1} {f = seq (of_code 22) (ref value)} (whole {N = comma_value} {levels = levels} {start = byte ∷ text})) refl byte text (takes levels (λ x. code x == 22) byte text e)) (read (record { nodes = nodes; text = text })) (reads (record { nodes = nodes; text = text }))))
           k
       go false e k = no_more (byte ∷ text) (rw e refl)
 
@@ -190,7 +189,7 @@ module _ (levels : ℕ) (read : Rest → Reading Val) (reads : (rest : Rest) →
         then_known (mapped {k = λ v. Some v} {f = some} (by_next (whole {N = optional some} {levels = levels} {start = byte ∷ text}) refl byte text refl (inl (front byte e)))) refl
         (read (record { nodes = nodes; text = byte ∷ text })) (λ a r. more_values read (length text) r >>= λ others r. (Ok (Some (a, others)), r)) (reads (record { nodes = nodes; text = byte ∷ text }))
         (λ a mid i k. ends_in k (more_values read (length text) mid)
-          (reads_more (length text) mid.nodes mid.text (let h = strictly (byte ∷ text) (read (record { nodes = nodes; text = byte ∷ text })) (reads (record { nodes = nodes; text = byte ∷ text })) a mid i in omega arith)))
+        (reads_more (length text) mid.nodes mid.text (let h = strictly (byte ∷ text) (read (record { nodes = nodes; text = byte ∷ text })) (reads (record { nodes = nodes; text = byte ∷ text })) a mid i in omega arith)))
 
     module _ {N : F (List Val)} {start : List ℕ} where
       behind : (nodes : ℕ) (text : List ℕ) → Goes (seq (optional some) (of_code 21)) levels text N levels start (λ p. g.or_none p.0) → Outcome N levels start (opened (record { nodes = nodes; text = text }))
@@ -205,7 +204,7 @@ module _ (levels : ℕ) (read : Rest → Reading Val) (reads : (rest : Rest) →
           go false true i j =
               rw (i, values_split read (length text) (record { nodes = nodes; text = byte ∷ text }), split_items (length text) (read (record { nodes = nodes; text = byte ∷ text })))
               (then_next l refl (items (length text) (record { nodes = nodes; text = byte ∷ text })) (λ o r. expected 21 r >>= λ c r. (Ok (g.or_none o), r)) (items_read nodes byte text j)
-                (λ o end k. closing 21 refl end.nodes end.text (g.or_none o) k))
+              (λ o end k. closing 21 refl end.nodes end.text (g.or_none o) k))
           go false false i j =
               rw (i, values_split read (length text) (record { nodes = nodes; text = byte ∷ text }), unread (record { nodes = nodes; text = byte ∷ text }) j)
               ((second l refl None (byte ∷ text) (none_there (byte ∷ text) (rw j refl))).deep.failed (byte ∷ text) (misses levels (λ x. code x == 21) (byte ∷ text) i))

@@ -1,6 +1,6 @@
 -- A term or a value that was written is read again.
-use Rattle.std.proofs.Common.{◌≡◌, ℕ, zero, suc, ◌+◌, ◌*◌, ◌-◌, ◌^◌, ◌<◌, ◌≤◌, max, Bool, true, false, List, [], ◌∷◌, ◌++◌, length, length-append, Result, Ok, Err, refl, sym, ap, ◌∙◌, subst, arith, append_assoc}
-use Rattle.std.specs.Prelude.{◌==◌, nat_lt, if◌then◌else◌, codes}
+use Rattle.std.proofs.Common.{◌≡◌, ℕ, zero, suc, ◌+◌, ◌-◌, ◌<◌, ◌≤◌, false, List, [], ◌∷◌, ◌++◌, length, length-append, Ok, refl, ap, ◌∙◌, subst, arith, append_assoc}
+use Rattle.std.specs.Prelude.{◌==◌, if◌then◌else◌, codes}
 use Rattle.std.specs.Fmt.{decimal}
 use Rattle.std.proofs.Math.Dec.{eqb-suc-zero}
 use Rattle.std.proofs.lemmas.List.Sums.{sum_by-cons}
@@ -9,17 +9,14 @@ use Rattle.data_model.specs.Lists.{Each}
 use Rattle.u_terms.specs.declared.term.U.TheOpen as opened
 use Rattle.u_terms.specs.declared.term.U.TheOpen.{U-F, Val-F}
 use Rattle.u_terms.specs.declared.term.U.TheViews.{out-U, out-Val, roll-U, roll-Val, roll-out-U, roll-out-Val}
-use Rattle.u_terms.specs.declared.term.U.TheVariants as u
-use Rattle.u_terms.specs.declared.term.Val.TheVariants as v
 use Rattle.u_terms.specs.Syntax.{U, Val, Bound, Free, Lit, Fun, Agg, row_of, constructors}
 use Rattle.u_terms.specs.Size.{nodes, value_nodes, list_nodes, depth, value_depth, list_depth}
 use Rattle.u_terms.proofs.Sizes.{depth-positive, row_nodes-list, row_depth-list, list_depth-cons}
 use Rattle.u_deriv.specs.StepText.{term_text, value_text, first_text, rest_text}
 use Rattle.proof_text.specs.Words.{HasWords, ValueHasWords, RowHasWords}
-use Rattle.proof_text.specs.Signs as s
-use Rattle.proof_text.specs.Signs.{code, sign}
+use Rattle.proof_text.specs.Signs.{code}
 use Rattle.proof_text.specs.Grammar.{begins_term, begins_value}
-use Rattle.proof_text.specs.Reading.{Rest, Reading, ◌>>=◌, sign_at, next, passed, bad, entered, expected, within, both, pair_of, values_with, values_at, list_of, numbered, number_at, term_with, value_with, term_at, value_at}
+use Rattle.proof_text.specs.Reading.{Rest, Reading, ◌>>=◌, sign_at, next, bad, entered, values_at, list_of, term_with, value_with, term_at, value_at}
 use Rattle.proof_text.proofs.NumbersAgain.{Ends, number_again}
 use Rattle.proof_text.proofs.NumbersRead.{not_equal}
 
@@ -106,18 +103,23 @@ module _ (levels : ℕ) (term_read : Rest → Reading U) (value_read : Rest → 
   behind_again [] (suc most) n m value k h w d e =
       rw (values value n m (41 ∷ k) w.0 (omega (arith, list_depth-cons value [])) (omega (arith, list_nodes-cons value [])) refl) refl
   behind_again (other ∷ others) (suc most) n m value k h w d e =
-      rw (append_assoc (value_text other) (more_text others) k,
+      rw (
+        append_assoc (value_text other) (more_text others) k,
         values value n (list_nodes (other ∷ others) + m) (44 ∷ (value_text other ++ (more_text others ++ k))) w.0 (omega (arith, list_depth-cons value (other ∷ others))) (omega (arith, list_nodes-cons value (other ∷ others))) refl,
-        behind_again others most (list_nodes (other ∷ others) + m) m other k (omega (arith, h)) w.1 (omega (arith, list_depth-cons value (other ∷ others))) refl)
+        behind_again others most (list_nodes (other ∷ others) + m) m other k (omega (arith, h)) w.1 (omega (arith, list_depth-cons value (other ∷ others))) refl,
+      )
       refl
 
   list_again : (list : List Val) (n m : ℕ) (k : List ℕ) → Each ValueHasWords list → list_depth list ≤ levels → n ≡ list_nodes list + m
       → list_of value_read (record { nodes = n; text = 40 ∷ (list_text list ++ k) }) ≡ (Ok list, record { nodes = m; text = k })
   list_again [] n m k w d e = let z : n ≡ m = omega (arith, e) in rw z refl
   list_again (value ∷ others) n m k w d e =
-      rw (append_assoc (value_text value) (more_text others) k, value_opens value (more_text others ++ k),
+      rw (
+        append_assoc (value_text value) (more_text others) k,
+        value_opens value (more_text others ++ k),
         behind_again others (length (value_text value ++ (more_text others ++ k))) n m value k
-          (omega (arith, length-append (value_text value) (more_text others ++ k), length-append (more_text others) k, more_long others)) w d e)
+            (omega (arith, length-append (value_text value) (more_text others ++ k), length-append (more_text others) k, more_long others)) w d e,
+      )
       refl
 
   -- ---- terms
@@ -130,16 +132,20 @@ module _ (levels : ℕ) (term_read : Rest → Reading U) (value_read : Rest → 
   term_form_again opened.Zero n m k w d e = rw (entered_again levels n m 48 k e) refl
   term_form_again opened.One n m k w d e = rw (entered_again levels n m 49 k e) refl
   term_form_again (opened.Add a b) n m k w d e =
-      rw (two_text (term_text a) (term_text b) k,
+      rw (
+        two_text (term_text a) (term_text b) k,
         entered_again levels n (nodes a + (nodes b + m)) 43 (40 ∷ (term_text a ++ (44 ∷ (term_text b ++ (41 ∷ k))))) (omega (arith, e)),
         terms a (nodes a + (nodes b + m)) (nodes b + m) (44 ∷ (term_text b ++ (41 ∷ k))) w.0 (omega (arith, d)) refl,
-        terms b (nodes b + m) m (41 ∷ k) w.1 (omega (arith, d)) refl)
+        terms b (nodes b + m) m (41 ∷ k) w.1 (omega (arith, d)) refl,
+      )
       refl
   term_form_again (opened.Mul a b) n m k w d e =
-      rw (two_text (term_text a) (term_text b) k,
+      rw (
+        two_text (term_text a) (term_text b) k,
         entered_again levels n (nodes a + (nodes b + m)) 42 (40 ∷ (term_text a ++ (44 ∷ (term_text b ++ (41 ∷ k))))) (omega (arith, e)),
         terms a (nodes a + (nodes b + m)) (nodes b + m) (44 ∷ (term_text b ++ (41 ∷ k))) w.0 (omega (arith, d)) refl,
-        terms b (nodes b + m) m (41 ∷ k) w.1 (omega (arith, d)) refl)
+        terms b (nodes b + m) m (41 ∷ k) w.1 (omega (arith, d)) refl,
+      )
       refl
   term_form_again (opened.Squash a) n m k w d e =
       rw (one_text (term_text a) k, entered_again levels n (nodes a + m) 35 (40 ∷ (term_text a ++ (41 ∷ k))) (omega (arith, e)), terms a (nodes a + m) m (41 ∷ k) w (omega (arith, d)) refl) refl
@@ -148,22 +154,30 @@ module _ (levels : ℕ) (term_read : Rest → Reading U) (value_read : Rest → 
   term_form_again (opened.Sum a) n m k w d e =
       rw (one_text (term_text a) k, entered_again levels n (nodes a + m) 83 (40 ∷ (term_text a ++ (41 ∷ k))) (omega (arith, e)), terms a (nodes a + m) m (41 ∷ k) w (omega (arith, d)) refl) refl
   term_form_again (opened.Rel table list) n m k w d e =
-      rw (first_text-list list, append_assoc (decimal table) (40 ∷ list_text list) k,
+      rw (
+        first_text-list list,
+        append_assoc (decimal table) (40 ∷ list_text list) k,
         entered_again levels n (list_nodes list + m) 82 (decimal table ++ (40 ∷ (list_text list ++ k))) (omega (arith, e, row_nodes-list list)),
         number_again table (list_nodes list + m) (40 ∷ (list_text list ++ k)) w.0 refl,
-        list_again list (list_nodes list + m) m k (rw words-list at w.1) (omega (arith, d, row_depth-list list)) refl)
+        list_again list (list_nodes list + m) m k (rw words-list at w.1) (omega (arith, d, row_depth-list list)) refl,
+      )
       refl
   term_form_again (opened.Eq a b) n m k w d e =
-      rw (two_text (value_text a) (value_text b) k,
+      rw (
+        two_text (value_text a) (value_text b) k,
         entered_again levels n (value_nodes a + (value_nodes b + m)) 61 (40 ∷ (value_text a ++ (44 ∷ (value_text b ++ (41 ∷ k))))) (omega (arith, e)),
         values a (value_nodes a + (value_nodes b + m)) (value_nodes b + m) (44 ∷ (value_text b ++ (41 ∷ k))) w.0 (omega (arith, d)) refl refl,
-        values b (value_nodes b + m) m (41 ∷ k) w.1 (omega (arith, d)) refl refl)
+        values b (value_nodes b + m) m (41 ∷ k) w.1 (omega (arith, d)) refl refl,
+      )
       refl
   term_form_again (opened.Pred symbol list) n m k w d e =
-      rw (first_text-list list, append_assoc (decimal symbol) (40 ∷ list_text list) k,
+      rw (
+        first_text-list list,
+        append_assoc (decimal symbol) (40 ∷ list_text list) k,
         entered_again levels n (list_nodes list + m) 80 (decimal symbol ++ (40 ∷ (list_text list ++ k))) (omega (arith, e, row_nodes-list list)),
         number_again symbol (list_nodes list + m) (40 ∷ (list_text list ++ k)) w.0 refl,
-        list_again list (list_nodes list + m) m k (rw words-list at w.1) (omega (arith, d, row_depth-list list)) refl)
+        list_again list (list_nodes list + m) m k (rw words-list at w.1) (omega (arith, d, row_depth-list list)) refl,
+      )
       refl
 
   -- ---- values
@@ -177,16 +191,22 @@ module _ (levels : ℕ) (term_read : Rest → Reading U) (value_read : Rest → 
   value_form_again (opened.Free name) n m k w d e o = rw (entered_again levels n m 102 (decimal name ++ k) e, number_again name m k w o) refl
   value_form_again (opened.Lit literal) n m k w d e o = rw (entered_again levels n m 99 (decimal literal ++ k) e, number_again literal m k w o) refl
   value_form_again (opened.Fun symbol list) n m k w d e o =
-      rw (first_text-list list, append_assoc (decimal symbol) (40 ∷ list_text list) k,
+      rw (
+        first_text-list list,
+        append_assoc (decimal symbol) (40 ∷ list_text list) k,
         entered_again levels n (list_nodes list + m) 70 (decimal symbol ++ (40 ∷ (list_text list ++ k))) (omega (arith, e, row_nodes-list list)),
         number_again symbol (list_nodes list + m) (40 ∷ (list_text list ++ k)) w.0 refl,
-        list_again list (list_nodes list + m) m k (rw words-list at w.1) (omega (arith, d, row_depth-list list)) refl)
+        list_again list (list_nodes list + m) m k (rw words-list at w.1) (omega (arith, d, row_depth-list list)) refl,
+      )
       refl
   value_form_again (opened.Agg aggregate body) n m k w d e o =
-      rw (append_assoc (decimal aggregate) (40 ∷ (term_text body ++ 41 ∷ [])) k, one_text (term_text body) k,
+      rw (
+        append_assoc (decimal aggregate) (40 ∷ (term_text body ++ 41 ∷ [])) k,
+        one_text (term_text body) k,
         entered_again levels n (nodes body + m) 71 (decimal aggregate ++ (40 ∷ (term_text body ++ (41 ∷ k)))) (omega (arith, e)),
         number_again aggregate (nodes body + m) (40 ∷ (term_text body ++ (41 ∷ k))) w.0 refl,
-        terms body (nodes body + m) m (41 ∷ k) w.1 (omega (arith, d)) refl)
+        terms body (nodes body + m) m (41 ∷ k) w.1 (omega (arith, d)) refl,
+      )
       refl
 
 value_depth-positive : (value : Val) → 1 ≤ value_depth value
@@ -199,6 +219,7 @@ value_depth-positive (Agg aggregate body) = omega arith
 
 mutual
   unfolding term_at value_at
+
   pub term_again : (levels : ℕ) → TermsAgain (term_at levels) levels
   term_again zero term n m k w d e = absurd (omega (arith, d, depth-positive term))
   term_again (suc levels) term n m k w d e =

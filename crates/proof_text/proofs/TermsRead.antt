@@ -1,26 +1,26 @@
 -- Terms and values are read as the grammar takes them.
-use Rattle.std.proofs.Common.{◌≡◌, ℕ, zero, suc, ◌-◌, Bool, true, false, not, ◌&&◌, ◌||◌, List, [], ◌∷◌, ◌++◌, inl, inr, Option, Some, None, Result, Ok, Err, refl, sym, ap, subst, arith}
-use Rattle.std.specs.Prelude.{◌==◌, nat_lt, if◌then◌else◌}
+use Rattle.std.proofs.Common.{◌≡◌, ℕ, zero, suc, ◌-◌, Bool, true, false, List, [], ◌∷◌, inl, inr, None, Ok, Err, refl}
+use Rattle.std.specs.Prelude.{◌==◌, if◌then◌else◌}
 use Rattle.std.proofs.Math.Dec.{eqb-suc-zero}
-use Rattle.grammar.specs.Form.{token, seq, alt, nest, map, ref}
-use Rattle.grammar.specs.Productions.{skip_then, then_skip}
-use Rattle.grammar.specs.Reading.{Took, Failed, Exceeded, Began}
-use Rattle.grammar.proofs.Predictions.{ok, ahead, produced}
+use Rattle.grammar.specs.Form.{seq, ref}
+use Rattle.grammar.specs.Productions.{skip_then}
+use Rattle.grammar.specs.Reading.{Exceeded}
+use Rattle.grammar.proofs.Predictions.{ok, produced}
 use Rattle.grammar.proofs.Remaining.{too_deep}
 use Rattle.u_terms.specs.declared.term.U.{U}
 use Rattle.u_terms.specs.declared.term.Val.{Val}
 use Rattle.u_terms.specs.declared.term.U.TheVariants as u
 use Rattle.u_terms.specs.declared.term.Val.TheVariants as v
-use Rattle.proof_text.specs.declared.cursor.Stop.TheVariants.{Unexpected, TooMany, TooDeep, NoMemory}
+use Rattle.proof_text.specs.declared.cursor.Stop.TheVariants.{TooMany, TooDeep}
 use Rattle.proof_text.specs.Signs as s
 use Rattle.proof_text.specs.Signs.{Sign, code, sign}
 use Rattle.proof_text.specs.Grammar.{F, Name, Tree, term, value, arguments, number, rules, term_form, value_form, of_code, pair}
 use Rattle.proof_text.specs.Grammar as g
 use Rattle.proof_text.specs.Grammar.{begins_term, begins_value}
-use Rattle.proof_text.specs.Reading.{Rest, Reading, ◌>>=◌, next, passed, bad, entered, expected, within, both, pair_of, list_of, numbered, number_at, term_with, value_with, term_at, value_at}
+use Rattle.proof_text.specs.Reading.{Rest, Reading, ◌>>=◌, next, bad, entered, within, both, pair_of, list_of, number_at, term_with, value_with, term_at, value_at}
 use Rattle.proof_text.specs.Outcomes.{free, bounded, GoesOn, Outcome}
 use Rattle.proof_text.proofs.OneLine.{grammar}
-use Rattle.proof_text.proofs.Goes.{Goes, deep_within, any_within, whole, mapped, production, second, then_next, ends_in, first, other, takes}
+use Rattle.proof_text.proofs.Goes.{Goes, deep_within, whole, mapped, production, second, then_next, ends_in, first, other, takes}
 use Rattle.proof_text.proofs.NumbersRead.{fails, reads_number}
 use Rattle.proof_text.proofs.PartsRead.{reads_within, reads_both, reads_list}
 
@@ -182,7 +182,7 @@ term_at_none rest = at rest.nodes rest.text
       where
         go : (a b : Bool) → begins_term (sign byte) ≡ a
             → Outcome (ref term) zero (byte ∷ text)
-              (if a then (◌>>=◌ {A = Unit {0}} (if b then (Err TooMany, record { nodes = nodes; text = byte ∷ text }) else (Err TooDeep, record { nodes = nodes; text = byte ∷ text })) (λ e r. bad r)) else bad (record { nodes = nodes; text = byte ∷ text }))
+            (if a then (◌>>=◌ {A = Unit {0}} (if b then (Err TooMany, record { nodes = nodes; text = byte ∷ text }) else (Err TooDeep, record { nodes = nodes; text = byte ∷ text })) (λ e r. bad r)) else bad (record { nodes = nodes; text = byte ∷ text }))
         go true true e = term_too_many zero byte text e
         go true false e = term_too_deep byte text e
         go false b e = fails (ref term) zero refl (byte ∷ text) (rw e refl)
@@ -223,7 +223,7 @@ value_at_none rest = at rest.nodes rest.text
       where
         go : (a b : Bool) → begins_value (sign byte) ≡ a
             → Outcome (ref value) zero (byte ∷ text)
-              (if a then (◌>>=◌ {A = Unit {0}} (if b then (Err TooMany, record { nodes = nodes; text = byte ∷ text }) else (Err TooDeep, record { nodes = nodes; text = byte ∷ text })) (λ e r. bad r)) else bad (record { nodes = nodes; text = byte ∷ text }))
+            (if a then (◌>>=◌ {A = Unit {0}} (if b then (Err TooMany, record { nodes = nodes; text = byte ∷ text }) else (Err TooDeep, record { nodes = nodes; text = byte ∷ text })) (λ e r. bad r)) else bad (record { nodes = nodes; text = byte ∷ text }))
         go true true e = value_too_many zero byte text e
         go true false e = value_too_deep byte text e
         go false b e = fails (ref value) zero refl (byte ∷ text) (rw e refl)
@@ -373,7 +373,7 @@ module _ (levels : ℕ) (term_read : Rest → Reading U) (value_read : Rest → 
 
   term_read_at : (nodes : ℕ) (text : List ℕ)
       → Outcome (ref term) (suc levels) text
-        (if begins_term (next (record { nodes = nodes; text = text })) then (entered (suc levels) (record { nodes = nodes; text = text }) >>= λ e r. term_with term_read value_read (next (record { nodes = nodes; text = text })) r) else bad (record { nodes = nodes; text = text }))
+      (if begins_term (next (record { nodes = nodes; text = text })) then (entered (suc levels) (record { nodes = nodes; text = text }) >>= λ e r. term_with term_read value_read (next (record { nodes = nodes; text = text })) r) else bad (record { nodes = nodes; text = text }))
   term_read_at nodes [] = fails (ref term) (suc levels) refl [] refl
   term_read_at nodes (byte ∷ text) = go (begins_term (sign byte)) refl
     where
@@ -384,7 +384,7 @@ module _ (levels : ℕ) (term_read : Rest → Reading U) (value_read : Rest → 
 
   value_read_at : (nodes : ℕ) (text : List ℕ)
       → Outcome (ref value) (suc levels) text
-        (if begins_value (next (record { nodes = nodes; text = text })) then (entered (suc levels) (record { nodes = nodes; text = text }) >>= λ e r. value_with term_read value_read (next (record { nodes = nodes; text = text })) r) else bad (record { nodes = nodes; text = text }))
+      (if begins_value (next (record { nodes = nodes; text = text })) then (entered (suc levels) (record { nodes = nodes; text = text }) >>= λ e r. value_with term_read value_read (next (record { nodes = nodes; text = text })) r) else bad (record { nodes = nodes; text = text }))
   value_read_at nodes [] = fails (ref value) (suc levels) refl [] refl
   value_read_at nodes (byte ∷ text) = go (begins_value (sign byte)) refl
     where
@@ -402,6 +402,7 @@ value_unread (suc levels) rest e = rw e refl
 
 mutual
   unfolding term_at value_at
+
   pub reads_term : (levels : ℕ) (rest : Rest) → Outcome (ref term) levels rest.text (term_at levels rest)
   reads_term zero rest = term_at_none rest
   reads_term (suc levels) rest = term_read_at levels (term_at levels) (value_at levels) (reads_term levels) (reads_value levels) (value_unread levels) rest.nodes rest.text

@@ -7,7 +7,7 @@
 --     value       b0, f0, c0, F3(v,v), G1(x)
 -- One space stands between the parts of a line, and a line feed at its end. A number has 32 bits and no leading zero: while its digits are
 -- those of the greatest one this is told, so that a front of a number is a front at each byte.
-use Rattle.std.specs.Prelude.{ℕ, zero, suc, ◌+◌, ◌*◌, ◌==◌, ◌&&◌, ◌||◌, nat_lt, Bool, true, false, if◌then◌else◌, List, [], ◌∷◌, Option, Some, None, fold, codes}
+use Rattle.std.specs.Prelude.{ℕ, zero, suc, ◌+◌, ◌*◌, ◌==◌, ◌&&◌, ◌||◌, nat_lt, Bool, true, false, List, [], ◌∷◌, Option, Some, None, fold, codes}
 use Rattle.u_terms.specs.declared.term.U.{U}
 use Rattle.u_terms.specs.declared.term.Val.{Val}
 use Rattle.u_terms.specs.declared.term.U.TheVariants as u
@@ -222,7 +222,7 @@ made path forward q args =
 abbrev pub step_line : F LineStep
 step_line =
     map (λ p. made p.0 p.1.0 p.1.1.0 p.1.1.1) (skip_then (the s.Slash) (seq (ref (runs last.Other)) (
-      skip_then (the s.Space) (seq direction (skip_then (the s.Space) (ref use_of_rule))))))
+    skip_then (the s.Space) (seq direction (skip_then (the s.Space) (ref use_of_rule))))))
 
 abbrev pub rules : Rules ℕ Sign Name Tree
 rules term = nest term_form

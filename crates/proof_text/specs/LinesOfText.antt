@@ -1,5 +1,5 @@
 -- The lines of a text: each ends with a line feed, but for a last one that is not empty.
-use Rattle.std.specs.Prelude.{ℕ, ◌+◌, ◌≡◌, Bool, true, false, List, [], ◌∷◌, ◌++◌, Option, Some, None}
+use Rattle.std.specs.Prelude.{ℕ, ◌+◌, ◌≡◌, Bool, true, false, List, [], ◌∷◌, ◌++◌}
 use Rattle.data_model.specs.Lists.{Each}
 
 -- a line with its line feed, where it has one

@@ -1,7 +1,7 @@
 -- The last run of a path: contracts of private functions alone cite this.
-use Rattle.std.specs.Prelude.{ℕ, ◌-◌, List, length, slice_get, Option, Some, None}
+use Rattle.std.specs.Prelude.{◌-◌, List, length, slice_get, Option, Some, None}
 use Rattle.u_deriv.specs.declared.run.Run.{Run}
-use Rattle.u_deriv.specs.declared.run.Run.TheVariants.{Left, Right, Inside, Argument}
+use Rattle.u_deriv.specs.declared.run.Run.TheVariants.{Left, Right, Inside}
 use Rattle.proof_text.specs.declared.path.Last.{Last}
 use Rattle.proof_text.specs.declared.path.Last.TheVariants as last
 use Rattle.proof_text.specs.Reading.{last_of}

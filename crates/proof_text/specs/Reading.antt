@@ -1,5 +1,5 @@
 -- How the readers go on, from the left: what is read, and where they stop.
-use Rattle.std.specs.Prelude.{ℕ, zero, suc, ◌+◌, ◌-◌, ◌*◌, ◌^◌, ◌≡◌, ◌==◌, ◌&&◌, ◌||◌, Bool, true, false, nat_lt, if◌then◌else◌, List, [], ◌∷◌, drop, length, codes, Option, Some, None, Result, Ok, Err}
+use Rattle.std.specs.Prelude.{ℕ, zero, suc, ◌+◌, ◌-◌, ◌*◌, ◌^◌, ◌≡◌, ◌==◌, ◌&&◌, Bool, true, false, nat_lt, if◌then◌else◌, List, [], ◌∷◌, drop, length, codes, Option, Some, None, Result, Ok, Err}
 use Rattle.u_terms.specs.declared.term.U.{U}
 use Rattle.u_terms.specs.declared.term.Val.{Val}
 use Rattle.u_terms.specs.declared.term.U.TheVariants as u

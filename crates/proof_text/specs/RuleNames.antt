@@ -49,7 +49,7 @@ unfoldable pub eq_names : Names
 eq_names =
     either s.SmallR (word (codes "efl") (found EqRefl)) (
     word (codes "s") (either s.SmallY (word (codes "m") (found EqSym)) (
-      either s.SmallU (word (codes "bst") (found EqSubst)) (word (codes "plit") (found EqSplit)))))
+    either s.SmallU (word (codes "bst") (found EqSubst)) (word (codes "plit") (found EqSplit)))))
 
 unfoldable pub s_names : Names
 s_names =

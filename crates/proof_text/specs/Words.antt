@@ -1,5 +1,5 @@
 -- Numbers of 32 bits, as every term in a program has them: what is written of others is not read.
-use Rattle.std.specs.Prelude.{ℕ, ◌<◌, ◌≤◌, ◌^◌, List}
+use Rattle.std.specs.Prelude.{◌<◌, ◌≤◌, ◌^◌}
 use Rattle.data_model.specs.Lists.{Each}
 use Rattle.u_terms.specs.Syntax.{U, Zero, One, Add, Mul, Squash, Not, Sum, Rel, Eq, Pred, Val, Bound, Free, Lit, Fun, Agg, Vals, NoVals, ValThen}
 use Rattle.u_rules.specs.declared.rule.Arg.{Arg}

@@ -8,10 +8,13 @@ use Rattle.u_rules.specs.declared.rule.Arg.{Arg}
 use Rattle.u_rules.specs.declared.rule.Arg.TheVariants.{Term, Body, Value, Values, Num}
 use Rattle.u_deriv.specs.declared.run.Run.{Run}
 use Rattle.u_deriv.specs.declared.step.Step as step
+use Rattle.u_deriv.specs.declared.step.Step.TheOpen.{Step-F}
 use Rattle.u_deriv.specs.Normal.{IsNormal}
 use Rattle.u_deriv.specs.StepText.{head_text, newline, steps_text}
 use Rattle.proof_text.specs.declared.kinds.Kind.{Kind}
 use Rattle.proof_text.specs.declared.kinds.Kind.TheVariants as kind
+use Rattle.proof_text.specs.declared.line.LineStep.{LineStep}
+use Rattle.proof_text.specs.declared.line.LineStep.TheVariants.{Whole, Opens, Closes, Ends}
 use Rattle.proof_text.specs.Limits.{most_nodes, most_depth}
 use Rattle.proof_text.specs.RuleNames.{kinds_of, has_inner}
 use Rattle.proof_text.specs.Words.{ArgumentHasWords, RunHasWord}
@@ -54,6 +57,26 @@ end_text false = newline
 -- the line of a step, without its inner steps
 abbrev pub line_text : List Run → Bool → Rule → List Arg → List ℕ
 line_text path forward q args = head_text path forward q args ++ end_text (has_inner q)
+
+-- what a line says of a step: its parts, without inner steps
+pub record SaysStep (inner : Bool) (d : Step-F step.Step) : Type 0 where
+  pub parts : HasLine d.path d.rule d.args
+  pub small : Each IsSmall d.args
+  pub opens : has_inner d.rule ≡ inner
+  pub none : d.inner ≡ []
+
+abbrev pub Says : LineStep → Type 0
+Says (Whole s) = SaysStep false (step.out-Step s)
+Says (Opens s) = SaysStep true (step.out-Step s)
+Says Closes = Unit {0}
+Says Ends = Unit {0}
+
+-- the line that says this
+abbrev pub text_of : LineStep → List ℕ
+text_of (Whole s) = let d = step.out-Step s in line_text d.path d.forward d.rule d.args
+text_of (Opens s) = let d = step.out-Step s in line_text d.path d.forward d.rule d.args
+text_of Closes = codes "}" ++ newline
+text_of Ends = codes "end" ++ newline
 
 unfoldable mutual
   pub IsWritable : step.Step → Type 0

@@ -27,11 +27,7 @@ fn argument(alloc: Global, cursor: &mut Cursor<'_>, kind: Kind) -> Result<Arg, S
 }
 
 /// The arguments that begin here, each behind a space.
-pub fn arguments(
-    alloc: Global,
-    cursor: &mut Cursor<'_>,
-    kinds: &[Kind],
-) -> Result<List<Arg>, Stop>
+pub fn arguments(alloc: Global, cursor: &mut Cursor<'_>, kinds: &[Kind]) -> Result<List<Arg>, Stop>
     ensures { Gives result cursor.new (arguments_at kinds.now cursor.old) }
 {
     let mut arguments = List::new(alloc);

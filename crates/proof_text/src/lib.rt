@@ -4,6 +4,7 @@
 mod argument;
 mod cursor;
 mod kinds;
+pub mod laws;
 mod limits;
 mod line;
 mod lines;
@@ -13,6 +14,8 @@ mod rule_name;
 mod sign;
 mod step;
 mod term;
+#[cfg(test)]
+mod tests;
 
 pub use limits::LimitKind;
 pub use line::{LineFault, LineStep, read_step};

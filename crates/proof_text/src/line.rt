@@ -1,8 +1,9 @@
 //! Lines of proofs.
-ghost use Rattle.std.specs.Prelude.{◌≡◌, ◌+◌, ◌<◌, ◌^◌};
+ghost use Rattle.std.specs.Prelude.{◌≡◌, ◌+◌, ◌<◌, ◌^◌, IfOk};
 ghost use Rattle.proof_text.specs.LinesOfText.{fed};
 ghost use Rattle.proof_text.specs.ReadingLines.{IsAnswer};
 ghost use Rattle.proof_text.specs.Faults.{fault_of};
+ghost use Rattle.proof_text.specs.Written.{Says, text_of};
 
 use crate::cursor::{Cursor, Stop};
 use crate::limits::{LimitKind, MOST_DEPTH, MOST_NODES};
@@ -60,7 +61,8 @@ fn fault(stop: Stop, passed: u64) -> LineFault
 /// What the line says whose bytes these are; `ended` says that a line feed follows them. Each byte is looked at once, and nothing is
 /// built of an argument behind the byte at which it passes a limit.
 pub fn read_step(alloc: Global, line: &[u8], ended: bool) -> Result<LineStep, LineFault>
-    ensures { IsAnswer (fed line.now ended) result }
+    ensures answer { IsAnswer (fed line.now ended) result }
+    ensures text { IfOk result (λ says. (fed line.now ended ≡ text_of says) × Says says) }
 {
     let mut cursor = Cursor::new(line, ended);
     let length = cursor.left();

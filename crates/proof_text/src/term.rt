@@ -38,12 +38,7 @@ pub fn term(alloc: Global, cursor: &mut Cursor<'_>, levels: u32) -> Result<U, St
 
 // The term that begins with this sign.
 #[cycle(term)]
-fn term_from(
-    alloc: Global,
-    cursor: &mut Cursor<'_>,
-    first: Sign,
-    levels: u32,
-) -> Result<U, Stop>
+fn term_from(alloc: Global, cursor: &mut Cursor<'_>, first: Sign, levels: u32) -> Result<U, Stop>
     ensures { Gives result cursor.new (term_with (term_at levels) (value_at levels) first cursor.old) }
 {
     match first {
@@ -89,11 +84,7 @@ fn part(alloc: Global, cursor: &mut Cursor<'_>, levels: u32) -> Result<Boxed<U>,
 
 // Two terms in parentheses.
 #[cycle(term)]
-fn terms(
-    alloc: Global,
-    cursor: &mut Cursor<'_>,
-    levels: u32,
-) -> Result<(Boxed<U>, Boxed<U>), Stop>
+fn terms(alloc: Global, cursor: &mut Cursor<'_>, levels: u32) -> Result<(Boxed<U>, Boxed<U>), Stop>
     ensures { Gives result cursor.new (pair_of (term_at levels) cursor.old) }
 {
     cursor.expect(Sign::Open)?;
@@ -155,12 +146,7 @@ pub fn value(alloc: Global, cursor: &mut Cursor<'_>, levels: u32) -> Result<Val,
 
 // The value that begins with this sign.
 #[cycle(term)]
-fn value_from(
-    alloc: Global,
-    cursor: &mut Cursor<'_>,
-    first: Sign,
-    levels: u32,
-) -> Result<Val, Stop>
+fn value_from(alloc: Global, cursor: &mut Cursor<'_>, first: Sign, levels: u32) -> Result<Val, Stop>
     ensures { Gives result cursor.new (value_with (term_at levels) (value_at levels) first cursor.old) }
 {
     match first {

@@ -1,4 +1,4 @@
-use Rattle.std.proofs.Common.{◌≡◌, ◌<◌, length, get_or, arith, rules}
+use Rattle.std.proofs.Common.{◌≡◌, get_or, arith, rules}
 use Rattle.std.specs.Prelude.{Ok}
 use Rattle.proof_text.specs.declared.kinds.Kind.TheVariants as kind
 use Rattle.proof_text.specs.Reading.{Stops, argument_at, arguments_at, expected}

@@ -1,6 +1,6 @@
-use Rattle.std.proofs.Common.{◌≡◌, ◌<◌, ◌-◌, length, ◌++◌, ◌∷◌, [], arith, rules, ◌∙◌}
-use Rattle.proof_text.proofs.Loops.{term_at-step, value_at-step, behind, behind-none, values-over, values-halted, values-next, values-last}
-use Rattle.proof_text.specs.Reading.{Stops, ◌>>=◌, value_at, values_at, list_of, expected, passed}
+use Rattle.std.proofs.Common.{◌≡◌, ◌-◌, length, ◌++◌, ◌∷◌, [], arith, rules, ◌∙◌}
+use Rattle.proof_text.proofs.Loops.{term_at-step, value_at-step, behind-none, values-over, values-halted, values-next, values-last}
+use Rattle.proof_text.specs.Reading.{Stops, ◌>>=◌, value_at, values_at, list_of, expected}
 use Rattle.std.specs.Prelude.{Ok}
 use Rattle.proof_text.proofs.term.+term.Goals as goal
 

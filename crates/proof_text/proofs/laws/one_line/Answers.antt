@@ -1,0 +1,5 @@
+use Rattle.proof_text.proofs.OneLine.{one_line as lemma}
+use Rattle.proof_text.proofs.laws.one_line.Goals as goal
+
+pub returns : goal.returns
+returns c = lemma
