@@ -16,3 +16,4 @@ pub mod Glyphs
 pub mod TermsSpelled
 pub mod LinesSpelled
 pub mod OneAnswer
+pub mod OneText

@@ -202,7 +202,7 @@ argument_again kind.Num (arg.Num m) n k o w h e = record { left = most_nodes; is
 argument_again kind a n k o w h e = absurd o
 
 -- what follows an argument begins with a space or a line feed
-arguments_end : (args : List Arg) (k : List ℕ) → Ends k → Ends (arguments_text args ++ k)
+pub arguments_end : (args : List Arg) (k : List ℕ) → Ends k → Ends (arguments_text args ++ k)
 arguments_end [] k e = e
 arguments_end (a ∷ args) k e = refl
 
@@ -223,12 +223,12 @@ unfolding word_at
 end_again true n k = refl
 end_again false n k = refl
 
-end_ends : (b : Bool) (k : List ℕ) → Ends (end_text b ++ k)
+pub end_ends : (b : Bool) (k : List ℕ) → Ends (end_text b ++ k)
 end_ends true k = refl
 end_ends false k = refl
 
 -- the parts of a line in the other grouping
-line_parts : (path : List Run) (forward : Bool) (q : Rule) (args : List Arg) (k : List ℕ)
+pub line_parts : (path : List Run) (forward : Bool) (q : Rule) (args : List Arg) (k : List ℕ)
     → line_text path forward q args ++ k ≡ 47 ∷ (flat_map run_text path ++ (32 ∷ (direction_text forward ++ (32 ∷ (rule_text q ++ (arguments_text args ++ (end_text (has_inner q) ++ k)))))))
 line_parts path forward q args k = simp append_assoc
 

@@ -2,28 +2,35 @@
 ghost use Rattle.std.specs.Prelude.{◌≡◌, List, ℕ, Result, Err};
 ghost use Rattle.proof_text.specs.declared.line.LineFault.{LineFault as TheFault};
 ghost use Rattle.proof_text.specs.declared.line.LineFault.TheVariants.{NoMemory as no_memory};
-ghost use Rattle.proof_text.specs.declared.line.LineStep.{LineStep as TheStep};
+ghost use Rattle.proof_text.specs.declared.line.LineStep.{LineStep as TheLine};
+ghost use Rattle.u_deriv.specs.declared.step.Step.{Step as TheStep};
 ghost use Rattle.proof_text.specs.ReadingLines.{IsAnswer, IsRead, lines};
-ghost use Rattle.proof_text.specs.Written.{Says, text_of};
+ghost use Rattle.proof_text.specs.Written.{ProofText, Says, text_of};
 
 /// A text has one answer, but for want of memory: the line that it is, or the first column at which none goes on, or the limit
 /// that an argument passes before.
 pub fn one_answer()
-    ensures { (text : List ℕ) (one other : Result TheStep TheFault) → (one ≡ Err no_memory → ⊥) → (other ≡ Err no_memory → ⊥) →
+    ensures { (text : List ℕ) (one other : Result TheLine TheFault) → (one ≡ Err no_memory → ⊥) → (other ≡ Err no_memory → ⊥) →
         IsAnswer text one → IsAnswer text other → one ≡ other }
 {}
 
 /// No text is two lines, whatever the size of their arguments.
 pub fn one_line()
-    ensures { (text : List ℕ) (one other : TheStep) → lines.spells text one → lines.spells text other → one ≡ other }
+    ensures { (text : List ℕ) (one other : TheLine) → lines.spells text one → lines.spells text other → one ≡ other }
 {}
 
 /// A line that is read is the one text of what it says.
 pub fn lines_have_one_text()
-    ensures { (text : List ℕ) (says : TheStep) → IsRead text says → (text ≡ text_of says) × Says says }
+    ensures { (text : List ℕ) (says : TheLine) → IsRead text says → (text ≡ text_of says) × Says says }
 {}
 
 /// What is written of a line is read again, where its arguments are within the limits.
 pub fn lines_are_read_again()
-    ensures { (says : TheStep) → Says says → IsRead (text_of says) says }
+    ensures { (says : TheLine) → Says says → IsRead (text_of says) says }
+{}
+
+/// No bytes are the text of two lists of steps or of two widths, whatever the size of their arguments.
+pub fn one_text()
+    ensures { (bytes : List ℕ) (outs width : ℕ) (steps others : List TheStep) → ProofText bytes outs steps → ProofText bytes width others →
+        (outs ≡ width) × (steps ≡ others) }
 {}

@@ -1,0 +1,5 @@
+use Rattle.proof_text.proofs.OneText.{one_text as lemma}
+use Rattle.proof_text.proofs.laws.one_text.Goals as goal
+
+pub returns : goal.returns
+returns c = lemma
