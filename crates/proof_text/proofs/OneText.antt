@@ -1,5 +1,5 @@
 -- No bytes are the text of two lists of steps, whatever the size of their arguments.
-use Rattle.std.proofs.Common.{◌≡◌, ℕ, zero, suc, ◌+◌, ◌^◌, ◌<◌, ◌≤◌, Bool, true, false, List, [], ◌∷◌, ◌++◌, length, length-append, drop, Result, Ok, Err, refl, sym, ap, ◌∙◌, subst, arith, append_assoc, append-nil}
+use Rattle.std.proofs.Common.{◌≡◌, ℕ, zero, suc, ◌+◌, ◌^◌, ◌<◌, Bool, true, false, List, [], ◌∷◌, ◌++◌, length, length-append, drop, Ok, refl, sym, ap, ◌∙◌, subst, arith, append_assoc}
 use Rattle.std.specs.Prelude.{◌==◌, codes}
 use Rattle.std.specs.Fmt.{decimal}
 use Rattle.std.specs.List.{flat_map}
@@ -22,9 +22,9 @@ use Rattle.u_deriv.specs.StepText.{term_text, value_text, run_text, direction_te
 use Rattle.proof_text.specs.declared.kinds.Kind.{Kind}
 use Rattle.proof_text.specs.declared.kinds.Kind.TheVariants as kind
 use Rattle.proof_text.specs.declared.path.Last.TheVariants as last
-use Rattle.proof_text.specs.Signs.{code, sign}
+use Rattle.proof_text.specs.Signs.{code}
 use Rattle.proof_text.specs.RuleNames.{names, kinds_of, has_inner}
-use Rattle.proof_text.specs.Words.{HasWords, ValueHasWords, RunHasWord, ArgumentHasWords}
+use Rattle.proof_text.specs.Words.{HasWords, ValueHasWords, ArgumentHasWords}
 use Rattle.proof_text.specs.Written.{IsOf, AreOf, HasLine, end_text, line_text, IsWritable, AreWritable, HasInner, proof_text, ProofText}
 use Rattle.proof_text.specs.Reading.{Rest, Reading, sign_at, number_at, term_at, value_at, list_of, runs_at, direction_at, rule_at}
 use Rattle.proof_text.proofs.NumbersAgain.{Ends, number_again}
@@ -34,10 +34,9 @@ use Rattle.proof_text.proofs.LinesAgain.{apart_all, runs_again, direction_again,
 -- ---- a reading has one outcome
 same_read : {A : Type 0} (a b : A) (x y : Rest) (reading : Reading A) → reading ≡ (Ok a, x) → reading ≡ (Ok b, y) → (a ≡ b) × (x.text ≡ y.text)
 same_read {A = A} a b x y reading e i =
-    let p : (Ok a, x) ≡ (Ok b, y) = sym e ∙ i in
-    let o : Ok a ≡ Ok b = ap (λ (z : Reading A). z.0) p in
+    let o : Ok a ≡ Ok b = ap (λ (z : Reading A). z.0) (sym e ∙ i) in
     let s : a ≡ b = cc in
-    (s, ap (λ (z : Reading A). z.1.text) p)
+    (s, ap (λ (z : Reading A). z.1.text) (sym e ∙ i))
 
 behind : (c : ℕ) (x y : List ℕ) → c ∷ x ≡ c ∷ y → x ≡ y
 behind c x y e = ap (drop 1) e
@@ -97,7 +96,7 @@ arguments_once (k ∷ ks) [] bs x y o p v w d e h = absurd o
 arguments_once (k ∷ ks) (a ∷ xs) [] x y o p v w d e h = absurd p
 arguments_once (k ∷ ks) (a ∷ xs) (b ∷ bs) x y o p v w d e h =
     let i : argument_text a ++ (arguments_text xs ++ x) ≡ argument_text b ++ (arguments_text bs ++ y) =
-        sym (append_assoc (argument_text a) (arguments_text xs) x) ∙ behind 32 ((argument_text a ++ arguments_text xs) ++ x) ((argument_text b ++ arguments_text bs) ++ y) h ∙ append_assoc (argument_text b) (arguments_text bs) y in
+    sym (append_assoc (argument_text a) (arguments_text xs) x) ∙ behind 32 ((argument_text a ++ arguments_text xs) ++ x) ((argument_text b ++ arguments_text bs) ++ y) h ∙ append_assoc (argument_text b) (arguments_text bs) y in
     let (s, t) = argument_once k a b (arguments_text xs ++ x) (arguments_text bs ++ y) o.0 p.0 v.0 w.0 (arguments_end xs x d) (arguments_end bs y e) i in
     let (s', t') = arguments_once ks xs bs x y o.1 p.1 v.1 w.1 d e t in
     (ap (λ (z : Arg). z ∷ xs) s ∙ ap (λ (z : List Arg). b ∷ z) s', t')
@@ -115,25 +114,25 @@ line_once p p' f f' q q' xs bs x y l m h =
     let ends : List ℕ = arguments_text xs ++ (end_text (has_inner q) ++ x) in
     let ends' : List ℕ = arguments_text bs ++ (end_text (has_inner q') ++ y) in
     let h1 : flat_map run_text p ++ (32 ∷ (direction_text f ++ (32 ∷ (rule_text q ++ ends)))) ≡ flat_map run_text p' ++ (32 ∷ (direction_text f' ++ (32 ∷ (rule_text q' ++ ends')))) =
-        behind 47 (flat_map run_text p ++ (32 ∷ (direction_text f ++ (32 ∷ (rule_text q ++ ends))))) (flat_map run_text p' ++ (32 ∷ (direction_text f' ++ (32 ∷ (rule_text q' ++ ends')))))
-        (sym (line_parts p f q xs x) ∙ h ∙ line_parts p' f' q' bs y) in
+    behind 47 (flat_map run_text p ++ (32 ∷ (direction_text f ++ (32 ∷ (rule_text q ++ ends))))) (flat_map run_text p' ++ (32 ∷ (direction_text f' ++ (32 ∷ (rule_text q' ++ ends')))))
+    (sym (line_parts p f q xs x) ∙ h ∙ line_parts p' f' q' bs y) in
     let most : ℕ = length p + length p' in
     let (sp, t1) = same_read p p' (record { nodes = 0; text = 32 ∷ (direction_text f ++ (32 ∷ (rule_text q ++ ends))) }) (record { nodes = 0; text = 32 ∷ (direction_text f' ++ (32 ∷ (rule_text q' ++ ends'))) })
-        (runs_at most last.Other (record { nodes = 0; text = flat_map run_text p' ++ (32 ∷ (direction_text f' ++ (32 ∷ (rule_text q' ++ ends')))) }))
-        (subst (λ (t : List ℕ). runs_at most last.Other (record { nodes = 0; text = t }) ≡ (Ok p, record { nodes = 0; text = 32 ∷ (direction_text f ++ (32 ∷ (rule_text q ++ ends))) })) h1
-          (runs_again p most 0 last.Other (direction_text f ++ (32 ∷ (rule_text q ++ ends))) (omega arith) l.turns (apart_all p l.normal)))
-        (runs_again p' most 0 last.Other (direction_text f' ++ (32 ∷ (rule_text q' ++ ends'))) (omega arith) m.turns (apart_all p' m.normal)) in
+    (runs_at most last.Other (record { nodes = 0; text = flat_map run_text p' ++ (32 ∷ (direction_text f' ++ (32 ∷ (rule_text q' ++ ends')))) }))
+    (subst (λ (t : List ℕ). runs_at most last.Other (record { nodes = 0; text = t }) ≡ (Ok p, record { nodes = 0; text = 32 ∷ (direction_text f ++ (32 ∷ (rule_text q ++ ends))) })) h1
+    (runs_again p most 0 last.Other (direction_text f ++ (32 ∷ (rule_text q ++ ends))) (omega arith) l.turns (apart_all p l.normal)))
+    (runs_again p' most 0 last.Other (direction_text f' ++ (32 ∷ (rule_text q' ++ ends'))) (omega arith) m.turns (apart_all p' m.normal)) in
     let h2 = behind 32 (direction_text f ++ (32 ∷ (rule_text q ++ ends))) (direction_text f' ++ (32 ∷ (rule_text q' ++ ends'))) t1 in
     let (sf, t2) = same_read f f' (record { nodes = 0; text = 32 ∷ (rule_text q ++ ends) }) (record { nodes = 0; text = 32 ∷ (rule_text q' ++ ends') })
-        (direction_at (record { nodes = 0; text = direction_text f' ++ (32 ∷ (rule_text q' ++ ends')) }))
-        (subst (λ (t : List ℕ). direction_at (record { nodes = 0; text = t }) ≡ (Ok f, record { nodes = 0; text = 32 ∷ (rule_text q ++ ends) })) h2 (direction_again f 0 (32 ∷ (rule_text q ++ ends))))
-        (direction_again f' 0 (32 ∷ (rule_text q' ++ ends'))) in
+    (direction_at (record { nodes = 0; text = direction_text f' ++ (32 ∷ (rule_text q' ++ ends')) }))
+    (subst (λ (t : List ℕ). direction_at (record { nodes = 0; text = t }) ≡ (Ok f, record { nodes = 0; text = 32 ∷ (rule_text q ++ ends) })) h2 (direction_again f 0 (32 ∷ (rule_text q ++ ends))))
+    (direction_again f' 0 (32 ∷ (rule_text q' ++ ends'))) in
     let h3 = behind 32 (rule_text q ++ ends) (rule_text q' ++ ends') t2 in
     let (sq, t3) = same_read q q' (record { nodes = 0; text = ends }) (record { nodes = 0; text = ends' })
-        (rule_at names (record { nodes = 0; text = rule_text q' ++ ends' }))
-        (subst (λ (t : List ℕ). rule_at names (record { nodes = 0; text = t }) ≡ (Ok q, record { nodes = 0; text = ends })) h3 (rule_again q 0 ends)) (rule_again q' 0 ends') in
+    (rule_at names (record { nodes = 0; text = rule_text q' ++ ends' }))
+    (subst (λ (t : List ℕ). rule_at names (record { nodes = 0; text = t }) ≡ (Ok q, record { nodes = 0; text = ends })) h3 (rule_again q 0 ends)) (rule_again q' 0 ends') in
     let (sa, t4) = arguments_once (kinds_of q) xs bs (end_text (has_inner q) ++ x) (end_text (has_inner q') ++ y) l.kinds (subst (λ (z : Rule). AreOf (kinds_of z) bs) (sym sq) m.kinds) l.words m.words
-        (end_ends (has_inner q) x) (end_ends (has_inner q') y) t3 in
+    (end_ends (has_inner q) x) (end_ends (has_inner q') y) t3 in
     let t5 : end_text (has_inner q) ++ x ≡ end_text (has_inner q) ++ y = subst (λ (z : Rule). end_text (has_inner q) ++ x ≡ end_text (has_inner z) ++ y) (sym sq) t4 in
     record { path = sp; forward = sf; rule = sq; args = sa; rest = append_cancel_left (end_text (has_inner q)) x y t5 }
 
@@ -235,7 +234,7 @@ steps_once (suc n) (x ∷ xs) (y ∷ ys) r s h v w o p e =
     let l = line_once dx.path dy.path dx.forward dy.forward dx.rule dy.rule dx.args dy.args (behind_line x xs r) (behind_line y ys s) px.line py.line i in
     let shorter : length (behind_line x xs r) < n = omega (arith, line_long dx (behind_line x xs r), ap length (first_text x xs r), h) in
     let rest : inner_text (has_inner dx.rule) (steps_text dx.inner) ++ (steps_text xs ++ r) ≡ inner_text (has_inner dx.rule) (steps_text dy.inner) ++ (steps_text ys ++ s) =
-        subst (λ (z : Rule). behind_line x xs r ≡ inner_text (has_inner z) (steps_text dy.inner) ++ (steps_text ys ++ s)) (sym l.rule) l.rest in
+    subst (λ (z : Rule). behind_line x xs r ≡ inner_text (has_inner z) (steps_text dy.inner) ++ (steps_text ys ++ s)) (sym l.rule) l.rest in
     let none : has_inner dx.rule ≡ false → dy.inner ≡ [] = λ z. py.none (subst (λ (q : Rule). has_inner q ≡ false) l.rule z) in
     finish (has_inner dx.rule) refl shorter rest px.none none
     (λ t u h v w e o p. steps_once n dx.inner dy.inner t u h px.inner py.inner o p e)
@@ -254,7 +253,7 @@ steps_once (suc n) (x ∷ xs) (y ∷ ys) r s h v w o p e =
         let t : List ℕ = 125 ∷ (10 ∷ (steps_text xs ++ r)) in
         let u : List ℕ = 125 ∷ (10 ∷ (steps_text ys ++ s)) in
         let i : steps_text (out-Step x).inner ++ t ≡ steps_text (out-Step y).inner ++ u =
-            sym (append_assoc (steps_text (out-Step x).inner) (125 ∷ (10 ∷ [])) (steps_text xs ++ r)) ∙ e ∙ append_assoc (steps_text (out-Step y).inner) (125 ∷ (10 ∷ [])) (steps_text ys ++ s) in
+        sym (append_assoc (steps_text (out-Step x).inner) (125 ∷ (10 ∷ [])) (steps_text xs ++ r)) ∙ e ∙ append_assoc (steps_text (out-Step y).inner) (125 ∷ (10 ∷ [])) (steps_text ys ++ s) in
         let long = ap length (append_assoc (steps_text (out-Step x).inner) (125 ∷ (10 ∷ [])) (steps_text xs ++ r)) in
         let a = inner t u (omega (arith, h, long)) tt tt i refl refl in
         let j : steps_text xs ++ r ≡ steps_text ys ++ s = ap (drop 2) a.1 in

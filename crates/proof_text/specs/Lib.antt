@@ -12,3 +12,4 @@ pub mod RuleNames
 pub mod Signs
 pub mod Words
 pub mod Written
+pub mod LineSamples
