@@ -6,3 +6,4 @@ pub mod Outcomes
 pub mod CaseSteps
 pub mod WholeCases
 pub mod Texts
+pub mod CaseTerms

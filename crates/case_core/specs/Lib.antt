@@ -5,3 +5,4 @@ pub mod Refusals
 pub mod ReadingCases
 pub mod Parts
 pub mod Answer
+pub mod Terms

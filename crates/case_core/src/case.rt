@@ -1,5 +1,6 @@
 //! A case that was read.
 ghost use Rattle.std.specs.Prelude.{◌≡◌};
+ghost use Rattle.scope_core.specs.Fitting.{FitsViews};
 ghost use Rattle.scope_core.specs.Width.{width};
 
 use scope_core::{Resolved, Views};
@@ -22,6 +23,7 @@ impl Model for Case {
     ghost use Rattle.std.specs.Prelude.{◌≡◌};
     ghost use Rattle.std.specs.Coded.{codes};
     ghost use Rattle.case_core.specs.Parts.{Parts};
+    ghost use Rattle.scope_core.specs.Fitting.{FitsViews};
     ghost use Rattle.scope_core.specs.Width.{width as tree_width};
     ghost use Rattle.scope_core.specs.contracts.tree.RQuery as query;
     ghost use Rattle.sql_model.specs.contracts.schema.Schema as schema_type;
@@ -41,11 +43,11 @@ impl Model for Case {
       symbols = c.symbols;
     } };
 
-    ghost invariant = { λ c. tree_width c.left ≡ tree_width c.right };
+    ghost invariant = { λ c. (tree_width c.left ≡ tree_width c.right) × FitsViews c.views c.left × FitsViews c.views c.right };
 }
 
 impl Case {
-    /// Of two queries of one width.
+    /// Of two queries of one width over the views.
     pub(crate) fn new(
         schema: Schema,
         views: Views,
@@ -53,7 +55,9 @@ impl Case {
         queries: (Resolved, Resolved),
         symbols: Symbols,
     ) -> Case
-        requires { width queries.0 ≡ width queries.1 }
+        requires one_width { width queries.0 ≡ width queries.1 }
+        requires left { FitsViews views queries.0 }
+        requires right { FitsViews views queries.1 }
         ensures { result ≡ record { schema = schema; views = views; facts = facts; left = queries.0; right = queries.1; symbols = symbols } }
     {
         let (left, right) = queries;
@@ -90,14 +94,16 @@ impl Case {
 
     /// The first query.
     pub fn left(&self) -> &Resolved
-        ensures { result.now ≡ self.now.left }
+        ensures value { result.now ≡ self.now.left }
+        ensures fits { FitsViews self.now.views self.now.left }
     {
         &self.left
     }
 
     /// The second query.
     pub fn right(&self) -> &Resolved
-        ensures { result.now ≡ self.now.right }
+        ensures value { result.now ≡ self.now.right }
+        ensures fits { FitsViews self.now.views self.now.right }
     {
         &self.right
     }

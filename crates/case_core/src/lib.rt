@@ -9,8 +9,11 @@ mod read;
 #[cfg(test)]
 mod tests;
 mod text;
+mod translated;
 
 pub use case::Case;
 pub use facts::facts_of;
 pub use fault::CaseFault;
 pub use read::read_case;
+pub use sql_to_u::{LimitKind, TermFault};
+pub use translated::terms;
