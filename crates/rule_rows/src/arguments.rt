@@ -102,7 +102,7 @@ fn argument(alloc: Global, letter: u8) -> Result<Arg, NoMemory> {
     match letter {
         b'0'..=b'9' => Ok(Arg::Num(u32::from(letter - b'0'))),
         b'a'..=b'e' | b'A' => Ok(Arg::Value(value(alloc, letter)?)),
-        b'f'..=b'h' | b'F' => Ok(Arg::Body(body(alloc, letter)?.into_inner())),
+        b'f'..=b'j' | b'F' => Ok(Arg::Body(body(alloc, letter)?.into_inner())),
         b's'..=b'u' | b'S' => Ok(Arg::Values(list(alloc, letter)?)),
         _ => Ok(Arg::Term(term(alloc, letter)?.into_inner())),
     }
@@ -124,6 +124,8 @@ fn body(alloc: Global, letter: u8) -> Result<Boxed<U>, NoMemory> {
         b'f' => row(alloc, 3, [Val::Bound(0)]),
         b'g' => row(alloc, 4, [Val::Bound(0)]),
         b'h' => row(alloc, 5, [Val::Bound(2), Val::Bound(1), Val::Bound(0)]),
+        b'i' => Boxed::new(alloc, U::Eq(Val::Bound(0), Val::Free(0))),
+        b'j' => row(alloc, 0, [Val::Bound(0)]),
         _ => row(alloc, 3, [Val::Bound(1)]),
     }
 }
@@ -144,6 +146,7 @@ fn term(alloc: Global, letter: u8) -> Result<Boxed<U>, NoMemory> {
         b'm' => product_with_one(alloc),
         b'n' => product(alloc, y(alloc)?, x(alloc)?),
         b'p' => product(alloc, x(alloc)?, x(alloc)?),
+        b'q' => sum(alloc, Boxed::new(alloc, U::Zero)?, x(alloc)?),
         b'x' => x(alloc),
         b'y' => y(alloc),
         b'z' => row(alloc, 2, [Val::Lit(4)]),
@@ -156,7 +159,8 @@ fn zero_and_sum(alloc: Global) -> Result<Boxed<U>, NoMemory> {
     sum(alloc, Boxed::new(alloc, U::Zero)?, rest)
 }
 
-fn product_with_one(alloc: Global) -> Result<Boxed<U>, NoMemory> {
+/// `*(*(R0(f0),1),R1(f1))`
+pub fn product_with_one(alloc: Global) -> Result<Boxed<U>, NoMemory> {
     let first = product(alloc, x(alloc)?, Boxed::new(alloc, U::One)?)?;
     product(alloc, first, y(alloc)?)
 }

@@ -7,8 +7,26 @@ use u_binder::close_path;
 use u_rules::{Arg, InstanceFault, Rule, Why, instance, side, sizes, stands};
 use u_terms::{Facts, NoMemory, U, depth, nodes, same};
 
+/// Whether the rule has these two sides for the arguments, each stands in place, and each is written alone.
+pub fn holds(
+    alloc: Global,
+    facts: &Facts,
+    rule: Rule,
+    letters: &str,
+    left: &str,
+    right: &str,
+) -> Result<bool, NoMemory> {
+    Ok(
+        has_sides(alloc, facts, rule, letters, left, right)?
+            && sides_stand(alloc, facts, rule, letters, 0)?
+            && sides_stand(alloc, facts, rule, letters, 7)?
+            && other_side_is(alloc, facts, rule, letters, false, left)?
+            && other_side_is(alloc, facts, rule, letters, true, right)?,
+    )
+}
+
 /// Whether the rule has these two sides for the arguments, and `sizes` knows how large they are.
-pub fn has_sides(
+fn has_sides(
     alloc: Global,
     facts: &Facts,
     rule: Rule,
@@ -49,7 +67,7 @@ pub fn why(
 
 /// Whether each side of the rule's instance, its names closed under this many binders, stands in place as that side, and as the other
 /// one only where both are one term.
-pub fn sides_stand(
+fn sides_stand(
     alloc: Global,
     facts: &Facts,
     rule: Rule,
@@ -124,31 +142,42 @@ fn is_left(alloc: Global, facts: &Facts, args: &[Arg], part: &U, count: u32) -> 
     is_side(alloc, facts, Rule::SqFix, args, false, part, count)
 }
 
-/// Whether this text is that of the right side, written alone where the left one was found.
-pub fn other_side_is(
+/// Whether this text is that of the left or, turned, the right side, written alone where the other one was found.
+fn other_side_is(
     alloc: Global,
     facts: &Facts,
     rule: Rule,
     letters: &str,
-    right: &str,
+    turned: bool,
+    text: &str,
 ) -> Result<bool, NoMemory> {
     let args = arguments(alloc, letters)?;
     match instance(alloc, facts, rule, &args) {
-        Ok((l, _)) => match other_side(alloc, facts, rule, &args, &l) {
-            Some(r) => Ok(spells(right, &r)),
-            None => Ok(false),
-        },
+        Ok((left, right)) => {
+            let found = if turned { left } else { right };
+            match other_side(alloc, facts, rule, &args, turned, &found) {
+                Some(side) => Ok(spells(text, &side)),
+                None => Ok(false),
+            }
+        }
         Err(_) => Ok(false),
     }
 }
 
-// The right side of a rule whose left one stands in place.
-fn other_side(alloc: Global, facts: &Facts, rule: Rule, args: &[Arg], part: &U) -> Option<U> {
+// The left or, turned, the right side of a rule whose other one stands in place.
+fn other_side(
+    alloc: Global,
+    facts: &Facts,
+    rule: Rule,
+    args: &[Arg],
+    turned: bool,
+    part: &U,
+) -> Option<U> {
     if depth(part) > 99 {
         return None;
     }
-    match stands(alloc, facts, rule, args, false, part, 0, 0) {
-        Ok(true) => side(alloc, facts, rule, args, true).ok(),
+    match stands(alloc, facts, rule, args, !turned, part, 0, 0) {
+        Ok(true) => side(alloc, facts, rule, args, turned).ok(),
         _ => None,
     }
 }

@@ -1,11 +1,12 @@
-use crate::arguments::{facts, sum_of, units};
-use crate::calls::{has_sides, names_are_closed, other_side_is, sides_stand, why};
+use crate::arguments::{facts, product_with_one, sum_of, units};
+use crate::calls::{holds, names_are_closed, why};
 use crate::text::spells;
 use std::test::Fail;
 use u_rules::{Rule, Why, leaves, same_leaves};
 
 // A rule, its arguments, and its two sides.
-const ROWS: [(Rule, &str, &str, &str); 41] = [
+const ROWS: [(Rule, &str, &str, &str); 42] = [
+    (Rule::AddAc, "qx", "+(0,R0(f0))", "R0(f0)"),
     (
         Rule::AddAc,
         "kl",
@@ -150,7 +151,7 @@ const ROWS: [(Rule, &str, &str, &str); 41] = [
 ];
 
 // A rule, its arguments, and why it has no instance.
-const REFUSALS: [(Rule, &str, Why); 46] = [
+const REFUSALS: [(Rule, &str, Why); 48] = [
     (Rule::AddAc, "kk2", Why::ArgKinds),
     (Rule::AddAc, "mn", Why::LeavesDiffer),
     (Rule::MulAc, "px", Why::LeavesDiffer),
@@ -179,9 +180,11 @@ const REFUSALS: [(Rule, &str, Why); 46] = [
     (Rule::SumZero, "f", Why::ArgKinds),
     (Rule::SumAdd, "fF", Why::NotClosed),
     (Rule::SumSwap, "01f", Why::ZeroCount),
+    (Rule::SumSwap, "01j", Why::ZeroCount),
     (Rule::SumSwap, "11h", Why::NotClosed),
     (Rule::SumMul, "Xf", Why::NotClosed),
     (Rule::SumMul, "xF", Why::NotClosed),
+    (Rule::SumMul, "Xi", Why::NotClosed),
     (Rule::SumSq, "F", Why::NotClosed),
     (Rule::SumPoint, "Af", Why::NotClosed),
     (Rule::SumUse, "fa", Why::ArgKinds),
@@ -204,10 +207,7 @@ fn each_rule_has_its_two_sides(rt: HostRuntime) -> Result<(), Fail> {
     let alloc = rt.alloc();
     let facts = facts(alloc)?;
     for (rule, letters, left, right) in ROWS {
-        assert!(rt;
-            has_sides(alloc, &facts, rule, letters, left, right)?,
-            "{left}"
-        );
+        assert!(rt; holds(alloc, &facts, rule, letters, left, right)?, "{left}");
     }
     Ok(())
 }
@@ -227,34 +227,10 @@ fn refusals_say_the_first_reason(rt: HostRuntime) -> Result<(), Fail> {
 }
 
 #[test]
-fn sides_stand_in_place(rt: HostRuntime) -> Result<(), Fail> {
-    let alloc = rt.alloc();
-    let facts = facts(alloc)?;
-    for (rule, letters, left, _) in ROWS {
-        assert!(rt; sides_stand(alloc, &facts, rule, letters, 0)?, "{left}");
-        assert!(rt; sides_stand(alloc, &facts, rule, letters, 7)?, "{left}");
-    }
-    Ok(())
-}
-
-#[test]
 fn a_name_on_the_path_is_no_name_in_place(rt: HostRuntime) -> Result<(), Fail> {
     let alloc = rt.alloc();
     let facts = facts(alloc)?;
     assert!(rt; names_are_closed(alloc, &facts)?);
-    Ok(())
-}
-
-#[test]
-fn a_side_is_written_alone(rt: HostRuntime) -> Result<(), Fail> {
-    let alloc = rt.alloc();
-    let facts = facts(alloc)?;
-    for (rule, letters, _, right) in ROWS {
-        assert!(rt;
-            other_side_is(alloc, &facts, rule, letters, right)?,
-            "{right}"
-        );
-    }
     Ok(())
 }
 
@@ -265,6 +241,18 @@ fn zeros_are_no_leaves_of_a_sum(rt: HostRuntime) -> Result<(), Fail> {
     let all = leaves(alloc, sum.get(), false)?;
     match all.as_slice() {
         [first, second] => assert!(rt; spells("1", first) && spells("*(0,1)", second)),
+        _ => assert!(rt; false),
+    }
+    Ok(())
+}
+
+#[test]
+fn ones_are_no_leaves_of_a_product(rt: HostRuntime) -> Result<(), Fail> {
+    let alloc = rt.alloc();
+    let product = product_with_one(alloc)?;
+    let all = leaves(alloc, product.get(), true)?;
+    match all.as_slice() {
+        [first, second] => assert!(rt; spells("R0(f0)", first) && spells("R1(f1)", second)),
         _ => assert!(rt; false),
     }
     Ok(())
