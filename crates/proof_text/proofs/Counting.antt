@@ -223,8 +223,8 @@ numbered_counts read built reads rest = after_it false false false rest (number_
 
 module _ (term_read : Rest → Reading U) (value_read : Rest → Reading Val) (terms : (rest : Rest) → Counts true false rest (term_read rest)) (values : (rest : Rest) → Counts true false rest (value_read rest)) where
   term_with_counts : (k : Sign) (rest : Rest) → Counts false false rest (term_with term_read value_read k rest)
-  term_with_counts s.D0 rest = done false u.Zero rest
-  term_with_counts s.D1 rest = done false u.One rest
+  term_with_counts s.Digit0 rest = done false u.Zero rest
+  term_with_counts s.Digit1 rest = done false u.One rest
   term_with_counts s.Plus rest = gives false false rest (pair_of term_read rest) (λ p. u.Add p.0 p.1) (within_counts (both term_read) (both_counts term_read terms) rest)
   term_with_counts s.Star rest = gives false false rest (pair_of term_read rest) (λ p. u.Mul p.0 p.1) (within_counts (both term_read) (both_counts term_read terms) rest)
   term_with_counts s.Hash rest = gives false false rest (within term_read rest) (λ a. u.Squash a) (within_counts term_read terms rest)

@@ -25,16 +25,16 @@ if_inverse byte glyph k other e h = go (byte == glyph) refl
 
 pub glyph_of : (byte : ℕ) → IsGlyph byte (sign byte)
 glyph_of byte =
-    (if_inverse byte 48 s.D0 _ refl
-    (if_inverse byte 49 s.D1 _ refl
-    (if_inverse byte 50 s.D2 _ refl
-    (if_inverse byte 51 s.D3 _ refl
-    (if_inverse byte 52 s.D4 _ refl
-    (if_inverse byte 53 s.D5 _ refl
-    (if_inverse byte 54 s.D6 _ refl
-    (if_inverse byte 55 s.D7 _ refl
-    (if_inverse byte 56 s.D8 _ refl
-    (if_inverse byte 57 s.D9 _ refl
+    (if_inverse byte 48 s.Digit0 _ refl
+    (if_inverse byte 49 s.Digit1 _ refl
+    (if_inverse byte 50 s.Digit2 _ refl
+    (if_inverse byte 51 s.Digit3 _ refl
+    (if_inverse byte 52 s.Digit4 _ refl
+    (if_inverse byte 53 s.Digit5 _ refl
+    (if_inverse byte 54 s.Digit6 _ refl
+    (if_inverse byte 55 s.Digit7 _ refl
+    (if_inverse byte 56 s.Digit8 _ refl
+    (if_inverse byte 57 s.Digit9 _ refl
     (if_inverse byte 43 s.Plus _ refl
     (if_inverse byte 42 s.Star _ refl
     (if_inverse byte 35 s.Hash _ refl

@@ -10,7 +10,7 @@ use Rattle.grammar.proofs.Sets.{and_left, and_right}
 use Rattle.grammar.proofs.Choices.{is_absent, absent_failed}
 use Rattle.grammar.proofs.Steps.{empty_took}
 use Rattle.proof_text.specs.Signs.{Sign, code, sign}
-use Rattle.proof_text.specs.Grammar.{value_of, F, Place, P1, P2, P3, P4, P5, P6, P7, P8, P9, P10, upto, greatest, number, count, rules, no_digits, digit_then, below, of_code, above, between, beside, from_four}
+use Rattle.proof_text.specs.Grammar.{value_of, F, Place, Behind1, Behind2, Behind3, Behind4, Behind5, Behind6, Behind7, Behind8, Behind9, Behind10, upto, greatest, number, count, rules, no_digits, digit_then, below, of_code, above, between, beside, from_four}
 use Rattle.proof_text.specs.Reading.{Rest, bad, sign_at, number_at, count_at, is_longer, longest, longest_at}
 use Rattle.proof_text.specs.Outcomes.{free, bounded, Outcome}
 use Rattle.proof_text.proofs.OneLine.{grammar}
@@ -119,10 +119,10 @@ full_took : (levels m : ℕ) (text : List ℕ) → 2 ^ 32 ≤ 10 * m → Digits 
 full_took levels m [] h = record { digits = []; value = refl; took = none_took levels [] }
 full_took levels m (byte ∷ text) h = stops (not_longer m (code (sign byte)) h) (none_took levels (byte ∷ text))
 
-reads_P10 : (levels : ℕ) (text : List ℕ) → Digits (ref (greatest P10)) levels 4294967295 text
-reads_P10 levels text =
+reads_behind_10 : (levels : ℕ) (text : List ℕ) → Digits (ref (greatest Behind10)) levels 4294967295 text
+reads_behind_10 levels text =
     let d = full_took levels 4294967295 text (omega arith) in
-    record { digits = d.digits; value = d.value; took = (production (greatest P10) whole).deep.took d.digits _ d.took }
+    record { digits = d.digits; value = d.value; took = (production (greatest Behind10) whole).deep.took d.digits _ d.took }
 
 -- a digit behind m within 32 bits
 fits_longer : (m c : ℕ) → nat_lt c 10 ≡ true → 10 * m + 9 < 2 ^ 32 → is_longer m c ≡ true
@@ -207,17 +207,17 @@ by_rule : (p : Place) (levels m : ℕ) (text : List ℕ) → Digits (rules (grea
 by_rule p levels m text d = record { digits = d.digits; value = d.value; took = (production (greatest p) (whole {N = ref (greatest p)} {levels = levels} {start = text})).deep.took d.digits _ d.took }
 
 -- the last digit
-reads_P9 : (levels : ℕ) (text : List ℕ) → Digits (ref (greatest P9)) levels 429496729 text
-reads_P9 levels text = by_rule P9 levels 429496729 text (last text)
+reads_behind_9 : (levels : ℕ) (text : List ℕ) → Digits (ref (greatest Behind9)) levels 429496729 text
+reads_behind_9 levels text = by_rule Behind9 levels 429496729 text (last text)
   where
-    last : (text : List ℕ) → Digits (rules (greatest P9)) levels 429496729 text
-    last [] = record { digits = []; value = refl; took = (other (whole {N = rules (greatest P9)} {levels = levels} {start = []}) refl refl).deep.took [] [] (none_took levels []) }
+    last : (text : List ℕ) → Digits (rules (greatest Behind9)) levels 429496729 text
+    last [] = record { digits = []; value = refl; took = (other (whole {N = rules (greatest Behind9)} {levels = levels} {start = []}) refl refl).deep.took [] [] (none_took levels []) }
     last (byte ∷ text) = go (nat_lt (code (sign byte)) 5) (code (sign byte) == 5) refl refl
       where
-        starts : Goes (rules (greatest P9)) levels (byte ∷ text) (rules (greatest P9)) levels (byte ∷ text) (λ v. v)
+        starts : Goes (rules (greatest Behind9)) levels (byte ∷ text) (rules (greatest Behind9)) levels (byte ∷ text) (λ v. v)
         starts = whole
 
-        go : (a b : Bool) → nat_lt (code (sign byte)) 5 ≡ a → (code (sign byte) == 5) ≡ b → Digits (rules (greatest P9)) levels 429496729 (byte ∷ text)
+        go : (a b : Bool) → nat_lt (code (sign byte)) 5 ≡ a → (code (sign byte) == 5) ≡ b → Digits (rules (greatest Behind9)) levels 429496729 (byte ∷ text)
         go true b i j =
             let low : code (sign byte) < 5 = ltb-true (code (sign byte)) 5 i in
             longer (rw (lt-ltb (code (sign byte)) 10 (omega arith), lt-ltb (10 * 429496729 + code (sign byte)) (2 ^ 32) (omega arith)) refl)
@@ -227,77 +227,77 @@ reads_P9 levels text = by_rule P9 levels 429496729 text (last text)
         go false true i j =
             let e : code (sign byte) ≡ 5 = eqb-true (code (sign byte)) 5 j in
             longer (rw e refl)
-            (λ ds rest t. (other (by_next starts refl byte text refl (inr (digit_begins (ref (greatest P10)) (λ x. code x == 5) j))) refl (rw i refl)).deep.took (byte ∷ ds) rest
-            (digit_took (ref (greatest P10)) levels (λ x. code x == 5) refl j ds rest t))
-            (subst (λ z. Digits (ref (greatest P10)) levels (10 * 429496729 + z) text) (sym e) (reads_P10 levels text))
+            (λ ds rest t. (other (by_next starts refl byte text refl (inr (digit_begins (ref (greatest Behind10)) (λ x. code x == 5) j))) refl (rw i refl)).deep.took (byte ∷ ds) rest
+            (digit_took (ref (greatest Behind10)) levels (λ x. code x == 5) refl j ds rest t))
+            (subst (λ z. Digits (ref (greatest Behind10)) levels (10 * 429496729 + z) text) (sym e) (reads_behind_10 levels text))
         go false false i j =
             let h : 5 < code (sign byte) = is_above (code (sign byte)) 5 i j in
             stops (rw (le-ltb (10 * 429496729 + code (sign byte)) (2 ^ 32) (omega arith)) (and-false (nat_lt (code (sign byte)) 10)))
             ((other starts refl (rw (i, j) refl)).deep.took [] (byte ∷ text) (none_took levels (byte ∷ text)))
 
-reads_P8 : (levels : ℕ) (text : List ℕ) → Digits (ref (greatest P8)) levels 42949672 text
-reads_P8 levels text =
-    by_rule P8 levels 42949672 text
-    (reads_beside P9 42949672 9 0 refl refl refl refl (omega arith) (omega arith)
+reads_behind_8 : (levels : ℕ) (text : List ℕ) → Digits (ref (greatest Behind8)) levels 42949672 text
+reads_behind_8 levels text =
+    by_rule Behind8 levels 42949672 text
+    (reads_beside Behind9 42949672 9 0 refl refl refl refl (omega arith) (omega arith)
     (λ c h. few_below 1 42949672 8 c h (ltb-true (most 1 (10 * 42949672 + 8)) (2 ^ 32) refl) (ltb-false (least 2 (10 * 42949672)) (2 ^ 32) refl))
     (λ c h l. few_above 0 42949672 9 c h l (ltb-true (most 0 (10 * 42949672 + 9)) (2 ^ 32) refl) (ltb-false (least 1 (10 * 42949672 + 9 + 1)) (2 ^ 32) refl))
-    levels (λ t. reads_P9 levels t) text)
+    levels (λ t. reads_behind_9 levels t) text)
 
-reads_P7 : (levels : ℕ) (text : List ℕ) → Digits (ref (greatest P7)) levels 4294967 text
-reads_P7 levels text =
-    by_rule P7 levels 4294967 text
-    (reads_beside P8 4294967 2 1 refl refl refl refl (omega arith) (omega arith)
+reads_behind_7 : (levels : ℕ) (text : List ℕ) → Digits (ref (greatest Behind7)) levels 4294967 text
+reads_behind_7 levels text =
+    by_rule Behind7 levels 4294967 text
+    (reads_beside Behind8 4294967 2 1 refl refl refl refl (omega arith) (omega arith)
     (λ c h. few_below 2 4294967 1 c h (ltb-true (most 2 (10 * 4294967 + 1)) (2 ^ 32) refl) (ltb-false (least 3 (10 * 4294967)) (2 ^ 32) refl))
     (λ c h l. few_above 1 4294967 2 c h l (ltb-true (most 1 (10 * 4294967 + 9)) (2 ^ 32) refl) (ltb-false (least 2 (10 * 4294967 + 2 + 1)) (2 ^ 32) refl))
-    levels (λ t. reads_P8 levels t) text)
+    levels (λ t. reads_behind_8 levels t) text)
 
-reads_P6 : (levels : ℕ) (text : List ℕ) → Digits (ref (greatest P6)) levels 429496 text
-reads_P6 levels text =
-    by_rule P6 levels 429496 text
-    (reads_beside P7 429496 7 2 refl refl refl refl (omega arith) (omega arith)
+reads_behind_6 : (levels : ℕ) (text : List ℕ) → Digits (ref (greatest Behind6)) levels 429496 text
+reads_behind_6 levels text =
+    by_rule Behind6 levels 429496 text
+    (reads_beside Behind7 429496 7 2 refl refl refl refl (omega arith) (omega arith)
     (λ c h. few_below 3 429496 6 c h (ltb-true (most 3 (10 * 429496 + 6)) (2 ^ 32) refl) (ltb-false (least 4 (10 * 429496)) (2 ^ 32) refl))
     (λ c h l. few_above 2 429496 7 c h l (ltb-true (most 2 (10 * 429496 + 9)) (2 ^ 32) refl) (ltb-false (least 3 (10 * 429496 + 7 + 1)) (2 ^ 32) refl))
-    levels (λ t. reads_P7 levels t) text)
+    levels (λ t. reads_behind_7 levels t) text)
 
-reads_P5 : (levels : ℕ) (text : List ℕ) → Digits (ref (greatest P5)) levels 42949 text
-reads_P5 levels text =
-    by_rule P5 levels 42949 text
-    (reads_beside P6 42949 6 3 refl refl refl refl (omega arith) (omega arith)
+reads_behind_5 : (levels : ℕ) (text : List ℕ) → Digits (ref (greatest Behind5)) levels 42949 text
+reads_behind_5 levels text =
+    by_rule Behind5 levels 42949 text
+    (reads_beside Behind6 42949 6 3 refl refl refl refl (omega arith) (omega arith)
     (λ c h. few_below 4 42949 5 c h (ltb-true (most 4 (10 * 42949 + 5)) (2 ^ 32) refl) (ltb-false (least 5 (10 * 42949)) (2 ^ 32) refl))
     (λ c h l. few_above 3 42949 6 c h l (ltb-true (most 3 (10 * 42949 + 9)) (2 ^ 32) refl) (ltb-false (least 4 (10 * 42949 + 6 + 1)) (2 ^ 32) refl))
-    levels (λ t. reads_P6 levels t) text)
+    levels (λ t. reads_behind_6 levels t) text)
 
-reads_P4 : (levels : ℕ) (text : List ℕ) → Digits (ref (greatest P4)) levels 4294 text
-reads_P4 levels text =
-    by_rule P4 levels 4294 text
-    (reads_beside P5 4294 9 4 refl refl refl refl (omega arith) (omega arith)
+reads_behind_4 : (levels : ℕ) (text : List ℕ) → Digits (ref (greatest Behind4)) levels 4294 text
+reads_behind_4 levels text =
+    by_rule Behind4 levels 4294 text
+    (reads_beside Behind5 4294 9 4 refl refl refl refl (omega arith) (omega arith)
     (λ c h. few_below 5 4294 8 c h (ltb-true (most 5 (10 * 4294 + 8)) (2 ^ 32) refl) (ltb-false (least 6 (10 * 4294)) (2 ^ 32) refl))
     (λ c h l. few_above 4 4294 9 c h l (ltb-true (most 4 (10 * 4294 + 9)) (2 ^ 32) refl) (ltb-false (least 5 (10 * 4294 + 9 + 1)) (2 ^ 32) refl))
-    levels (λ t. reads_P5 levels t) text)
+    levels (λ t. reads_behind_5 levels t) text)
 
-reads_P3 : (levels : ℕ) (text : List ℕ) → Digits (ref (greatest P3)) levels 429 text
-reads_P3 levels text =
-    by_rule P3 levels 429 text
-    (reads_beside P4 429 4 5 refl refl refl refl (omega arith) (omega arith)
+reads_behind_3 : (levels : ℕ) (text : List ℕ) → Digits (ref (greatest Behind3)) levels 429 text
+reads_behind_3 levels text =
+    by_rule Behind3 levels 429 text
+    (reads_beside Behind4 429 4 5 refl refl refl refl (omega arith) (omega arith)
     (λ c h. few_below 6 429 3 c h (ltb-true (most 6 (10 * 429 + 3)) (2 ^ 32) refl) (ltb-false (least 7 (10 * 429)) (2 ^ 32) refl))
     (λ c h l. few_above 5 429 4 c h l (ltb-true (most 5 (10 * 429 + 9)) (2 ^ 32) refl) (ltb-false (least 6 (10 * 429 + 4 + 1)) (2 ^ 32) refl))
-    levels (λ t. reads_P4 levels t) text)
+    levels (λ t. reads_behind_4 levels t) text)
 
-reads_P2 : (levels : ℕ) (text : List ℕ) → Digits (ref (greatest P2)) levels 42 text
-reads_P2 levels text =
-    by_rule P2 levels 42 text
-    (reads_beside P3 42 9 6 refl refl refl refl (omega arith) (omega arith)
+reads_behind_2 : (levels : ℕ) (text : List ℕ) → Digits (ref (greatest Behind2)) levels 42 text
+reads_behind_2 levels text =
+    by_rule Behind2 levels 42 text
+    (reads_beside Behind3 42 9 6 refl refl refl refl (omega arith) (omega arith)
     (λ c h. few_below 7 42 8 c h (ltb-true (most 7 (10 * 42 + 8)) (2 ^ 32) refl) (ltb-false (least 8 (10 * 42)) (2 ^ 32) refl))
     (λ c h l. few_above 6 42 9 c h l (ltb-true (most 6 (10 * 42 + 9)) (2 ^ 32) refl) (ltb-false (least 7 (10 * 42 + 9 + 1)) (2 ^ 32) refl))
-    levels (λ t. reads_P3 levels t) text)
+    levels (λ t. reads_behind_3 levels t) text)
 
-reads_P1 : (levels : ℕ) (text : List ℕ) → Digits (ref (greatest P1)) levels 4 text
-reads_P1 levels text =
-    by_rule P1 levels 4 text
-    (reads_beside P2 4 2 7 refl refl refl refl (omega arith) (omega arith)
+reads_behind_1 : (levels : ℕ) (text : List ℕ) → Digits (ref (greatest Behind1)) levels 4 text
+reads_behind_1 levels text =
+    by_rule Behind1 levels 4 text
+    (reads_beside Behind2 4 2 7 refl refl refl refl (omega arith) (omega arith)
     (λ c h. few_below 8 4 1 c h (ltb-true (most 8 (10 * 4 + 1)) (2 ^ 32) refl) (ltb-false (least 9 (10 * 4)) (2 ^ 32) refl))
     (λ c h l. few_above 7 4 2 c h l (ltb-true (most 7 (10 * 4 + 9)) (2 ^ 32) refl) (ltb-false (least 8 (10 * 4 + 2 + 1)) (2 ^ 32) refl))
-    levels (λ t. reads_P2 levels t) text)
+    levels (λ t. reads_behind_2 levels t) text)
 
 -- ---- numbers
 
@@ -327,10 +327,10 @@ module _ {N : F ℕ} {room levels : ℕ} {start : List ℕ} (byte : ℕ) (text :
       go : (b : Bool) → (code (sign byte) == 4) ≡ b → Took (free N) (bounded room N) start (longest (code (sign byte)) text).0 (longest (code (sign byte)) text).1
       go true i =
           let e : code (sign byte) ≡ 4 = eqb-true (code (sign byte)) 4 i in
-          let d : Digits (ref (greatest P1)) levels (code (sign byte)) text = subst (λ z. Digits (ref (greatest P1)) levels z text) (sym e) (reads_P1 levels text) in
+          let d : Digits (ref (greatest Behind1)) levels (code (sign byte)) text = subst (λ z. Digits (ref (greatest Behind1)) levels z text) (sym e) (reads_behind_1 levels text) in
           number_of N room start byte d.digits _ _ d.value
-          ((by_next l refl byte text refl (digit_begins (ref (greatest P1)) (λ x. code x == 4) i)).deep.took (byte ∷ d.digits) _
-          (digit_took (ref (greatest P1)) levels (λ x. code x == 4) refl i d.digits _ d.took))
+          ((by_next l refl byte text refl (digit_begins (ref (greatest Behind1)) (λ x. code x == 4) i)).deep.took (byte ∷ d.digits) _
+          (digit_took (ref (greatest Behind1)) levels (λ x. code x == 4) refl i d.digits _ d.took))
       go false i =
           let low : code (sign byte) < 10 = ltb-true (code (sign byte)) 10 k in
           let h : 4 < code (sign byte) = is_above (code (sign byte)) 4 j i in
@@ -475,7 +475,7 @@ count_front byte e = (produced grammar None count).there.front (byte ∷ []) (go
         let more : 1 < code (sign byte) = is_above (code (sign byte)) 1 (le-ltb (code (sign byte)) 1 (omega (arith, positive))) i in
         let p : (nat_lt 1 (code (sign byte)) && nat_lt (code (sign byte)) 4) ≡ true = rw (lt-ltb 1 (code (sign byte)) more, j) refl in
         inr (inl (digit_begins (ref (upto 9)) (λ x. nat_lt 1 (code x) && nat_lt (code x) 4) p))
-    go false false true i j k = inr (inr (inl (digit_begins (ref (greatest P1)) (λ x. code x == 4) k)))
+    go false false true i j k = inr (inr (inl (digit_begins (ref (greatest Behind1)) (λ x. code x == 4) k)))
     go false false false i j k =
         let more : 4 < code (sign byte) = is_above (code (sign byte)) 4 j k in
         let p : (nat_lt 4 (code (sign byte)) && nat_lt (code (sign byte)) 10) ≡ true = rw (lt-ltb 4 (code (sign byte)) more, low) refl in

@@ -10,7 +10,7 @@ use Rattle.proof_text.specs.Signs as s
 use Rattle.proof_text.specs.Signs.{Sign, code, sign, signs}
 use Rattle.proof_text.specs.declared.path.Last.TheVariants as last
 use Rattle.proof_text.specs.RuleNames.{names, mul_names, squash_names, sum_names, not_names, eq_names, s_names}
-use Rattle.proof_text.specs.Grammar.{P1, P2, P3, P4, P5, P6, P7, P8, P9, P10, Name, term, value, arguments, number, upto, greatest, count, runs, use_of_rule, line, header, outs, Tree, rules, table}
+use Rattle.proof_text.specs.Grammar.{Behind1, Behind2, Behind3, Behind4, Behind5, Behind6, Behind7, Behind8, Behind9, Behind10, Name, term, value, arguments, number, upto, greatest, count, runs, use_of_rule, line, Tree, rules, table}
 
 -- the tests of the signs after the first n
 abbrev after : (Sign → Bool) → ℕ → List Sign → Bool
@@ -24,16 +24,16 @@ passed p (suc n) [] e = refl
 passed p (suc n) (x ∷ ks) e = passed p n ks (and_right (p x) (list_all p ks) e)
 
 pub every : AreAll signs
-every p e s.D0 = and_left (p s.D0) (after p 1 signs) (passed p 0 signs e)
-every p e s.D1 = and_left (p s.D1) (after p 2 signs) (passed p 1 signs e)
-every p e s.D2 = and_left (p s.D2) (after p 3 signs) (passed p 2 signs e)
-every p e s.D3 = and_left (p s.D3) (after p 4 signs) (passed p 3 signs e)
-every p e s.D4 = and_left (p s.D4) (after p 5 signs) (passed p 4 signs e)
-every p e s.D5 = and_left (p s.D5) (after p 6 signs) (passed p 5 signs e)
-every p e s.D6 = and_left (p s.D6) (after p 7 signs) (passed p 6 signs e)
-every p e s.D7 = and_left (p s.D7) (after p 8 signs) (passed p 7 signs e)
-every p e s.D8 = and_left (p s.D8) (after p 9 signs) (passed p 8 signs e)
-every p e s.D9 = and_left (p s.D9) (after p 10 signs) (passed p 9 signs e)
+every p e s.Digit0 = and_left (p s.Digit0) (after p 1 signs) (passed p 0 signs e)
+every p e s.Digit1 = and_left (p s.Digit1) (after p 2 signs) (passed p 1 signs e)
+every p e s.Digit2 = and_left (p s.Digit2) (after p 3 signs) (passed p 2 signs e)
+every p e s.Digit3 = and_left (p s.Digit3) (after p 4 signs) (passed p 3 signs e)
+every p e s.Digit4 = and_left (p s.Digit4) (after p 5 signs) (passed p 4 signs e)
+every p e s.Digit5 = and_left (p s.Digit5) (after p 6 signs) (passed p 5 signs e)
+every p e s.Digit6 = and_left (p s.Digit6) (after p 7 signs) (passed p 6 signs e)
+every p e s.Digit7 = and_left (p s.Digit7) (after p 8 signs) (passed p 7 signs e)
+every p e s.Digit8 = and_left (p s.Digit8) (after p 9 signs) (passed p 8 signs e)
+every p e s.Digit9 = and_left (p s.Digit9) (after p 10 signs) (passed p 9 signs e)
 every p e s.Plus = and_left (p s.Plus) (after p 11 signs) (passed p 10 signs e)
 every p e s.Star = and_left (p s.Star) (after p 12 signs) (passed p 11 signs e)
 every p e s.Hash = and_left (p s.Hash) (after p 13 signs) (passed p 12 signs e)
@@ -88,16 +88,16 @@ right arguments = refl
 right number = refl
 right (upto zero) = refl
 right (upto (suc n)) = refl
-right (greatest P1) = refl
-right (greatest P2) = refl
-right (greatest P3) = refl
-right (greatest P4) = refl
-right (greatest P5) = refl
-right (greatest P6) = refl
-right (greatest P7) = refl
-right (greatest P8) = refl
-right (greatest P9) = refl
-right (greatest P10) = refl
+right (greatest Behind1) = refl
+right (greatest Behind2) = refl
+right (greatest Behind3) = refl
+right (greatest Behind4) = refl
+right (greatest Behind5) = refl
+right (greatest Behind6) = refl
+right (greatest Behind7) = refl
+right (greatest Behind8) = refl
+right (greatest Behind9) = refl
+right (greatest Behind10) = refl
 right count = refl
 right (runs last.Other) = refl
 right (runs last.Left) = refl
@@ -105,8 +105,6 @@ right (runs last.Right) = refl
 right (runs last.Inside) = refl
 right use_of_rule = refl
 right line = refl
-right header = refl
-right outs = refl
 
 abbrev pub grammar : PredictiveGrammar ℕ Sign Name Tree
 grammar = record { kind = sign; kinds = signs; every = every; rules = rules; table = table; right = right }

@@ -30,16 +30,16 @@ pub term_front : (byte : ℕ) → begins_term (sign byte) ≡ true → (free (ru
 term_front byte h = go (sign byte) refl h
   where
     go : (k : Sign) → sign byte ≡ k → begins_term k ≡ true → (free (rules term)).front (byte ∷ [])
-    go s.D0 e h = inl (inr (byte, refl, rw e refl))
-    go s.D1 e h = inr (inl (inr (byte, refl, rw e refl)))
-    go s.D2 e h = cc
-    go s.D3 e h = cc
-    go s.D4 e h = cc
-    go s.D5 e h = cc
-    go s.D6 e h = cc
-    go s.D7 e h = cc
-    go s.D8 e h = cc
-    go s.D9 e h = cc
+    go s.Digit0 e h = inl (inr (byte, refl, rw e refl))
+    go s.Digit1 e h = inr (inl (inr (byte, refl, rw e refl)))
+    go s.Digit2 e h = cc
+    go s.Digit3 e h = cc
+    go s.Digit4 e h = cc
+    go s.Digit5 e h = cc
+    go s.Digit6 e h = cc
+    go s.Digit7 e h = cc
+    go s.Digit8 e h = cc
+    go s.Digit9 e h = cc
     go s.Plus e h = inr (inr (inl (inl (inr (byte, refl, rw e refl)))))
     go s.Star e h = inr (inr (inr (inl (inl (inr (byte, refl, rw e refl))))))
     go s.Hash e h = inr (inr (inr (inr (inl (inl (inr (byte, refl, rw e refl)))))))
@@ -90,16 +90,16 @@ pub value_front : (byte : ℕ) → begins_value (sign byte) ≡ true → (free (
 value_front byte h = go (sign byte) refl h
   where
     go : (k : Sign) → sign byte ≡ k → begins_value k ≡ true → (free (rules value)).front (byte ∷ [])
-    go s.D0 e h = cc
-    go s.D1 e h = cc
-    go s.D2 e h = cc
-    go s.D3 e h = cc
-    go s.D4 e h = cc
-    go s.D5 e h = cc
-    go s.D6 e h = cc
-    go s.D7 e h = cc
-    go s.D8 e h = cc
-    go s.D9 e h = cc
+    go s.Digit0 e h = cc
+    go s.Digit1 e h = cc
+    go s.Digit2 e h = cc
+    go s.Digit3 e h = cc
+    go s.Digit4 e h = cc
+    go s.Digit5 e h = cc
+    go s.Digit6 e h = cc
+    go s.Digit7 e h = cc
+    go s.Digit8 e h = cc
+    go s.Digit9 e h = cc
     go s.Plus e h = cc
     go s.Star e h = cc
     go s.Hash e h = cc
@@ -252,16 +252,16 @@ module _ (levels : ℕ) (term_read : Rest → Reading U) (value_read : Rest → 
     term_inner = record { deep = term_there.deep; any = term_there.any }
 
     pub reads_term_with : (k : Sign) → sign byte ≡ k → begins_term k ≡ true → Outcome (ref term) (suc levels) (byte ∷ text) (term_with term_read value_read k here)
-    reads_term_with s.D0 e h = (mapped {k = λ t. u.Zero} {f = of_code 0} (first term_inner refl (rw e refl))).deep.took byte text (takes levels (λ x. code x == 0) byte text (rw e refl))
-    reads_term_with s.D1 e h = (mapped {k = λ t. u.One} {f = of_code 1} (first (other term_inner refl (rw e refl)) refl (rw e refl))).deep.took byte text (takes levels (λ x. code x == 1) byte text (rw e refl))
-    reads_term_with s.D2 e h = cc
-    reads_term_with s.D3 e h = cc
-    reads_term_with s.D4 e h = cc
-    reads_term_with s.D5 e h = cc
-    reads_term_with s.D6 e h = cc
-    reads_term_with s.D7 e h = cc
-    reads_term_with s.D8 e h = cc
-    reads_term_with s.D9 e h = cc
+    reads_term_with s.Digit0 e h = (mapped {k = λ t. u.Zero} {f = of_code 0} (first term_inner refl (rw e refl))).deep.took byte text (takes levels (λ x. code x == 0) byte text (rw e refl))
+    reads_term_with s.Digit1 e h = (mapped {k = λ t. u.One} {f = of_code 1} (first (other term_inner refl (rw e refl)) refl (rw e refl))).deep.took byte text (takes levels (λ x. code x == 1) byte text (rw e refl))
+    reads_term_with s.Digit2 e h = cc
+    reads_term_with s.Digit3 e h = cc
+    reads_term_with s.Digit4 e h = cc
+    reads_term_with s.Digit5 e h = cc
+    reads_term_with s.Digit6 e h = cc
+    reads_term_with s.Digit7 e h = cc
+    reads_term_with s.Digit8 e h = cc
+    reads_term_with s.Digit9 e h = cc
     reads_term_with s.Plus e h = ends_in (second (mapped {k = λ p. p.1} {f = seq (of_code 10) (pair (ref term))} (mapped {k = λ p. u.Add p.0 p.1} {f = skip_then (of_code 10) (pair (ref term))} (first (other (other term_inner refl (rw e refl)) refl (rw e refl)) refl (rw e refl)))) refl byte text (takes levels (λ x. code x == 10) byte text (rw e refl))) (pair_of term_read here) (reads_within (seq (ref term) (skip_then (of_code 22) (ref term))) levels (both term_read) (reads_both (ref term) levels term_read terms refl refl) refl refl here)
     reads_term_with s.Star e h = ends_in (second (mapped {k = λ p. p.1} {f = seq (of_code 11) (pair (ref term))} (mapped {k = λ p. u.Mul p.0 p.1} {f = skip_then (of_code 11) (pair (ref term))} (first (other (other (other term_inner refl (rw e refl)) refl (rw e refl)) refl (rw e refl)) refl (rw e refl)))) refl byte text (takes levels (λ x. code x == 11) byte text (rw e refl))) (pair_of term_read here) (reads_within (seq (ref term) (skip_then (of_code 22) (ref term))) levels (both term_read) (reads_both (ref term) levels term_read terms refl refl) refl refl here)
     reads_term_with s.Hash e h = ends_in (second (mapped {k = λ p. p.1} {f = seq (of_code 12) (g.within (ref term))} (mapped {k = λ a. u.Squash a} {f = skip_then (of_code 12) (g.within (ref term))} (first (other (other (other (other term_inner refl (rw e refl)) refl (rw e refl)) refl (rw e refl)) refl (rw e refl)) refl (rw e refl)))) refl byte text (takes levels (λ x. code x == 12) byte text (rw e refl))) (within term_read here) (reads_within (ref term) levels term_read terms refl refl here)
@@ -315,16 +315,16 @@ module _ (levels : ℕ) (term_read : Rest → Reading U) (value_read : Rest → 
     value_inner = record { deep = value_there.deep; any = value_there.any }
 
     pub reads_value_with : (k : Sign) → sign byte ≡ k → begins_value k ≡ true → Outcome (ref value) (suc levels) (byte ∷ text) (value_with term_read value_read k here)
-    reads_value_with s.D0 e h = cc
-    reads_value_with s.D1 e h = cc
-    reads_value_with s.D2 e h = cc
-    reads_value_with s.D3 e h = cc
-    reads_value_with s.D4 e h = cc
-    reads_value_with s.D5 e h = cc
-    reads_value_with s.D6 e h = cc
-    reads_value_with s.D7 e h = cc
-    reads_value_with s.D8 e h = cc
-    reads_value_with s.D9 e h = cc
+    reads_value_with s.Digit0 e h = cc
+    reads_value_with s.Digit1 e h = cc
+    reads_value_with s.Digit2 e h = cc
+    reads_value_with s.Digit3 e h = cc
+    reads_value_with s.Digit4 e h = cc
+    reads_value_with s.Digit5 e h = cc
+    reads_value_with s.Digit6 e h = cc
+    reads_value_with s.Digit7 e h = cc
+    reads_value_with s.Digit8 e h = cc
+    reads_value_with s.Digit9 e h = cc
     reads_value_with s.Plus e h = cc
     reads_value_with s.Star e h = cc
     reads_value_with s.Hash e h = cc

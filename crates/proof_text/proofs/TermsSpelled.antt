@@ -260,8 +260,8 @@ module _ (levels : ℕ) (term_read : Rest → Reading U) (value_read : Rest → 
   term_with_has : (k : Sign) (byte : ℕ) → sign byte ≡ k → (all x : List ℕ) (rest : Rest) → all ≡ (x ++ byte ∷ []) ++ rest.text
       → Spelt all (λ a. x ++ term_text a) (IsTermOf (suc levels) (1 + rest.nodes)) (term_with term_read value_read k rest)
   unfolding term_text nodes depth HasWords constructors
-  term_with_has s.D0 byte e all x rest i = record { text = rw (letter 48 byte s.D0 e refl refl) at i; is = record { words = tt; shallow = omega arith; count = refl } }
-  term_with_has s.D1 byte e all x rest i = record { text = rw (letter 49 byte s.D1 e refl refl) at i; is = record { words = tt; shallow = omega arith; count = refl } }
+  term_with_has s.Digit0 byte e all x rest i = record { text = rw (letter 48 byte s.Digit0 e refl refl) at i; is = record { words = tt; shallow = omega arith; count = refl } }
+  term_with_has s.Digit1 byte e all x rest i = record { text = rw (letter 49 byte s.Digit1 e refl refl) at i; is = record { words = tt; shallow = omega arith; count = refl } }
   term_with_has s.Plus byte e all x rest i =
       gives_spelt all (λ p. (x ++ 43 ∷ []) ++ (40 ∷ (term_text p.0 ++ (44 ∷ (term_text p.1 ++ 41 ∷ []))))) (TwoOf (IsTermOf levels) rest.nodes) (λ a. x ++ term_text a) (IsTermOf (suc levels) (1 + rest.nodes)) (pair_of term_read rest) (λ p. u.Add p.0 p.1)
       (pair_has term_text (IsTermOf levels) term_read terms all (x ++ 43 ∷ []) rest (rw (letter 43 byte s.Plus e refl refl) at i))

@@ -1,6 +1,4 @@
 -- The text of proofs as a grammar over bytes: the lines, terms and values. It reads as the format is published:
---     header      udp-proof VERSION
---     outs        outs WIDTH
 --     line        /RUNS DIR RULE ARG ARG, or }, or end; a line of sq_fix ends with {
 --     runs        l, r or i alone or with a count of at least 2, no two alike beside each other; a with a number
 --     term        0, 1, +(x,y), *(x,y), #(x), !(x), S(x), R3(v,v), =(v,v), P0(v,v)
@@ -33,16 +31,16 @@ use Rattle.proof_text.specs.RuleNames.{Names, found, word, either, names, kinds_
 
 -- how many digits of the greatest number were read
 pub data Place : Type 0 where
-  P1 : Place
-  P2 : Place
-  P3 : Place
-  P4 : Place
-  P5 : Place
-  P6 : Place
-  P7 : Place
-  P8 : Place
-  P9 : Place
-  P10 : Place
+  Behind1 : Place
+  Behind2 : Place
+  Behind3 : Place
+  Behind4 : Place
+  Behind5 : Place
+  Behind6 : Place
+  Behind7 : Place
+  Behind8 : Place
+  Behind9 : Place
+  Behind10 : Place
 
 pub data Name : Type 0 where
   term : Name
@@ -60,8 +58,6 @@ pub data Name : Type 0 where
   -- a rule, its arguments, and the end of the line
   use_of_rule : Name
   line : Name
-  header : Name
-  outs : Name
 
 abbrev pub Tree : Name → Type 0
 Tree term = U
@@ -74,8 +70,6 @@ Tree count = ℕ
 Tree (runs l) = List Run
 Tree use_of_rule = Rule × List Arg
 Tree line = LineStep
-Tree header = ℕ
-Tree outs = ℕ
 
 abbrev pub F : Type 0 → Type 1
 F A = Form ℕ Sign Name Tree A
@@ -123,7 +117,7 @@ value_of = fold (λ m byte. 10 * m + code (sign byte)) 0
 
 -- a number of two digits or more that begins with 1 to 3, one that begins with 4, and with 5 to 9
 abbrev pub from_four : F (List ℕ)
-from_four = alt (digit_then (of_code 4) (ref (greatest P1))) (digit_then (above 4) (ref (upto 8)))
+from_four = alt (digit_then (of_code 4) (ref (greatest Behind1))) (digit_then (above 4) (ref (upto 8)))
 
 -- ---- terms and values
 -- ( .. )
@@ -139,8 +133,8 @@ or_none (Some p) = p.0 ∷ p.1
 
 abbrev pub term_form : F U
 term_form =
-    alt (map (λ t. u.Zero) (the s.D0)) (
-    alt (map (λ t. u.One) (the s.D1)) (
+    alt (map (λ t. u.Zero) (the s.Digit0)) (
+    alt (map (λ t. u.One) (the s.Digit1)) (
     alt (map (λ p. u.Add p.0 p.1) (skip_then (the s.Plus) (pair (ref term)))) (
     alt (map (λ p. u.Mul p.0 p.1) (skip_then (the s.Star) (pair (ref term)))) (
     alt (map (λ a. u.Squash a) (skip_then (the s.Hash) (within (ref term)))) (
@@ -231,16 +225,16 @@ rules arguments = map or_none (within (optional (separated None (the s.Comma) (r
 rules number = map value_of (alt (map (λ t. t ∷ []) (of_code 0)) (alt (digit_then (between 0 4) (ref (upto 9))) from_four))
 rules (upto zero) = no_digits
 rules (upto (suc n)) = alt (digit_then (below 10) (ref (upto n))) no_digits
-rules (greatest P1) = alt (beside 2 7 P2) no_digits
-rules (greatest P2) = alt (beside 9 6 P3) no_digits
-rules (greatest P3) = alt (beside 4 5 P4) no_digits
-rules (greatest P4) = alt (beside 9 4 P5) no_digits
-rules (greatest P5) = alt (beside 6 3 P6) no_digits
-rules (greatest P6) = alt (beside 7 2 P7) no_digits
-rules (greatest P7) = alt (beside 2 1 P8) no_digits
-rules (greatest P8) = alt (beside 9 0 P9) no_digits
-rules (greatest P9) = alt (alt (digit_then (below 5) (ref (upto 0))) (digit_then (of_code 5) (ref (greatest P10)))) no_digits
-rules (greatest P10) = no_digits
+rules (greatest Behind1) = alt (beside 2 7 Behind2) no_digits
+rules (greatest Behind2) = alt (beside 9 6 Behind3) no_digits
+rules (greatest Behind3) = alt (beside 4 5 Behind4) no_digits
+rules (greatest Behind4) = alt (beside 9 4 Behind5) no_digits
+rules (greatest Behind5) = alt (beside 6 3 Behind6) no_digits
+rules (greatest Behind6) = alt (beside 7 2 Behind7) no_digits
+rules (greatest Behind7) = alt (beside 2 1 Behind8) no_digits
+rules (greatest Behind8) = alt (beside 9 0 Behind9) no_digits
+rules (greatest Behind9) = alt (alt (digit_then (below 5) (ref (upto 0))) (digit_then (of_code 5) (ref (greatest Behind10)))) no_digits
+rules (greatest Behind10) = no_digits
 rules count =
     map value_of (alt (digit_then (of_code 1) (digit_then (below 10) (ref (upto 8)))) (alt (digit_then (between 1 4) (ref (upto 9))) from_four))
 rules (runs last.Other) = alt lefts (alt rights (alt insides (alt an_argument no_run)))
@@ -250,8 +244,6 @@ rules (runs last.Inside) = alt lefts (alt rights (alt an_argument no_run))
 rules use_of_rule = named names
 rules line =
     alt step_line (alt (map (λ t. Closes) (skip_then (the s.CloseBrace) line_feed)) (map (λ t. Ends) (spelled (codes "end") line_feed)))
-rules header = spelled (codes "udp-proof ") (then_skip (ref number) line_feed)
-rules outs = spelled (codes "outs ") (then_skip (ref number) line_feed)
 
 -- ---- what one byte tells
 abbrev pub is_digit : Sign → Bool
@@ -283,5 +275,3 @@ table count = record { nullable = false; first = (λ k. nat_lt 0 (code k) && is_
 table (runs l) = record { nullable = true; first = begins_run; last = (λ k. is_digit k || begins_run k) }
 table use_of_rule = record { nullable = false; first = begins_name; last = no_kind }
 table line = record { nullable = false; first = (λ k. is_the s.Slash k || is_the s.CloseBrace k || is_the s.SmallE k); last = no_kind }
-table header = record { nullable = false; first = is_the s.SmallU; last = no_kind }
-table outs = record { nullable = false; first = is_the s.SmallO; last = no_kind }

@@ -125,8 +125,8 @@ numbered f built rest = number_at rest >>= λ n r. f r >>= λ a r. (Ok (built n 
 
 -- the term that begins with this sign, which was passed
 abbrev pub term_with : (Rest → Reading U) → (Rest → Reading Val) → Sign → Rest → Reading U
-term_with term value s.D0 rest = (Ok u.Zero, rest)
-term_with term value s.D1 rest = (Ok u.One, rest)
+term_with term value s.Digit0 rest = (Ok u.Zero, rest)
+term_with term value s.Digit1 rest = (Ok u.One, rest)
 term_with term value s.Plus rest = pair_of term rest >>= λ p r. (Ok (u.Add p.0 p.1), r)
 term_with term value s.Star rest = pair_of term rest >>= λ p r. (Ok (u.Mul p.0 p.1), r)
 term_with term value s.Hash rest = within term rest >>= λ a r. (Ok (u.Squash a), r)
@@ -264,7 +264,3 @@ if_over (byte ∷ text) a rest = bad rest
 
 abbrev pub alone : {A : Type 0} → (Rest → Reading A) → Rest → Reading A
 alone f rest = f rest >>= λ a r. if_over r.text a r
-
--- a word, a number and the line feed
-abbrev pub number_line_at : List ℕ → Rest → Reading ℕ
-number_line_at bytes rest = word_at bytes rest >>= λ o r. number_at r >>= λ n r. expected (code s.Newline) r >>= λ o r. (Ok n, r)

@@ -2,13 +2,12 @@
 ghost use Rattle.std.specs.Prelude.{◌≡◌, [], codes};
 ghost use Rattle.u_deriv.specs.declared.step.Step.{roll-Step};
 ghost use Rattle.proof_text.specs.Grammar.{made, with_inner};
-ghost use Rattle.proof_text.specs.Reading.{Gives, alone, direction_at, end_at, line_at, number_line_at, step_at};
+ghost use Rattle.proof_text.specs.Reading.{Gives, alone, direction_at, end_at, line_at, step_at};
 
 use crate::argument::arguments;
 use crate::cursor::{Cursor, Stop};
 use crate::kinds::{has_inner, kinds_of};
 use crate::line::LineStep;
-use crate::number::number;
 use crate::path::path;
 use crate::rule_name::{rule, word};
 use crate::sign::Sign;
@@ -95,14 +94,4 @@ pub fn whole_line(alloc: Global, cursor: &mut Cursor<'_>) -> Result<LineStep, St
         return Err(Stop::Unexpected);
     }
     Ok(line)
-}
-
-// These bytes, a number and the line feed.
-fn number_line(cursor: &mut Cursor<'_>, bytes: &[u8]) -> Result<u32, Stop>
-    ensures { Gives result cursor.new (number_line_at bytes.now cursor.old) }
-{
-    word(cursor, bytes)?;
-    let number = number(cursor)?;
-    cursor.expect(Sign::Newline)?;
-    Ok(number)
 }

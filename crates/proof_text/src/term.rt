@@ -42,8 +42,8 @@ fn term_from(alloc: Global, cursor: &mut Cursor<'_>, first: Sign, levels: u32) -
     ensures { Gives result cursor.new (term_with (term_at levels) (value_at levels) first cursor.old) }
 {
     match first {
-        Sign::D0 => Ok(U::Zero),
-        Sign::D1 => Ok(U::One),
+        Sign::Digit0 => Ok(U::Zero),
+        Sign::Digit1 => Ok(U::One),
         Sign::Plus => {
             let (left, right) = terms(alloc, cursor, levels)?;
             Ok(U::Add(left, right))
