@@ -14,4 +14,5 @@ pub mod SizeLaws
 pub mod FactorLaws
 pub mod TermLaws
 pub mod Weights
+pub mod QueryLaws
 pub mod Wholes

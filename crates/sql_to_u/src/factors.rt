@@ -56,7 +56,10 @@ fn sums(alloc: Global, count: u32, body: U) -> Result<U, NoMemory>
     Ok(term)
 }
 
-/// The greatest depth at which names are closed. No term within the limits comes near it, and one that did would be told as want of memory.
+/// The greatest name, count and depth with which names are closed. No term within the limits comes near them, and one that did would be told
+/// as want of memory.
+const MOST_NAMES: u32 = 1_000_000_000;
+
 const DEEPEST: u64 = 1_000_000_000;
 
 /// The sum over all values of the names from `first` on.
@@ -64,7 +67,7 @@ pub fn over_names(alloc: Global, first: u32, count: u32, body: U) -> Result<U, N
     ensures { IfOk result (λ u. u ≡ over_names first count body) }
 {
     let mut term = body;
-    if first > 1_000_000_000 || count > 1_000_000_000 || depth(&term) > DEEPEST {
+    if first > MOST_NAMES || count > MOST_NAMES || depth(&term) > DEEPEST {
         return Err(NoMemory);
     }
     close_path(&mut term, first, count);

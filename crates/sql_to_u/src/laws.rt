@@ -38,16 +38,20 @@ pub fn terms_are_closed()
     ensures { (views : List RQuery) (tree : RQuery) → IsClosed 0 (translation views tree) }
 {}
 
-/// The size that is reckoned from a tree and the trees of the views, where they fit, is that of the term.
-#[tactic(auto, using(crate::proofs::WholeSizes::laws))]
+/// The size that is reckoned from a tree and the trees of the views, where they fit, is that of the term: of well-formed queries too.
+#[tactic(auto, using(crate::proofs::WholeSizes::laws, crate::proofs::QueryLaws::laws))]
 pub fn sizes_are_those_of_terms()
-    ensures { (views : List RQuery) (tree : RQuery) →
+    ensures tree { (views : List RQuery) (tree : RQuery) →
         DoViewsFit [] views → FitsViews views tree → term_size (translation views tree) ≡ translation_size views tree }
+    ensures query { (schema : Schema) (query : Query) → SchemaWellFormed schema → WellFormed schema query →
+        term_size (translation (views_of schema) (tree_of schema query)) ≡ translation_size (views_of schema) (tree_of schema query) }
 {}
 
-/// The free names of a tree's term are those of its columns.
-#[tactic(auto, using(crate::proofs::FreeNames::laws))]
+/// The free names of a tree's term are those of its columns: of a well-formed query's too.
+#[tactic(auto, using(crate::proofs::FreeNames::laws, crate::proofs::QueryLaws::laws))]
 pub fn terms_are_free_below_their_width()
-    ensures { (views : List RQuery) (tree : RQuery) →
+    ensures tree { (views : List RQuery) (tree : RQuery) →
         DoViewsFit [] views → FitsViews views tree → IsFreeBelow (width tree) (translation views tree) }
+    ensures query { (schema : Schema) (query : Query) → SchemaWellFormed schema → WellFormed schema query →
+        IsFreeBelow (width (tree_of schema query)) (translation (views_of schema) (tree_of schema query)) }
 {}

@@ -136,6 +136,28 @@ fn views_within_views_are_translated_on_the_default_stack(rt: HostRuntime) -> Re
     Ok(())
 }
 
+/// 254 views over each other, each of four blocks within each other: more than a thousand blocks, and a depth of 2,038.
+#[test]
+fn the_deepest_walk_fits_the_default_stack(rt: HostRuntime) -> Result<(), Fail> {
+    let alloc = rt.alloc();
+    let mut text = String::new(alloc);
+    text.push_str("CREATE TABLE s (a INT);CREATE VIEW v0 AS SELECT a FROM s;")?;
+    for number in 1..255u32 {
+        let before = number - 1;
+        let view = format!(in alloc;
+            "CREATE VIEW v{number} AS SELECT a FROM (SELECT a FROM (SELECT a FROM (SELECT a FROM v{before}) t) t) t;"
+        )?;
+        text.push_str(view.as_str())?;
+    }
+    text.push_str("SELECT a FROM v254;SELECT a FROM v0;")?;
+    let told = told(&rt, alloc, text.as_str())?;
+    assert!(rt;
+        told.as_str()
+            .ends_with("\nS(*(S(*(R0(b0),=(b0,b1))),=(b0,f0)))")
+    );
+    Ok(())
+}
+
 /// A group's factors are built for its aggregates alone.
 #[test]
 fn a_group_without_aggregates_does_not_hold_its_members(rt: HostRuntime) -> Result<(), Fail> {
