@@ -4,8 +4,6 @@
 use Rattle.std.specs.Prelude.{ℕ, zero, suc, Bool, true, false, List, [], ◌∷◌, ◌++◌, codes, length}
 use Rattle.std.specs.List.{flat_map}
 use Rattle.std.specs.Fmt.{decimal}
-use mathlib.Core.Former.{Count as Length, this, arity}
-use Rattle.plain_data.specs.formers.list.List.{the_former}
 use Rattle.u_terms.specs.Syntax.{U, Zero, One, Add, Mul, Squash, Not, Sum, Rel, Eq, Pred, Val, Bound, Free, Lit, Fun, Agg, Vals, NoVals, ValThen, row_of}
 use Rattle.u_rules.specs.declared.rule.Arg.{Arg}
 use Rattle.u_rules.specs.declared.rule.Arg.TheVariants.{Term, Body, Value, Values, Num}
@@ -115,18 +113,12 @@ argument_text (Num m) = decimal m
 abbrev pub arguments_text : List Arg → List ℕ
 arguments_text = flat_map (λ arg. codes " " ++ argument_text arg)
 
--- / PATH DIR RULE ARG ARG
+-- a path, which begins with its slash, a direction, a rule and its arguments
 abbrev pub head_text : List Run → Bool → Rule → List Arg → List ℕ
 head_text path forward q args =
     path_text path ++ (codes " " ++ (direction_text forward ++ (codes " " ++ (rule_text q ++ arguments_text args))))
 
 -- ---- steps
-abbrev pub Shape : Type 0
-Shape = (the_former (this {0})).Shape
-
-abbrev pub long : Shape → Length
-long shape = arity (the_former (this {0})) shape
-
 -- what follows the head: the inner steps of `sq_fix` in braces
 abbrev pub tail_text : Rule → List ℕ → List ℕ
 tail_text rule.SqFix inner = codes " {" ++ (newline ++ (inner ++ (codes "}" ++ newline)))

@@ -21,18 +21,12 @@ pub record Replaced (outs : ℕ) (path : List Run) (before from to after : U) : 
   pub is_from : before ≡ filled context (closed_path from outs (binders context))
   pub is_to : after ≡ filled context (closed_path to outs (binders context))
 
--- in a context at the path `from` becomes `to`, as they stand
-pub record IsExchanged (path : List Run) (before from to after : U) : Type 0 where
-  pub context : Context
-  pub at_path : way context ≡ turns path
-  pub is_from : before ≡ filled context from
-  pub is_to : after ≡ filled context to
-
 -- the sides of an instance, in the direction of the step
 abbrev pub Sides : Facts → Bool → Step → U → U → Type 0
 Sides facts true step from to = Instance facts (out-Step step).rule (out-Step step).args from to
 Sides facts false step from to = Instance facts (out-Step step).rule (out-Step step).args to from
 
+-- one side of the instance becomes the other one, and the arguments have no names beside those of the term and of the binders on the path
 pub record Turned (facts : Facts) (outs : ℕ) (before : U) (step : Step) (after : U) : Type 0 where
   pub from : U
   pub to : U
@@ -41,7 +35,7 @@ pub record Turned (facts : Facts) (outs : ℕ) (before : U) (step : Step) (after
   pub named : AreNamed (outs + binders replaced.context) (out-Step step).args
 
 mutual
-  -- the step leads from the one term to the other, both with names below `outs`
+  -- the step leads from the one term to the other; it is meant for closed terms with names below `outs`
   pub data Rewrites (facts : Facts) : ℕ → U → Step → U → Type 0 where
     by_rule : {outs : ℕ} {before : U} {step : Step} {after : U}
         → Turned facts outs before step after
