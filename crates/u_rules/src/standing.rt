@@ -22,6 +22,7 @@ use u_terms::{Facts, U};
 
 /// Whether a term in place is the left or, turned, the right side that the rule has for these arguments, after the names from
 /// `first` on are closed, the last one innermost; or the first reason why the rule has none.
+/// For `sum_swap`, `key` and `fkey` the sides are written to be compared; for all other rules nothing is.
 pub fn stands(
     alloc: Global,
     facts: &Facts,
