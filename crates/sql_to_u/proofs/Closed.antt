@@ -13,7 +13,8 @@ use Rattle.u_terms.proofs.Closedness.{closed_at-closed}
 use Rattle.scope_core.specs.Scope.{Place}
 use Rattle.scope_core.specs.Syntax.{RVal, Col, Key, Lit, Fun, Agg, Sub, Values, NoValues, ValueThen, MaybeArgument, NoArgument, AnArgument, RCond, Eq, Pred, And, Or, Not, Exists, In, Conditions, NoConditions, ConditionThen, MaybeCondition, NoCondition, ACondition, RSource, Table, View, Derived, Entries, NoEntries, EntryThen, RBlock, Select, RQuery, OfBlock, Set, Plain, One, Keys}
 use Rattle.scope_core.specs.Width.{width}
-use Rattle.sql_to_u.specs.Factors.{product_of, sum_of, over_names, squash_if, combined_terms, names_from, key_equalities}
+use Rattle.sql_to_u.specs.Factors.{sum_of, over_names, squash_if, combined_terms, names_from, key_equalities}
+use Rattle.u_terms.specs.Products.{product_of}
 use Rattle.sql_to_u.specs.Scopes.{Members, Here, Scope, count_columns, firsts, rows_here, group_here, members_of, outer_scope, member_scope, counted}
 use Rattle.sql_to_u.specs.Translation.{TermAt, query_term, block_term, source_terms, source_term, item_factors, condition_term, condition_terms, having_factors, value_term, value_terms, argument_term, scalar_term, first_term}
 use Rattle.sql_to_u.proofs.OverEntries.{over_names-closed}

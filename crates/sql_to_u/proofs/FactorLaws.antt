@@ -2,14 +2,14 @@
 use Rattle.std.proofs.Common.{◌≡◌, ℕ, zero, suc, ◌+◌, ◌<◌, ◌≤◌, List, [], ◌∷◌, ◌++◌, length, drop, get_or, refl, ap, sym, ◌∙◌, arith}
 use Rattle.std.proofs.lemmas.List.{append-nil, append_assoc}
 use Rattle.u_terms.specs.Syntax.{U}
-use Rattle.u_terms.proofs.Binding.{sums-more}
 use Rattle.u_terms.specs.declared.term.U.TheVariants as u
 use Rattle.u_terms.specs.declared.term.Val.TheVariants as v
 use Rattle.scope_core.specs.declared.tree.REntry.{REntry}
 use Rattle.scope_core.specs.Compute.{everything}
 use Rattle.scope_core.proofs.Lists.{at-head, at-end}
 use Rattle.sql_to_u.specs.TermLists.{firsts_listed}
-use Rattle.sql_to_u.specs.Factors.{product_of, sum_of, names_from}
+use Rattle.sql_to_u.specs.Factors.{sum_of, names_from}
+use Rattle.u_terms.specs.Products.{product_of}
 
 pub product-last : (xs : List U) (f whole : U) → product_of ((xs ++ f ∷ []) ++ whole ∷ []) ≡ product_of (xs ++ u.Mul f whole ∷ [])
 product-last [] f whole = refl
@@ -33,8 +33,6 @@ names-more first count = let e : count + 1 ≡ suc count = omega arith in rw e (
         ap (λ r. v.Free first ∷ r) (by (first + 1) count ∙ ap (λ n. names_from (first + 1) count ++ v.Free n ∷ []) e)
 
 pub ruleset rows = (names-more)
-
-pub ruleset around = (sums-more)
 
 -- ---- names of entries
 firsts-cons : (e : REntry) (es : List REntry) (first : ℕ) → firsts_listed (e ∷ es) first ≡ first ∷ firsts_listed es (first + e.width)

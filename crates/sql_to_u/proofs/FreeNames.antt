@@ -21,7 +21,8 @@ use Rattle.scope_core.specs.Sound.{Seen, SeenBlocks, SeenRows, SeenGroup, SeenMe
 use Rattle.scope_core.specs.Fitting.{HasView, FitsViews, DoViewsFit}
 use Rattle.scope_core.proofs.FittingTrees.{HasView-in, HasView-cases}
 use Rattle.scope_core.proofs.Lists.{longer, get-between, get-before}
-use Rattle.sql_to_u.specs.Factors.{product_of, sum_of, over_names, squash_if, combined_terms, names_from, key_equalities}
+use Rattle.sql_to_u.specs.Factors.{sum_of, over_names, squash_if, combined_terms, names_from, key_equalities}
+use Rattle.u_terms.specs.Products.{product_of}
 use Rattle.sql_to_u.specs.Scopes.{Members, Here, Scope, count_columns, firsts, rows_here, group_here, firsts_at, key_of, members_of, member_scope, counted}
 use Rattle.sql_to_u.specs.Translation.{TermAt, query_term, block_term, source_terms, source_term, item_factors, condition_term, condition_terms, having_factors, value_term, value_terms, argument_term, scalar_term, first_term}
 use Rattle.sql_to_u.specs.Answer.{view_term, view_terms, translation}

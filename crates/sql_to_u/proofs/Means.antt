@@ -19,7 +19,8 @@ use Rattle.scope_core.specs.Width.{width, block_width, count_values}
 use Rattle.scope_core.specs.Environments.{World, Environment, Frame, frame_of, outer_frames}
 use Rattle.scope_core.specs.Evaluation.{values_at, group_of, group_frame, value, values, argument_value, truth, all_hold, some_hold, holds, rows, block_rows, choices, source_rows, world_of}
 use Rattle.scope_core.specs.Sound.{SeenRows, SeenGroup, SeenBlocks, widths, member_seen, IsSound, IsSoundBlock, IsSoundHaving, IsSoundScalar, IsSoundAggregate, AreSoundEntries, IsSoundSource, IsSoundCondition, AreSoundConditions, IsSoundValue, IsSoundArgument, AreSoundValues}
-use Rattle.sql_to_u.specs.Factors.{product_of, sum_of, over_names, names_from, key_equalities}
+use Rattle.sql_to_u.specs.Factors.{sum_of, over_names, names_from, key_equalities}
+use Rattle.u_terms.specs.Products.{product_of}
 use Rattle.sql_to_u.specs.Scopes.{Here, Scope, count_columns, firsts, rows_here, group_here, firsts_at, key_of, members_of, member_scope}
 use Rattle.sql_to_u.specs.Translation.{TermAt, query_term, block_term, source_terms, source_term, item_factors, condition_term, condition_terms, having_factors, value_term, value_terms, argument_term, scalar_term, first_term}
 use Rattle.u_terms.proofs.OverNames.{AgreeBelow, AgreeBelow-refl, AgreeBelow-trans, put_row, put_row-agree, put_row-reads}

@@ -19,6 +19,8 @@ use Rattle.u_terms.specs.declared.term.Val.TheVariants as v
 use Rattle.u_terms.specs.Places.{IsClosedValue}
 use Rattle.u_terms.specs.Meaning.{put, meaning, value_meaning}
 use Rattle.u_terms.specs.Binding.{closed_at}
+use Rattle.u_terms.proofs.Products as products
+use Rattle.u_terms.proofs.Products.{product_by, product_by-append}
 use Rattle.u_terms.proofs.Agreement.{get_or-put_same, list_below-same}
 use Rattle.u_terms.proofs.Meanings.{meaning-Zero, meaning-One, meaning-Add, meaning-Mul, meaning-Squash, meaning-Not, meaning-Eq, meaning-Free}
 use Rattle.u_terms.proofs.OverNames.{AgreeBelow, AgreeBelow-trans, put-agree, put_rows, put_rows-agree, aggregate-means}
@@ -28,27 +30,16 @@ use Rattle.scope_core.specs.Syntax.{Entries}
 use Rattle.scope_core.specs.Environments.{Environment, frame_of, row_of, members_here, outer_frames}
 use Rattle.scope_core.specs.Evaluation.{values_at}
 use Rattle.scope_core.specs.Sound.{SeenRows, SeenGroup, SeenMember, SeenBlocks, SeesGroup, widths, member_seen}
-use Rattle.sql_to_u.specs.Factors.{product_of, sum_of, over_names, squash_if, combined_terms, names_from, key_equalities}
+use Rattle.sql_to_u.specs.Factors.{sum_of, over_names, squash_if, combined_terms, names_from, key_equalities}
+use Rattle.u_terms.specs.Products.{product_of}
 use Rattle.sql_to_u.specs.Scopes.{Scope, count_columns, firsts, members_of, member_scope, counted}
 use Rattle.sql_to_u.proofs.OverEntries.{over_entries-means}
 use Rattle.sql_to_u.proofs.Seeing.{ReadsRow, ReadsRows, KnowsMembers, Reads, Reads-later, reads_own, reads}
 use Rattle.sql_to_u.proofs.Closed.{AreClosed, both-closed, product-closed, squash_if-closed, counted-closed, closed-Eq, closed-Free, HasClosedFactors}
 
-abbrev pub multiply : List ℕ → ℕ
-multiply [] = 1
-multiply (x ∷ xs) = x * multiply xs
-
 abbrev pub total : List ℕ → ℕ
 total [] = 0
 total (x ∷ xs) = x + total xs
-
-multiply-append : (xs ys : List ℕ) → multiply (xs ++ ys) ≡ multiply xs * multiply ys
-multiply-append [] ys = omega arith
-multiply-append (x ∷ xs) ys = rw (multiply-append xs ys) (sym (mul_assoc x (multiply xs) (multiply ys)))
-
-map-append : {X Y : Type 0} (f : X → Y) (xs ys : List X) → map f (xs ++ ys) ≡ map f xs ++ map f ys
-map-append f [] ys = refl
-map-append f (x ∷ xs) ys = ap (λ zs. f x ∷ zs) (map-append f xs ys)
 
 module _ (n : ℕ) (reading : Reading) (db : Database) where
   abbrev pub mean : List ℕ → U → ℕ
@@ -61,13 +52,10 @@ module _ (n : ℕ) (reading : Reading) (db : Database) where
   mean_values names vs = map (value_meaning n reading db names []) vs
 
   abbrev pub factors_mean : List ℕ → List U → ℕ
-  factors_mean names fs = multiply (map (meaning n reading db names []) fs)
+  factors_mean names fs = product_by (meaning n reading db names []) fs
 
   pub product-means : (names : List ℕ) (fs : List U) → mean names (product_of fs) ≡ factors_mean names fs
-  product-means names [] = meaning-One n reading db names []
-  product-means names (f ∷ []) = omega arith
-  product-means names (f ∷ g ∷ rest) =
-      meaning-Mul n reading db names [] f (product_of (g ∷ rest)) ∙ ap (λ m. mean names f * m) (product-means names (g ∷ rest))
+  product-means names fs = products.product-means n reading db names [] fs
 
   pub sum-means : (names : List ℕ) (fs : List U) → mean names (sum_of fs) ≡ total (map (meaning n reading db names []) fs)
   sum-means names [] = meaning-Zero n reading db names []
@@ -76,8 +64,7 @@ module _ (n : ℕ) (reading : Reading) (db : Database) where
       meaning-Add n reading db names [] f (sum_of (g ∷ rest)) ∙ ap (λ m. mean names f + m) (sum-means names (g ∷ rest))
 
   pub both-mean : (names : List ℕ) (fs gs : List U) → factors_mean names (fs ++ gs) ≡ factors_mean names fs * factors_mean names gs
-  both-mean names fs gs =
-      ap multiply (map-append (meaning n reading db names []) fs gs) ∙ multiply-append (map (meaning n reading db names []) fs) (map (meaning n reading db names []) gs)
+  both-mean names fs gs = product_by-append (meaning n reading db names []) fs gs
 
   pub alone : (names : List ℕ) (a : U) (m : ℕ) → mean names a ≡ m → factors_mean names (a ∷ []) ≡ m
   alone names a m e = rw e (omega arith)

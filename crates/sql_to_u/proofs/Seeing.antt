@@ -12,7 +12,8 @@ use Rattle.scope_core.specs.Environments.{Environment, Frame, column_value, row_
 use Rattle.scope_core.specs.Sound.{Seen, SeenRows, SeenGroup, SeenMember, SeenBlocks, widths, widths_at, IsKeyOf}
 use Rattle.u_terms.proofs.OverNames.{AgreeBelow, AgreeBelow-trans, put_row, put_rows, put_row-reads, put_rows-agree}
 use Rattle.scope_core.proofs.RowsFit.{Fits}
-use Rattle.sql_to_u.specs.Factors.{product_of, over_names}
+use Rattle.sql_to_u.specs.Factors.{over_names}
+use Rattle.u_terms.specs.Products.{product_of}
 use Rattle.sql_to_u.specs.Scopes.{Members, Here, Scope, count_columns, firsts, firsts_at, key_of}
 
 -- ---- the names below d read the columns around

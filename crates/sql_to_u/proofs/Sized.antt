@@ -23,7 +23,8 @@ use Rattle.sql_to_u.specs.declared.product.Product.TheVariants as p
 use Rattle.sql_to_u.specs.Sizes.{no_members, query_size, block_size, source_sizes, source_size, item_sizes, condition_size, condition_sizes, having_sizes, value_size, values_size, argument_size, scalar_size, first_size}
 use Rattle.sql_to_u.specs.declared.size.Size.{Size}
 use Rattle.sql_to_u.proofs.ProductSizes.{folded, sized, made, cap-add, cap-count, product-is, with-append}
-use Rattle.sql_to_u.specs.Factors.{product_of, sum_of, over_names, squash_if, combined_terms, names_from, key_equalities}
+use Rattle.sql_to_u.specs.Factors.{sum_of, over_names, squash_if, combined_terms, names_from, key_equalities}
+use Rattle.u_terms.specs.Products.{product_of}
 use Rattle.sql_to_u.specs.Sizes.{capped, term_size, value_term_size, leaf, under, beside, nothing, both, over_size, names_size, product_size, with_factor, with_factors, finished, squash_size_if, combined_size, leaves, key_sizes}
 
 pub size-closed_at : (a : U) (x : ℕ) → term_size (closed_at a x) ≡ term_size a

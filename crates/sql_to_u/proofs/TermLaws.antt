@@ -20,7 +20,8 @@ use Rattle.scope_core.specs.Syntax.{RVal, RCond, RBlock, RQuery, Grouping}
 use Rattle.scope_core.specs.Width.{width}
 use Rattle.scope_core.specs.Compute.{everything}
 use Rattle.scope_core.proofs.Lists.{at-head, at-end, drop-head}
-use Rattle.sql_to_u.specs.Factors.{product_of, sum_of, over_names, squash_if, combined_terms, names_from}
+use Rattle.sql_to_u.specs.Factors.{sum_of, over_names, squash_if, combined_terms, names_from}
+use Rattle.u_terms.specs.Products.{product_of}
 use Rattle.sql_to_u.specs.Scopes.{Scope, group_here, firsts_at, key_of}
 use Rattle.sql_to_u.specs.Listed.{columns_listed}
 use Rattle.sql_to_u.specs.Translation.{TermAt, query_term, block_term, source_term, condition_term, value_term, scalar_term}

@@ -4,7 +4,8 @@ use Rattle.u_terms.specs.Syntax.{U, Val}
 use Rattle.u_terms.specs.declared.term.U.TheVariants as u
 use Rattle.u_terms.specs.declared.term.Val.TheVariants as v
 use Rattle.scope_core.specs.Syntax.{Entries, NoEntries, EntryThen}
-use Rattle.sql_to_u.specs.Factors.{product_of, over_names}
+use Rattle.sql_to_u.specs.Factors.{over_names}
+use Rattle.u_terms.specs.Products.{product_of}
 
 -- ---- the entries of a block
 -- how many columns they have

@@ -9,7 +9,8 @@ use Rattle.scope_core.specs.declared.tree.RBlock.{out-RBlock}
 use Rattle.scope_core.specs.Scope.{Place}
 use Rattle.scope_core.specs.Syntax as r
 use Rattle.scope_core.specs.Syntax.{RVal, RCond, RBlock, RQuery}
-use Rattle.sql_to_u.specs.Factors.{product_of, over_names, squash_if, key_equalities}
+use Rattle.sql_to_u.specs.Factors.{over_names, squash_if, key_equalities}
+use Rattle.u_terms.specs.Products.{product_of}
 use Rattle.sql_to_u.specs.Scopes.{Members, Scope, firsts, rows_here, group_here, counted, members_of, member_scope}
 use Rattle.sql_to_u.specs.Listed.{columns_listed}
 use Rattle.sql_to_u.specs.Translation.{TermAt, source_terms, condition_terms, item_factors, having_factors, value_term, value_terms}

@@ -10,7 +10,8 @@ use Rattle.u_terms.specs.declared.term.Val.TheVariants as v
 use Rattle.u_terms.specs.Binding.{closed_at}
 use Rattle.scope_core.specs.Syntax.{RVal, Col, Key, Lit, Fun, Agg, Sub, Values, NoValues, ValueThen, MaybeArgument, NoArgument, AnArgument, RCond, Eq, Pred, And, Or, Not, Exists, In, Conditions, NoConditions, ConditionThen, MaybeCondition, NoCondition, ACondition, RSource, Table, View, Derived, Entries, NoEntries, EntryThen, RBlock, Select, RQuery, OfBlock, Set, Plain, One, Keys}
 use Rattle.scope_core.specs.Width.{width}
-use Rattle.sql_to_u.specs.Factors.{product_of, sum_of, over_names, squash_if, combined_terms, names_from, key_equalities}
+use Rattle.sql_to_u.specs.Factors.{sum_of, over_names, squash_if, combined_terms, names_from, key_equalities}
+use Rattle.u_terms.specs.Products.{product_of}
 use Rattle.sql_to_u.specs.Scopes.{Here, Scope, count_columns, firsts, rows_here, group_here, firsts_at, key_of, members_of, member_scope, counted, joined}
 
 -- A term for each row of values and next name.

@@ -1,7 +1,7 @@
 //! What terms are built of.
 ghost use Rattle.std.specs.Prelude.{◌≡◌, ◌++◌, IfOk, OnOk};
-ghost use Rattle.sql_to_u.specs.Factors.{combined_terms, key_equalities, over_names, product_of, squash_if, sum_of};
-ghost use Rattle.u_terms.specs.Binding as binding;
+ghost use Rattle.sql_to_u.specs.Factors.{combined_terms, key_equalities, over_names, squash_if, sum_of};
+ghost use Rattle.u_terms.specs.Products.{product_of};
 ghost use Rattle.u_terms.specs.Binding.{closed_at};
 
 use crate::naming::{first_of, name_after};
@@ -9,7 +9,7 @@ use plain_data::List;
 use scope_core::NoMemory;
 use sql_model::SetOp;
 use std::alloc::Global;
-use u_binder::{close_at, close_path};
+use u_binder::{close_at, close_path, sums};
 use u_terms::{Boxed, U, Val, depth};
 
 /// A product of factors, in order.
@@ -42,18 +42,6 @@ pub fn sum(alloc: Global, parts: Vec<U>) -> Result<U, NoMemory>
         whole = U::Add(Boxed::new(alloc, part)?, Boxed::new(alloc, whole)?);
     }
     Ok(whole)
-}
-
-/// So many sums around a term.
-#[tactic(auto, using(crate::proofs::FactorLaws::around))]
-fn sums(alloc: Global, count: u32, body: U) -> Result<U, NoMemory>
-    ensures { IfOk result (λ u. u ≡ binding.sums count body) }
-{
-    let mut term = body;
-    for _i in 0..count {
-        term = U::Sum(Boxed::new(alloc, term)?);
-    }
-    Ok(term)
 }
 
 /// The greatest name, count and depth with which names are closed. No term within the limits comes near them, and one that did would be told

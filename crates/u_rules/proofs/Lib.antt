@@ -1,5 +1,4 @@
 pub mod Signs
-pub mod Products
 pub mod LeavesMean
 pub mod Nested
 pub mod KeyedTables

@@ -22,12 +22,13 @@ use Rattle.u_terms.proofs.Meanings.{list_meaning, meaning_at, meaning-Sum, meani
 use Rattle.u_rules.specs.declared.rule.Arg.{Arg}
 use Rattle.u_rules.specs.declared.rule.Rule.TheVariants as rule
 use Rattle.u_rules.specs.declared.sides.Misfit.{Misfit}
-use Rattle.u_rules.specs.Terms.{◌⊗◌, ◌≐◌, sq, S, R, prod, put, places, equal_columns, equal_rows, width, keys_of, key_columns, referenced}
+use Rattle.u_rules.specs.Terms.{◌⊗◌, ◌≐◌, sq, S, R, put, places, equal_columns, equal_rows, width, keys_of, key_columns, referenced}
+use Rattle.u_terms.specs.Products.{product_of}
 use Rattle.u_rules.specs.Rows.{Row, row, unless, swap_fault, key_fault, fkey_row, IsClosedArg, LeavesAgree}
 use Rattle.data_model.proofs.Points.{point-same, point-sym, point-moves}
 use Rattle.u_rules.proofs.Walk as walk
 use Rattle.u_rules.proofs.Signs as signs
-use Rattle.u_rules.proofs.Products.{product_by}
+use Rattle.u_terms.proofs.Products.{product_by, product-means}
 use Rattle.u_rules.proofs.LeavesMean as leaves
 use Rattle.u_rules.proofs.Nested as nested
 use Rattle.u_rules.proofs.KeyedTables as tables
@@ -219,7 +220,7 @@ module _ (n : ℕ) (reading : Reading) (db : Database) (names : List ℕ) where
       vals s = list_meaning n reading db names [] s
 
       same_key : (t i : ℕ) (s r : List Val) → KeyFits t i s r
-          → m (prod (R t s ∷ (R t r ∷ equal_columns s (key_columns F t i) r (key_columns F t i)))) ≡ m (prod (R t s ∷ equal_rows s r))
+          → m (product_of (R t s ∷ (R t r ∷ equal_columns s (key_columns F t i) r (key_columns F t i)))) ≡ m (product_of (R t s ∷ equal_rows s r))
       same_key t i s r f =
           let ks : List ℕ = key_columns F t i in
           let within : AllBelow (width F t) ks = at.Each-at (AllBelow (width F t)) (keys_of F t) i [] (at.columns-of_keys F ok t f.table) f.key in
@@ -230,11 +231,11 @@ module _ (n : ℕ) (reading : Reading) (db : Database) (names : List ℕ) where
           let joined : product_by m eqs ≡ one_if (same_row (at_columns ks (vals s)) (at_columns ks (vals r))) = columns.columns-mean n reading db names [] s r ks ks refl left right in
           let whole : product_by m (equal_rows s r) ≡ one_if (same_row (vals s) (vals r)) = columns.equal_rows-mean n reading db names [] s r (f.left ∙ sym f.right) in
           let both : ℕ = occurrences (vals s) (table_rows db t) * one_if (same_row (vals s) (vals r)) in
-          let left_is : m (prod (R t s ∷ (R t r ∷ eqs))) ≡ both
-          = columns.prod-mean n reading db names [] (R t s ∷ (R t r ∷ eqs))
+          let left_is : m (product_of (R t s ∷ (R t r ∷ eqs))) ≡ both
+          = product-means n reading db names [] (R t s ∷ (R t r ∷ eqs))
           ∙ rw (meaning-Rel n reading db names [] t s, meaning-Rel n reading db names [] t r, joined) (tables.key_joins ks (table_rows db t) (vals s) (vals r) key) in
-          let right_is : m (prod (R t s ∷ equal_rows s r)) ≡ both
-          = columns.prod-mean n reading db names [] (R t s ∷ equal_rows s r) ∙ rw (meaning-Rel n reading db names [] t s, whole) refl in
+          let right_is : m (product_of (R t s ∷ equal_rows s r)) ≡ both
+          = product-means n reading db names [] (R t s ∷ equal_rows s r) ∙ rw (meaning-Rel n reading db names [] t s, whole) refl in
           left_is ∙ sym right_is
 
       pub sound-Key : Good Free k (row F rule.Key args)
@@ -252,7 +253,7 @@ module _ (n : ℕ) (reading : Reading) (db : Database) (names : List ℕ) where
           → m (referenced F f s) ≡ tables.found f.key (at_columns f.cols (vals s)) (table_rows db f.to)
       counted f s o l cs =
           let w : ℕ = width F f.to in
-          let body : U = prod (R f.to (places w) ∷ equal_columns (places w) f.key s f.cols) in
+          let body : U = product_of (R f.to (places w) ∷ equal_columns (places w) f.key s f.cols) in
           let x : List ℕ = at_columns f.cols (vals s) in
           let keyed : AllBelow (length (places w)) f.key = rw (columns.length-places w) (at.referenced-below F ok f o) in
           let cols : AllBelow (length s) f.cols = rw l o.columns in
@@ -264,7 +265,7 @@ module _ (n : ℕ) (reading : Reading) (db : Database) (names : List ℕ) where
           let joined : product_by (λ (y : U). meaning n reading db names p y) eqs ≡ one_if (same_row (at_columns f.key (list_meaning n reading db names p (places w))) (at_columns f.cols (list_meaning n reading db names p s)))
           = columns.columns-mean n reading db names p (places w) s f.key f.cols (sym o.counts) keyed cols in
           let same_x : list_meaning n reading db names p s ≡ vals s = columns.closed_values n reading db names s p cs in
-          columns.prod-mean n reading db names p (R f.to (places w) ∷ eqs) ∙ rw (meaning-Rel n reading db names p f.to (places w), joined, same_x, row_is) refl in
+          product-means n reading db names p (R f.to (places w) ∷ eqs) ∙ rw (meaning-Rel n reading db names p f.to (places w), joined, same_x, row_is) refl in
           nested.sums-mean n reading db names w body []
           ∙ sum_rows-same n w _ (λ r. occurrences r (table_rows db f.to) * one_if (same_row (at_columns f.key r) x)) each
           ∙ sum_rows-rows n w (table_rows db f.to) (λ r. one_if (same_row (at_columns f.key r) x)) (at.rows-at F ok n db meets f.to o.to)

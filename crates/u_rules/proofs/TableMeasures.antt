@@ -8,13 +8,13 @@ use Rattle.u_terms.specs.Size.{nodes, value_nodes, list_nodes, depth, value_dept
 use Rattle.u_terms.specs.Binding.{same_name, sums}
 use Rattle.u_binder.specs.Changes.{moved_at}
 use Rattle.u_rules.specs.declared.measure.Measure.{Measure}
-use Rattle.u_rules.specs.Terms.{R, ◌≐◌, ◌⊗◌, prod, turned, places, column, equal_columns, equal_rows, width, referenced}
+use Rattle.u_rules.specs.Terms.{R, ◌≐◌, ◌⊗◌, turned, places, column, equal_columns, equal_rows, width, referenced}
+use Rattle.u_terms.specs.Products.{product_of}
 use Rattle.u_rules.specs.Measures.{capped, flat, measure_of, value_measure, list_measure, with, below, summed, columns_measure, rows_measure, place_columns, key_sizes, fkey_sizes}
 use Rattle.u_rules.proofs.Measured.{measure-Mul, measure-Sum, measure-Rel, measure-Eq, measure-Bound, measure-Lit, measure-none}
 use Rattle.std.proofs.lemmas.List.Sums.{sum_by-cons}
 use Rattle.u_terms.proofs.Sizes.{list_depth-cons, nodes-Bound}
 use Rattle.u_terms.proofs.MappedSizes.{nodes-mapped, depth-mapped}
-use Rattle.u_terms.proofs.Binding.{sums-more}
 
 -- ---- sums
 under : (m : ℕ) (n : ℕ) → capped (capped (m + n) + 1) ≡ capped (m + suc n)
@@ -60,28 +60,28 @@ measure-turned a b f =
 
 -- ---- products of equalities
 pub measure-columns : (head : U) (s : List Val) (cs : List ℕ) (t : List Val) (ds : List ℕ)
-    → measure_of (prod (head ∷ equal_columns s cs t ds)) ≡ columns_measure (measure_of head) s cs t ds
+    → measure_of (product_of (head ∷ equal_columns s cs t ds)) ≡ columns_measure (measure_of head) s cs t ds
 measure-columns head s [] t ds = refl
 measure-columns head s (c ∷ cs) t [] = refl
 measure-columns head s (c ∷ cs) t (d ∷ ds) =
-    measure-Mul head (prod ((column s c ≐ column t d) ∷ equal_columns s cs t ds))
+    measure-Mul head (product_of ((column s c ≐ column t d) ∷ equal_columns s cs t ds))
     ∙ ap (with (measure_of head)) (measure-columns (column s c ≐ column t d) s cs t ds ∙ ap (λ (m : Measure). columns_measure m s cs t ds) (measure-Eq (column s c) (column t d)))
 
-pub measure-rows : (head : U) (s t : List Val) → measure_of (prod (head ∷ equal_rows s t)) ≡ rows_measure (measure_of head) s t
+pub measure-rows : (head : U) (s t : List Val) → measure_of (product_of (head ∷ equal_rows s t)) ≡ rows_measure (measure_of head) s t
 measure-rows head [] t = refl
 measure-rows head (a ∷ s) [] = refl
 measure-rows head (a ∷ s) (b ∷ t) =
-    measure-Mul head (prod ((a ≐ b) ∷ equal_rows s t))
+    measure-Mul head (product_of ((a ≐ b) ∷ equal_rows s t))
     ∙ ap (with (measure_of head)) (measure-rows (a ≐ b) s t ∙ ap (λ (m : Measure). rows_measure m s t) (measure-Eq a b))
 
 pub measure-key : (table : ℕ) (key : List ℕ) (s r : List Val)
-    → flat (measure_of (prod (R table s ∷ (R table r ∷ equal_columns s key r key)))) (measure_of (prod (R table s ∷ equal_rows s r))) ≡ key_sizes key s r
+    → flat (measure_of (product_of (R table s ∷ (R table r ∷ equal_columns s key r key)))) (measure_of (product_of (R table s ∷ equal_rows s r))) ≡ key_sizes key s r
 measure-key table key s r =
-    let left : measure_of (prod (R table s ∷ (R table r ∷ equal_columns s key r key))) ≡ with (below (list_measure s)) (columns_measure (below (list_measure r)) s key r key)
-    = measure-Mul (R table s) (prod (R table r ∷ equal_columns s key r key))
-    ∙ ap (λ (m : Measure). with m (measure_of (prod (R table r ∷ equal_columns s key r key)))) (measure-Rel table s)
+    let left : measure_of (product_of (R table s ∷ (R table r ∷ equal_columns s key r key))) ≡ with (below (list_measure s)) (columns_measure (below (list_measure r)) s key r key)
+    = measure-Mul (R table s) (product_of (R table r ∷ equal_columns s key r key))
+    ∙ ap (λ (m : Measure). with m (measure_of (product_of (R table r ∷ equal_columns s key r key)))) (measure-Rel table s)
     ∙ ap (with (below (list_measure s))) (measure-columns (R table r) s key r key ∙ ap (λ (m : Measure). columns_measure m s key r key) (measure-Rel table r)) in
-    let right : measure_of (prod (R table s ∷ equal_rows s r)) ≡ rows_measure (below (list_measure s)) s r
+    let right : measure_of (product_of (R table s ∷ equal_rows s r)) ≡ rows_measure (below (list_measure s)) s r
     = measure-rows (R table s) s r ∙ ap (λ (m : Measure). rows_measure m s r) (measure-Rel table s) in
     rw (left, right) refl
 
@@ -118,21 +118,19 @@ pub measure-fkey : (F : Facts) (f : Fkey) (s : List Val) → width F f.to < 4294
     → flat (measure_of (R f.from s)) (measure_of (R f.from s ⊗ referenced F f s)) ≡ fkey_sizes (width F f.to) f.key s f.cols
 measure-fkey F f s h =
     let w : ℕ = width F f.to in
-    let inner : measure_of (prod (R f.to (places w) ∷ equal_columns (places w) f.key s f.cols)) ≡ place_columns (below (record { nodes = w; depth = min w 1 })) f.key s f.cols
+    let inner : measure_of (product_of (R f.to (places w) ∷ equal_columns (places w) f.key s f.cols)) ≡ place_columns (below (record { nodes = w; depth = min w 1 })) f.key s f.cols
     = measure-columns (R f.to (places w)) (places w) f.key s f.cols
     ∙ columns-of_places w (measure_of (R f.to (places w))) f.key s f.cols
     ∙ ap (λ (m : Measure). place_columns m f.key s f.cols) (measure-Rel f.to (places w) ∙ ap below (measure-places w h)) in
     let right : measure_of (R f.from s ⊗ referenced F f s) ≡ with (below (list_measure s)) (summed w (place_columns (below (record { nodes = w; depth = min w 1 })) f.key s f.cols))
     = measure-Mul (R f.from s) (referenced F f s)
     ∙ ap (λ (m : Measure). with m (measure_of (referenced F f s))) (measure-Rel f.from s)
-    ∙ ap (with (below (list_measure s))) (measure-sums w (prod (R f.to (places w) ∷ equal_columns (places w) f.key s f.cols)) ∙ ap (summed w) inner) in
+    ∙ ap (with (below (list_measure s))) (measure-sums w (product_of (R f.to (places w) ∷ equal_columns (places w) f.key s f.cols)) ∙ ap (summed w) inner) in
     rw (measure-Rel f.from s, right) refl
 
 pub ruleset laws = (measure-sums, measure-turned, measure-Lit)
 
 -- for the code that makes sums
-pub ruleset sums_at = (sums-more)
-
 pub column-past : (vs : List Val) (c : ℕ) → length vs ≤ c → column vs c ≡ v.Lit 0
 column-past [] c h = refl
 column-past (x ∷ vs) zero h = absurd (omega arith)

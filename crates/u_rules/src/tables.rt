@@ -4,49 +4,39 @@ ghost use Rattle.u_terms.specs.Binding as binding;
 ghost use Rattle.u_terms.specs.Size.{depth};
 ghost use Rattle.u_terms.specs.declared.facts.Facts.{Facts as TheFacts};
 ghost use Rattle.u_rules.specs.Terms as terms;
+ghost use Rattle.u_terms.specs.Products.{product_of};
 ghost use Rattle.u_rules.specs.Terms.{◌⊗◌, ◌≐◌, R};
 ghost use Rattle.u_rules.specs.Rows.{row};
 ghost use Rattle.u_rules.specs.Answers.{AnswersRow, Builds};
 ghost use Rattle.u_rules.specs.declared.rule.Rule.TheVariants as rule;
 
-use crate::build::{copied, eq, mul, rel, sum};
+use crate::build::{eq, mul, rel};
 use crate::rule::Arg;
 use crate::sides::{Misfit, Unfit};
 use std::alloc::{AllocError, Global};
-use u_binder::exchange;
+use u_binder::{exchange, sums};
 use u_terms::{Boxed, Facts, Fkey, List, U, Val, depth};
 
 /// The most sums that `sum_swap` exchanges.
 const MOST_SUMS: u64 = 2_048;
 
-#[tactic(auto, using(crate::proofs::TableMeasures::sums_at))]
-fn sums(alloc: Global, count: u32, body: Boxed<U>) -> Result<Boxed<U>, AllocError>
-    ensures { IfOk result (λ u. u ≡ binding.sums count body) }
-{
-    let mut u = body;
-    for _i in 0..count {
-        u = sum(alloc, u)?;
-    }
-    Ok(u)
-}
-
 // The body with the places of both groups exchanged.
-fn turned(alloc: Global, a: u32, b: u32, f: &U) -> Result<Boxed<U>, AllocError>
+fn turned(alloc: Global, a: u32, b: u32, f: &U) -> Result<U, AllocError>
     requires shallow { depth f.now + a + b < 2 ^ 32 }
     ensures { IfOk result (λ u. u ≡ terms.turned a b f.now) }
 {
     let mut body = f.copy(alloc)?;
     exchange(&mut body, a, b);
-    Boxed::new(alloc, body)
+    Ok(body)
 }
 
 fn sum_swap_sides(alloc: Global, a: u32, b: u32, f: &U) -> Result<(U, U), Unfit>
     requires shallow { depth f.now + a + b < 2 ^ 32 }
     ensures { Builds (binding.sums (a + b) f.now) (binding.sums (a + b) (terms.turned a b f.now)) result }
 {
-    let left = sums(alloc, a + b, copied(alloc, f)?)?;
+    let left = sums(alloc, a + b, f.copy(alloc)?)?;
     let right = sums(alloc, a + b, turned(alloc, a, b, f)?)?;
-    Ok((left.into_inner(), right.into_inner()))
+    Ok((left, right))
 }
 
 pub fn sum_swap(alloc: Global, args: &[Arg]) -> Result<(U, U), Unfit>
@@ -95,7 +85,7 @@ fn columns_after(
     t: &[Val],
     ds: &[u32],
 ) -> Result<Boxed<U>, AllocError>
-    ensures { IfOk result (λ u. u ≡ terms.prod (head ∷ terms.equal_columns s.now cs.now t.now ds.now)) }
+    ensures { IfOk result (λ u. u ≡ product_of (head ∷ terms.equal_columns s.now cs.now t.now ds.now)) }
 {
     match cs {
         [] => Ok(head),
@@ -113,7 +103,7 @@ fn columns_after(
 // The product of this factor and the equalities of both rows.
 #[cycle(rows_after)]
 fn rows_after(alloc: Global, head: Boxed<U>, s: &[Val], t: &[Val]) -> Result<Boxed<U>, AllocError>
-    ensures { IfOk result (λ u. u ≡ terms.prod (head ∷ terms.equal_rows s.now t.now)) }
+    ensures { IfOk result (λ u. u ≡ product_of (head ∷ terms.equal_rows s.now t.now)) }
 {
     match s {
         [] => Ok(head),
@@ -129,7 +119,7 @@ fn rows_after(alloc: Global, head: Boxed<U>, s: &[Val], t: &[Val]) -> Result<Box
 }
 
 fn key_sides(alloc: Global, t: u32, key: &[u32], s: &[Val], r: &[Val]) -> Result<(U, U), Unfit>
-    ensures { Builds (terms.prod (R t s.now ∷ (R t r.now ∷ terms.equal_columns s.now key.now r.now key.now))) (terms.prod (R t s.now ∷ terms.equal_rows s.now r.now)) result }
+    ensures { Builds (product_of (R t s.now ∷ (R t r.now ∷ terms.equal_columns s.now key.now r.now key.now))) (product_of (R t s.now ∷ terms.equal_rows s.now r.now)) result }
 {
     let rest = columns_after(alloc, rel(alloc, t, r)?, s, key, r, key)?;
     let left = mul(alloc, rel(alloc, t, s)?, rest)?;
@@ -211,8 +201,8 @@ fn fkey_sides(alloc: Global, facts: &Facts, f: &Fkey, s: &[Val]) -> Result<(U, U
         s,
         f.cols.as_slice(),
     )?;
-    let nested = sums(alloc, count, body)?;
-    let right = mul(alloc, rel(alloc, f.from, s)?, nested)?;
+    let nested = sums(alloc, count, body.into_inner())?;
+    let right = mul(alloc, rel(alloc, f.from, s)?, Boxed::new(alloc, nested)?)?;
     let left = rel(alloc, f.from, s)?;
     Ok((left.into_inner(), right.into_inner()))
 }

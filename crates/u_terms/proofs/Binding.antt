@@ -398,6 +398,8 @@ closed_path-next u first count =
 pub sums-more : (count : ℕ) (body : U) → sums (count + 1) body ≡ u.Sum (sums count body)
 sums-more count body = let e : count + 1 ≡ suc count = omega arith in ap (λ (k : ℕ). sums k body) e
 
+pub ruleset around = (sums-more)
+
 mapped-sums : (f g : ℕ → ℕ → Val) (count k : ℕ) (u : U) → mapped f g k (sums count u) ≡ sums count (mapped f g (k + count) u)
 unfolding mapped constructors
 mapped-sums f g zero k u = let e : k + 0 ≡ k = omega arith in rw e refl

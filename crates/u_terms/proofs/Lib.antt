@@ -10,4 +10,5 @@ pub mod MappedNames
 pub mod MappedSizes
 pub mod OverNames
 pub mod Parts
+pub mod Products
 pub mod ValuesInDomain

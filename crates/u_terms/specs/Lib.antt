@@ -3,6 +3,7 @@ pub mod Size
 pub mod Places
 pub mod Names
 pub mod Binding
+pub mod Products
 pub mod Meaning
 pub mod Facts
 pub mod Samples

@@ -15,7 +15,7 @@ use Rattle.u_terms.specs.declared.term.Val.TheVariants as v
 use Rattle.u_terms.specs.Meaning.{meaning, value_meaning}
 use Rattle.u_terms.proofs.Meanings.{list_meaning, meaning-Rel, meaning-Eq, meaning-Free}
 use Rattle.u_rules.specs.Terms.{places, prod}
-use Rattle.u_rules.proofs.Products.{product_by}
+use Rattle.u_terms.proofs.Products.{product_by}
 use Rattle.u_rules.proofs.Columns.{prod-mean, length-places}
 use Rattle.u_rules.proofs.Nested.{onto, sums-mean, places-mean}
 use Rattle.udp_prog.specs.Translation.{named_from, table_term}

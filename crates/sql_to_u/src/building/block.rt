@@ -2,7 +2,8 @@
 ghost use Rattle.std.specs.Prelude.{◌≡◌, ◌++◌, IfOk};
 ghost use Rattle.u_terms.specs.declared.term.U.TheVariants as u;
 ghost use Rattle.scope_core.specs.declared.tree.RBlock.{out-RBlock};
-ghost use Rattle.sql_to_u.specs.Factors.{over_names, product_of};
+ghost use Rattle.sql_to_u.specs.Factors.{over_names};
+ghost use Rattle.u_terms.specs.Products.{product_of};
 ghost use Rattle.sql_to_u.specs.Listed.{columns_listed};
 ghost use Rattle.sql_to_u.specs.TermLists.{joined_listed, keys_term, members_listed, one_term, plain_term, scope_within, terms_of};
 ghost use Rattle.sql_to_u.specs.Translation.{block_term, query_term};
