@@ -201,8 +201,8 @@ fn fkey_sides(alloc: Global, facts: &Facts, f: &Fkey, s: &[Val]) -> Result<(U, U
         s,
         f.cols.as_slice(),
     )?;
-    let nested = sums(alloc, count, body.into_inner())?;
-    let right = mul(alloc, rel(alloc, f.from, s)?, Boxed::new(alloc, nested)?)?;
+    let nested = Boxed::new(alloc, sums(alloc, count, body.into_inner())?)?;
+    let right = mul(alloc, rel(alloc, f.from, s)?, nested)?;
     let left = rel(alloc, f.from, s)?;
     Ok((left.into_inner(), right.into_inner()))
 }
