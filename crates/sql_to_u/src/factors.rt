@@ -74,6 +74,7 @@ pub fn close(body: U, name: u32) -> Result<U, NoMemory>
     Ok(term)
 }
 
+/// A term under a squash where it is for DISTINCT.
 pub fn squash_if(alloc: Global, distinct: bool, term: U) -> Result<U, NoMemory>
     ensures { IfOk result (λ u. u ≡ squash_if distinct term) }
 {
@@ -83,6 +84,7 @@ pub fn squash_if(alloc: Global, distinct: bool, term: U) -> Result<U, NoMemory>
     Ok(term)
 }
 
+/// The terms of two queries under a set operator.
 pub fn combined(alloc: Global, op: SetOp, left: U, right: U) -> Result<U, NoMemory>
     ensures { IfOk result (λ u. u ≡ combined_terms op left right) }
 {

@@ -91,6 +91,7 @@ pub enum Row {
 }
 
 impl Row {
+    /// That of the value at this place of the row, and none past the last.
     #[tactic(auto, using(crate::proofs::SizeLaws::in_rows))]
     pub fn get(self, index: usize) -> Option<Size>
         ensures { result ≡ slice_get (row_sizes self) index }

@@ -62,12 +62,14 @@ pub fn both(left: Size, right: Size) -> Size
     under(beside(left, right))
 }
 
+/// Under a squash where it is for DISTINCT.
 pub fn squash_if(distinct: bool, size: Size) -> Size
     ensures { result ≡ sizes.squash_size_if distinct size }
 {
     if distinct { under(size) } else { size }
 }
 
+/// Of two queries under a set operator.
 pub fn combined(op: SetOp, left: Size, right: Size) -> Size
     ensures { result ≡ sizes.combined_size op left right }
 {

@@ -36,6 +36,7 @@ pub fn add_items(
     Ok(())
 }
 
+/// Of a value; an aggregate counts its values by the name `next`.
 #[cycle(build)]
 #[tactic(auto, using(crate::proofs::TermLaws::values, crate::proofs::Weights::values))]
 pub fn value_term(
@@ -68,6 +69,7 @@ pub fn value_term(
     }
 }
 
+/// Of values in order.
 #[cycle(build)]
 pub fn value_terms(
     alloc: Global,

@@ -10,6 +10,7 @@ use crate::sizing::block::query_size;
 use crate::sizing::value::{value_size, values_size};
 use scope_core::{RCond, query_width};
 
+/// A factor for each condition.
 #[cycle(sizes)]
 pub fn add_conditions(
     before: Product,

@@ -30,6 +30,7 @@ pub fn add_items(
     factors
 }
 
+/// Of a value, as it stands where the members of the innermost group are these.
 #[cycle(sizes)]
 #[tactic(auto, using(crate::proofs::SizeLaws::at_nodes))]
 pub fn value_size(value: &RVal, group: GroupSize, views: &[Size]) -> Size
