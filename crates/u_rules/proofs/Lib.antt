@@ -3,6 +3,7 @@ pub mod LeavesMean
 pub mod Nested
 pub mod KeyedTables
 pub mod Columns
+pub mod UnderSums
 pub mod FactsAt
 pub mod Walk
 pub mod Sound

@@ -6,7 +6,7 @@ use Rattle.u_rules.specs.declared.rule.Arg.{Arg}
 use Rattle.u_rules.specs.declared.rule.Rule.{Rule}
 use Rattle.u_rules.specs.declared.rule.Why.{Why}
 use Rattle.u_rules.specs.declared.rule.Why.TheVariants as why
-use Rattle.u_rules.specs.declared.sides.Misfit.{Misfit}
+use Rattle.u_rules.specs.declared.faults.Misfit.{Misfit}
 use Rattle.u_rules.specs.Answers.{fault_of}
 use Rattle.u_rules.specs.Rows.{Row, row, LeavesAgree, Instance}
 use Rattle.u_rules.specs.Sides.{HasRow, Refused}

@@ -21,7 +21,7 @@ use Rattle.u_terms.proofs.Binding.{opened_with_alone}
 use Rattle.u_terms.proofs.Meanings.{list_meaning, meaning_at, meaning-Sum, meaning-Rel}
 use Rattle.u_rules.specs.declared.rule.Arg.{Arg}
 use Rattle.u_rules.specs.declared.rule.Rule.TheVariants as rule
-use Rattle.u_rules.specs.declared.sides.Misfit.{Misfit}
+use Rattle.u_rules.specs.declared.faults.Misfit.{Misfit}
 use Rattle.u_rules.specs.Terms.{◌⊗◌, ◌≐◌, sq, S, R, put, places, equal_columns, equal_rows, width, keys_of, key_columns, referenced}
 use Rattle.u_terms.specs.Products.{product_of}
 use Rattle.u_rules.specs.Rows.{Row, row, unless, swap_fault, key_fault, fkey_row, IsClosedArg, LeavesAgree}

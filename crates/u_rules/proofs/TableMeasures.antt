@@ -2,15 +2,15 @@
 use Rattle.std.proofs.Common.{◌≡◌, ℕ, zero, suc, ◌+◌, ◌<◌, ◌≤◌, min, List, [], ◌∷◌, length, refl, ap, sym, ◌∙◌, arith}
 use Rattle.u_terms.specs.Syntax.{U, Val, Bound, Free}
 use Rattle.u_terms.specs.declared.term.Val.TheVariants as v
-use Rattle.u_terms.specs.declared.facts.Facts.{Facts}
 use Rattle.u_terms.specs.declared.facts.Fkey.{Fkey}
 use Rattle.u_terms.specs.Size.{nodes, value_nodes, list_nodes, depth, value_depth, list_depth}
 use Rattle.u_terms.specs.Binding.{same_name, sums}
 use Rattle.u_binder.specs.Changes.{moved_at}
 use Rattle.u_rules.specs.declared.measure.Measure.{Measure}
-use Rattle.u_rules.specs.Terms.{R, ◌≐◌, ◌⊗◌, turned, places, column, equal_columns, equal_rows, width, referenced}
+use Rattle.u_rules.specs.Terms.{R, ◌≐◌, ◌⊗◌, turned, places, column, equal_columns, equal_rows, found_rows}
 use Rattle.u_terms.specs.Products.{product_of}
-use Rattle.u_rules.specs.Measures.{capped, flat, measure_of, value_measure, list_measure, with, below, summed, columns_measure, rows_measure, place_columns, key_sizes, fkey_sizes}
+use Rattle.u_rules.specs.Measures.{capped, flat, measure_of, value_measure, list_measure}
+use Rattle.u_rules.specs.Combined.{with, below, summed, columns_measure, rows_measure, place_columns, key_sizes, fkey_sizes}
 use Rattle.u_rules.proofs.Measured.{measure-Mul, measure-Sum, measure-Rel, measure-Eq, measure-Bound, measure-Lit, measure-none}
 use Rattle.std.proofs.lemmas.List.Sums.{sum_by-cons}
 use Rattle.u_terms.proofs.Sizes.{list_depth-cons, nodes-Bound}
@@ -114,17 +114,16 @@ measure-places w h =
     let f : capped (list_depth (places w)) ≡ min w 1 = omega (arith, places_depth w) in
     rw (e, f) refl
 
-pub measure-fkey : (F : Facts) (f : Fkey) (s : List Val) → width F f.to < 4294967296
-    → flat (measure_of (R f.from s)) (measure_of (R f.from s ⊗ referenced F f s)) ≡ fkey_sizes (width F f.to) f.key s f.cols
-measure-fkey F f s h =
-    let w : ℕ = width F f.to in
+pub measure-fkey : (w : ℕ) (f : Fkey) (s : List Val) → w < 4294967296
+    → flat (measure_of (R f.from s)) (measure_of (R f.from s ⊗ found_rows w f s)) ≡ fkey_sizes w f.key s f.cols
+measure-fkey w f s h =
     let inner : measure_of (product_of (R f.to (places w) ∷ equal_columns (places w) f.key s f.cols)) ≡ place_columns (below (record { nodes = w; depth = min w 1 })) f.key s f.cols
     = measure-columns (R f.to (places w)) (places w) f.key s f.cols
     ∙ columns-of_places w (measure_of (R f.to (places w))) f.key s f.cols
     ∙ ap (λ (m : Measure). place_columns m f.key s f.cols) (measure-Rel f.to (places w) ∙ ap below (measure-places w h)) in
-    let right : measure_of (R f.from s ⊗ referenced F f s) ≡ with (below (list_measure s)) (summed w (place_columns (below (record { nodes = w; depth = min w 1 })) f.key s f.cols))
-    = measure-Mul (R f.from s) (referenced F f s)
-    ∙ ap (λ (m : Measure). with m (measure_of (referenced F f s))) (measure-Rel f.from s)
+    let right : measure_of (R f.from s ⊗ found_rows w f s) ≡ with (below (list_measure s)) (summed w (place_columns (below (record { nodes = w; depth = min w 1 })) f.key s f.cols))
+    = measure-Mul (R f.from s) (found_rows w f s)
+    ∙ ap (λ (m : Measure). with m (measure_of (found_rows w f s))) (measure-Rel f.from s)
     ∙ ap (with (below (list_measure s))) (measure-sums w (product_of (R f.to (places w) ∷ equal_columns (places w) f.key s f.cols)) ∙ ap (summed w) inner) in
     rw (measure-Rel f.from s, right) refl
 

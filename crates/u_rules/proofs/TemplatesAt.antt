@@ -1,14 +1,10 @@
 -- Rows by the kinds of arguments.
 use Rattle.std.proofs.Common.{◌≡◌, Bool, true, false, List, [], ◌∷◌, Option, Some, None, Result, Ok, Err, refl, ap, sym, ◌∙◌, subst}
-use Rattle.std.specs.Prelude.{IsTrue, MatchBool, ◌↔◌}
 use Rattle.u_terms.specs.Syntax.{U}
 use Rattle.u_rules.specs.declared.rule.Arg.{Arg}
 use Rattle.u_rules.specs.declared.rule.Arg.TheVariants.{Term, Body, Value, Values, Num}
 use Rattle.u_rules.specs.declared.forms.Kind.{Kind}
 use Rattle.u_rules.specs.declared.forms.Kind.TheVariants as kind
-use Rattle.u_rules.specs.declared.sides.Unfit.{Unfit}
-use Rattle.u_rules.specs.declared.sides.Unfit.TheVariants as unfit
-use Rattle.u_rules.specs.Answers.{AnswersRow, Builds}
 use Rattle.u_rules.specs.Terms.{O}
 use Rattle.u_rules.specs.Sides.{side_of}
 use Rattle.u_rules.specs.Rows.{Row}
@@ -60,16 +56,6 @@ fitting t args e = subst (Filled t.kinds.now args (λ args. denote args t.left) 
 pub misfitting : (t : Template) (args : List Arg) → fits t.kinds.now args ≡ false → template_row t args ≡ None
 misfitting t args e = subst (Filled t.kinds.now args (λ args. denote args t.left) (λ args. denote args t.right)) e (filled t.kinds.now args (λ args. denote args t.left) (λ args. denote args t.right))
 
-pub built : (o : Option Row) (l r : U) (answer : Result (U × U) Unfit) → o ≡ Some (record { fault = None; left = l; right = r }) → Builds l r answer → AnswersRow o answer
-built o l r (Ok p) is b = rw (b.0, b.1) is
-built o l r (Err unfit.NoMemory) is b = tt
-built o l r (Err unfit.ArgKinds) is b = absurd b
-built o l r (Err (unfit.Wrong w)) is b = absurd b
-
-pub told : (b : Bool) (P : Type 0) → (IsTrue b ↔ P) → MatchBool b P (P → ⊥)
-told true P h = h.0 refl
-told false P h = λ p. let never : IsTrue false = h.1 p in absurd (cc)
-
 -- ---- the sides of an instance
 left_of : Option Row → U
 left_of None = O
@@ -78,21 +64,6 @@ left_of (Some r) = r.left
 right_of : Option Row → U
 right_of None = O
 right_of (Some r) = r.right
-
-filled_sides : (ks : List Kind) (args : List Arg) (l r : List Arg → U) (b : Bool) (x y : U) → Filled ks args l r b
-    → by_kinds ks l r args ≡ Some (record { fault = None; left = x; right = y }) → (l args ≡ x) × (r args ≡ y)
-unfolding left_of right_of
-filled_sides ks args l r true x y is e = (ap left_of (sym is ∙ e), ap right_of (sym is ∙ e))
-filled_sides ks args l r false x y is e = absurd (never (sym is ∙ e))
-  where
-    never : ◌≡◌ {A = Option Row} None (Some (record { fault = None; left = x; right = y })) → ⊥
-    never z = cc
-
-pub template-sides : (t : Template) (args : List Arg) (x y : U) → template_row t args ≡ Some (record { fault = None; left = x; right = y })
-    → (denote args t.left ≡ x) × (denote args t.right ≡ y)
-template-sides t args x y e =
-    filled_sides t.kinds.now args (λ args. denote args t.left) (λ args. denote args t.right) (fits t.kinds.now args) x y
-    (filled t.kinds.now args (λ args. denote args t.left) (λ args. denote args t.right)) e
 
 pub side-chosen : (turned : Bool) (l r x y : U) → (l ≡ x) × (r ≡ y) → side_of turned l r ≡ side_of turned x y
 side-chosen true l r x y e = e.1

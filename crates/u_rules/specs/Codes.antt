@@ -4,8 +4,6 @@
 use Rattle.std.specs.Prelude.{ℕ, List, [], ◌∷◌, ◌++◌, map, IsPermutation, IsSorted}
 use Rattle.std.specs.Ordering.{nat_cmp}
 use Rattle.std.specs.Cmp.Lexicographic.{slice_cmp}
-use denote.Ref.{Bor}
-use Rattle.u_terms.specs.declared.term.U.{U as TheU}
 use Rattle.u_terms.specs.Syntax.{U, Zero, One, Add, Mul, Squash, Not, Sum, Rel, Eq, Pred, Val, Bound, Free, Lit, Fun, Agg, Vals, NoVals, ValThen}
 
 unfoldable mutual
@@ -36,10 +34,6 @@ unfoldable mutual
 abbrev pub list_code : List Val → List ℕ
 list_code [] = 0 ∷ []
 list_code (value ∷ rest) = 1 ∷ (value_code value ++ list_code rest)
-
--- the terms behind references
-abbrev pub terms : List (Bor TheU) → List U
-terms = map (λ reference. reference.now)
 
 -- the codes of some terms, in order
 pub record AreSortedCodes (ts : List U) (codes : List (List ℕ)) : Type 0 where

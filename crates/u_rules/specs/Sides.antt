@@ -18,7 +18,7 @@ use Rattle.u_rules.specs.declared.rule.Why.{Why}
 use Rattle.u_rules.specs.declared.rule.Why.TheVariants as why
 use Rattle.u_rules.specs.declared.rule.InstanceFault.{InstanceFault}
 use Rattle.u_rules.specs.declared.rule.InstanceFault.TheVariants.{BadInstance, NoMemory}
-use Rattle.u_rules.specs.declared.sides.Misfit.{Misfit}
+use Rattle.u_rules.specs.declared.faults.Misfit.{Misfit}
 use Rattle.u_rules.specs.Misfits.{why_of}
 use Rattle.u_rules.specs.Terms.{◌⊗◌}
 use Rattle.u_rules.specs.Rows.{Row, row, AreClosed, LeavesAgree, Instance}

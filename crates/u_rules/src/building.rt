@@ -1,32 +1,34 @@
-//! The term that a side is.
+//! The term that a side is, written.
 ghost use Rattle.std.specs.Prelude.{◌≡◌, IfOk, slice_get};
 ghost use Rattle.u_terms.specs.declared.term.Val.TheVariants as v;
-ghost use Rattle.u_rules.specs.Answers.{AnswersRow, Builds};
+ghost use Rattle.u_rules.specs.Answers.{side_found};
 ghost use Rattle.u_rules.specs.Sides.{side_of};
-ghost use Rattle.u_rules.specs.Templates.{denote, num_of, template_row, term_of, value_of, values_of};
+ghost use Rattle.u_rules.specs.Templates.{denote, num_of, term_of, value_of, values_of};
 ghost use Rattle.u_rules.specs.Terms as terms;
 ghost use Rattle.u_rules.specs.Terms.{◌≐◌, P};
 
 use crate::build::{add, copied, mul, neg, one, pred, put, sq, sum, zero};
 use crate::forms::{Side, Template};
-use crate::holes::{copied_value, fit, num, term, value, values};
+use crate::found::Found;
+use crate::holes::{copied_value, num, term, value, values};
 use crate::rule::Arg;
-use crate::sides::Unfit;
+use crate::tables::{fkey_side, key_side, sum_swap_side};
 use std::alloc::{AllocError, Global};
-use u_terms::{Boxed, U, Val, depth};
+use u_terms::{Boxed, U, Val};
 
-pub fn template_sides(alloc: Global, template: &Template<'_>, args: &[Arg]) -> Result<(U, U), Unfit>
-    ensures { AnswersRow (template_row template.now args.now) result }
+/// The left or, turned, the right side.
+pub fn build(alloc: Global, found: &Found<'_>, turned: bool) -> Result<U, AllocError>
+    ensures { IfOk result (λ u. u ≡ side_found turned found.now) }
 {
-    if fit(template.kinds, args) {
-        both(alloc, &template.left, &template.right, args)
-    } else {
-        Err(Unfit::ArgKinds)
+    match *found {
+        Found::Plain(template, args) => template_side(alloc, template, args, turned),
+        Found::SumSwap(outer, inner, body) => sum_swap_side(alloc, outer, inner, body, turned),
+        Found::Key(table, key, one, other) => key_side(alloc, table, key, one, other, turned),
+        Found::Fkey(fkey, width, row) => fkey_side(alloc, fkey, width, row, turned),
     }
 }
 
-/// The left or, turned, the right side, whatever the kinds of the arguments.
-pub fn template_side(
+fn template_side(
     alloc: Global,
     template: &Template<'_>,
     args: &[Arg],
@@ -35,32 +37,24 @@ pub fn template_side(
     ensures { IfOk result (λ u. u ≡ side_of turned (denote args.now template.now.left) (denote args.now template.now.right)) }
 {
     let side = if turned {
-        build(alloc, &template.right, args)?
+        fill(alloc, &template.right, args)?
     } else {
-        build(alloc, &template.left, args)?
+        fill(alloc, &template.left, args)?
     };
     Ok(side.into_inner())
 }
 
-fn both(alloc: Global, left: &Side<'_>, right: &Side<'_>, args: &[Arg]) -> Result<(U, U), Unfit>
-    ensures { Builds (denote args.now left.now) (denote args.now right.now) result }
-{
-    let left = build(alloc, left, args)?;
-    let right = build(alloc, right, args)?;
-    Ok((left.into_inner(), right.into_inner()))
-}
-
-pub fn build(alloc: Global, side: &Side<'_>, args: &[Arg]) -> Result<Boxed<U>, AllocError>
+fn fill(alloc: Global, side: &Side<'_>, args: &[Arg]) -> Result<Boxed<U>, AllocError>
     ensures { IfOk result (λ u. u ≡ denote args.now side.now) }
 {
     match side {
         Side::Zero => zero(alloc),
         Side::One => one(alloc),
-        Side::Add(a, b) => add(alloc, build(alloc, a, args)?, build(alloc, b, args)?),
-        Side::Mul(a, b) => mul(alloc, build(alloc, a, args)?, build(alloc, b, args)?),
-        Side::Squash(a) => sq(alloc, build(alloc, a, args)?),
-        Side::Not(a) => neg(alloc, build(alloc, a, args)?),
-        Side::Sum(a) => sum(alloc, build(alloc, a, args)?),
+        Side::Add(a, b) => add(alloc, fill(alloc, a, args)?, fill(alloc, b, args)?),
+        Side::Mul(a, b) => mul(alloc, fill(alloc, a, args)?, fill(alloc, b, args)?),
+        Side::Squash(a) => sq(alloc, fill(alloc, a, args)?),
+        Side::Not(a) => neg(alloc, fill(alloc, a, args)?),
+        Side::Sum(a) => sum(alloc, fill(alloc, a, args)?),
         Side::Hole(i) => hole(alloc, args, *i),
         Side::Put(i, j) => put_hole(alloc, args, *i, *j),
         Side::Eq(i, j) => eq(alloc, args, *i, *j),
@@ -78,16 +72,15 @@ fn hole(alloc: Global, args: &[Arg], i: usize) -> Result<Boxed<U>, AllocError>
     }
 }
 
-// There is no memory for a body that is too deep.
 fn put_hole(alloc: Global, args: &[Arg], i: usize, j: usize) -> Result<Boxed<U>, AllocError>
     ensures { IfOk result (λ u. u ≡ terms.put (value_of (slice_get args.now j)) (term_of (slice_get args.now i))) }
 {
-    let body = hole(alloc, args, i)?;
-    let x = copied_value(alloc, args, j)?;
-    if depth(body.get()) >= 0x1_0000_0000 {
-        return Err(AllocError);
+    match (term(args, i), value(args, j)) {
+        (Some(f), Some(x)) => put(alloc, f, x),
+        (Some(f), None) => put(alloc, f, &Val::Lit(0)),
+        (None, Some(x)) => put(alloc, &U::Zero, x),
+        (None, None) => put(alloc, &U::Zero, &Val::Lit(0)),
     }
-    put(alloc, body.get(), &x)
 }
 
 fn eq(alloc: Global, args: &[Arg], i: usize, j: usize) -> Result<Boxed<U>, AllocError>

@@ -2,23 +2,55 @@
 ghost use Rattle.std.specs.Prelude.{◌≡◌, ◌↔◌, ◌+◌, ◌<◌, ◌≤◌, ◌^◌, IsTrue, slice_get};
 ghost use Rattle.u_terms.specs.Binding.{closed_path, mapped, mapped_value, place_for_names, same_place};
 ghost use Rattle.u_terms.specs.Size.{depth as depth_of, value_depth};
+ghost use Rattle.u_rules.specs.Answers.{side_found};
+ghost use Rattle.u_rules.specs.Sides.{side_of};
 ghost use Rattle.u_rules.specs.Templates.{denote, term_of, value_of};
 ghost use Rattle.u_rules.specs.Terms as terms;
 
+use crate::changed_same::{Change, same_changed};
 use crate::closed_same::{same_inside, same_lists, same_values};
-use crate::forms::Side;
+use crate::forms::{Side, Template};
+use crate::found::Found;
 use crate::holes::{num, term, value, values};
-use crate::put_same::same_put;
 use crate::rule::Arg;
+use crate::table_same::{is_fkey, is_key, is_sum_swap};
 use u_terms::{U, Val};
 
-/// Whether a term in place is the side for these arguments after the names from `first` on are closed.
-pub fn compares(side: &Side<'_>, args: &[Arg], u: &U, first: u32, count: u32) -> bool
+/// Whether a term in place is the left or, turned, the right side after the names from `first` on are closed.
+pub fn compares(found: &Found<'_>, turned: bool, u: &U, first: u32, count: u32) -> bool
     requires shallow { depth_of u.now + count < 2 ^ 32 }
     requires fits { first + count < 2 ^ 32 }
-    ensures { IsTrue result ↔ (u.now ≡ closed_path (denote args.now side.now) first count) }
+    ensures { IsTrue result ↔ (u.now ≡ closed_path (side_found turned found.now) first count) }
 {
-    compares_inside(side, args, u, first, count, 0)
+    match *found {
+        Found::Plain(template, args) => is_template(template, args, turned, u, first, count),
+        Found::SumSwap(outer, inner, body) => {
+            is_sum_swap(outer, inner, body, turned, u, first, count)
+        }
+        Found::Key(table, key, one, other) => {
+            is_key(table, key, one, other, turned, u, first, count)
+        }
+        Found::Fkey(fkey, width, row) => is_fkey(fkey, width, row, turned, u, first, count),
+    }
+}
+
+fn is_template(
+    template: &Template<'_>,
+    args: &[Arg],
+    turned: bool,
+    u: &U,
+    first: u32,
+    count: u32,
+) -> bool
+    requires shallow { depth_of u.now + count < 2 ^ 32 }
+    requires fits { first + count < 2 ^ 32 }
+    ensures { IsTrue result ↔ (u.now ≡ closed_path (side_of turned (denote args.now template.now.left) (denote args.now template.now.right)) first count) }
+{
+    if turned {
+        compares_inside(&template.right, args, u, first, count, 0)
+    } else {
+        compares_inside(&template.left, args, u, first, count, 0)
+    }
 }
 
 #[cycle(compares)]
@@ -107,10 +139,18 @@ fn is_put(args: &[Arg], i: usize, j: usize, u: &U, first: u32, count: u32, binde
     ensures { IsTrue result ↔ (u.now ≡ mapped same_place (place_for_names first count) binders (terms.put (value_of (slice_get args.now j)) (term_of (slice_get args.now i)))) }
 {
     match (term(args, i), value(args, j)) {
-        (Some(f), Some(e)) => same_put(f, e, 0, u, first, count, binders),
-        (Some(f), None) => same_put(f, &Val::Lit(0), 0, u, first, count, binders),
-        (None, Some(e)) => same_put(&U::Zero, e, 0, u, first, count, binders),
-        (None, None) => same_put(&U::Zero, &Val::Lit(0), 0, u, first, count, binders),
+        (Some(f), Some(e)) => same_changed(f, Change::Put(e), 0, u, first, count, binders),
+        (Some(f), None) => same_changed(f, Change::Put(&Val::Lit(0)), 0, u, first, count, binders),
+        (None, Some(e)) => same_changed(&U::Zero, Change::Put(e), 0, u, first, count, binders),
+        (None, None) => same_changed(
+            &U::Zero,
+            Change::Put(&Val::Lit(0)),
+            0,
+            u,
+            first,
+            count,
+            binders,
+        ),
     }
 }
 

@@ -1,18 +1,22 @@
-ghost use Rattle.std.specs.Prelude.{◌≡◌, IfOk};
+//! Instances of rules, and the first reason why there is none.
+ghost use Rattle.std.specs.Prelude.{◌≡◌, ◌+◌, ◌<◌, ◌^◌, IfOk};
 ghost use Rattle.u_terms.specs.Facts.{FactsOk};
-ghost use Rattle.u_rules.specs.Answers.{AnswersRow, Tests, TellsLeaves};
+ghost use Rattle.u_terms.specs.Size.{depth};
+ghost use Rattle.u_terms.specs.declared.facts.Facts.{Facts as TheFacts};
 ghost use Rattle.u_terms.specs.declared.term.U.{U as TheU};
+ghost use Rattle.u_rules.specs.Answers.{Admits, TellsLeaves};
 ghost use Rattle.u_rules.specs.Rows.{row, Instance};
-ghost use Rattle.u_rules.specs.Sides.{Answers, AreSound, HasInstance, side_of};
+ghost use Rattle.u_rules.specs.Sides.{Answers, AreSound, HasInstance, TellsSide, side_of};
 ghost use Rattle.u_rules.specs.declared.rule.InstanceFault.TheVariants.{BadInstance as bad};
 
-use crate::building::{template_side, template_sides};
+use crate::NoMemory;
+use crate::building::build;
 use crate::closedness::are_closed;
+use crate::comparing::compares;
+use crate::faults::Unfit;
+use crate::found::{Found, find};
 use crate::leaf_lists::same_leaves;
 use crate::rule::{Arg, InstanceFault, Rule, Why};
-use crate::sides::Unfit;
-use crate::table::{Entry, entry_of};
-use crate::{NoMemory, tables};
 use std::alloc::{AllocError, Global};
 use u_terms::{Facts, U};
 
@@ -30,7 +34,8 @@ pub fn instance(
     answer(alloc, facts, rule, args)
 }
 
-/// One side of the instance that the rule has for these arguments: the left or, turned, the right one. Nothing is tested again.
+/// One side of the instance that the rule has for these arguments: the left or, turned, the right one. The other one is not written, and
+/// nothing is tested again.
 pub fn side(
     alloc: Global,
     facts: &Facts,
@@ -41,83 +46,96 @@ pub fn side(
     requires stands { HasInstance facts.now rule args.now }
     ensures { IfOk result (λ u. (l r : TheU) → Instance facts.now rule args.now l r → u ≡ side_of turned l r) }
 {
-    match entry_of(rule) {
-        Entry::Plain(template) => template_side(alloc, template, args, turned),
-        _ => built_side(alloc, facts, rule, args, turned),
+    match find(facts, rule, args) {
+        Ok(found) => build(alloc, &found, turned),
+        Err(_) => Err(AllocError),
     }
 }
 
-// That of a rule whose row speaks of numbers, tables or keys. Where memory is there the sides are there.
-fn built_side(
+/// Whether a term in place is the left or, turned, the right side that the rule has for these arguments, after the names from
+/// `first` on are closed, the last one innermost; or the first reason why the rule has none. Neither side is written: the term is
+/// compared where it stands.
+pub fn stands(
     alloc: Global,
     facts: &Facts,
     rule: Rule,
     args: &[Arg],
     turned: bool,
-) -> Result<U, NoMemory>
-    ensures { IfOk result (λ u. (l r : TheU) → Instance facts.now rule args.now l r → u ≡ side_of turned l r) }
+    part: &U,
+    first: u32,
+    count: u32,
+) -> Result<bool, InstanceFault>
+    requires shallow { depth part.now + count < 2 ^ 32 }
+    requires fits { first + count < 2 ^ 32 }
+    ensures { TellsSide facts.now rule args.now turned part.now first count result }
 {
-    match sides(alloc, facts, rule, args) {
-        Ok((left, right)) => { if turned { Ok(right) } else { Ok(left) } }
-        Err(_) => Err(AllocError),
+    match admitted(alloc, facts, rule, args) {
+        Ok(found) => Ok(compares(&found, turned, part, first, count)),
+        Err(fault) => Err(fault),
     }
 }
 
 fn answer(alloc: Global, facts: &Facts, rule: Rule, args: &[Arg]) -> Result<(U, U), InstanceFault>
     ensures { Answers facts.now rule args.now result }
 {
-    match sides(alloc, facts, rule, args) {
+    match admitted(alloc, facts, rule, args) {
+        Ok(found) => {
+            let left = build(alloc, &found, false)?;
+            let right = build(alloc, &found, true)?;
+            Ok((left, right))
+        }
+        Err(fault) => Err(fault),
+    }
+}
+
+// The sides of the instance, or the first reason why there is none.
+fn admitted<'a>(
+    alloc: Global,
+    facts: &'a Facts,
+    rule: Rule,
+    args: &'a [Arg],
+) -> Result<Found<'a>, InstanceFault>
+    ensures { Admits facts.now rule args.now result }
+{
+    match find(facts, rule, args) {
         Err(Unfit::ArgKinds) => Err(refused(Why::ArgKinds)),
-        Err(Unfit::NoMemory) => Err(InstanceFault::NoMemory),
         Err(Unfit::Wrong(misfit)) => {
             if !are_closed(rule, args)? {
                 return Err(refused(Why::NotClosed));
             }
             Err(refused(misfit.why()))
         }
-        Ok((left, right)) => match test(alloc, rule, args, &left, &right) {
-            Ok(()) => Ok((left, right)),
-            Err(fault) => Err(fault),
-        },
+        Ok(found) => {
+            if !are_closed(rule, args)? {
+                return Err(refused(Why::NotClosed));
+            }
+            if !leaves_agree(alloc, rule, args)? {
+                return Err(refused(Why::LeavesDiffer));
+            }
+            Ok(found)
+        }
     }
 }
 
-pub fn refused(why: Why) -> InstanceFault
+fn refused(why: Why) -> InstanceFault
     ensures { result ≡ bad why }
 {
     InstanceFault::BadInstance { why }
 }
 
-// Whether the arguments are closed, and the leaves of both sides agree where they must.
-fn test(alloc: Global, rule: Rule, args: &[Arg], left: &U, right: &U) -> Result<(), InstanceFault>
-    ensures { Tests rule args.now left.now right.now result }
-{
-    if !are_closed(rule, args)? {
-        return Err(refused(Why::NotClosed));
-    }
-    if !leaves_agree(alloc, rule, left, right)? {
-        return Err(refused(Why::LeavesDiffer));
-    }
-    Ok(())
-}
-
-fn leaves_agree(alloc: Global, rule: Rule, left: &U, right: &U) -> Result<bool, NoMemory>
-    ensures { IfOk result (TellsLeaves rule left.now right.now) }
+// Whether the leaves of both sides agree where they must; the sides are then the arguments.
+fn leaves_agree(alloc: Global, rule: Rule, args: &[Arg]) -> Result<bool, NoMemory>
+    ensures { IfOk result (λ agree. (F : TheFacts) → TellsLeaves rule (row F rule args.now) agree) }
 {
     match rule {
-        Rule::AddAc => same_leaves(alloc, left, right, false),
-        Rule::MulAc => same_leaves(alloc, left, right, true),
+        Rule::AddAc => match args {
+            [Arg::Term(x), Arg::Term(y)] => same_leaves(alloc, x, y, false),
+            _ => Ok(true),
+        },
+        Rule::MulAc => match args {
+            [Arg::Term(x), Arg::Term(y)] => same_leaves(alloc, x, y, true),
+            _ => Ok(true),
+        },
         _ => Ok(true),
-    }
-}
-
-pub fn sides(alloc: Global, facts: &Facts, rule: Rule, args: &[Arg]) -> Result<(U, U), Unfit>
-    ensures { AnswersRow (row facts.now rule args.now) result }
-{
-    match entry_of(rule) {
-        Entry::Plain(template) => template_sides(alloc, template, args),
-        Entry::SumSwap => tables::sum_swap(alloc, args),
-        Entry::Key => tables::key(alloc, facts, args),
-        Entry::Fkey => tables::fkey(alloc, facts, args),
     }
 }

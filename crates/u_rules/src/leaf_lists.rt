@@ -1,8 +1,8 @@
 //! The leaves of sums and products, compared as multisets.
 ghost use Rattle.std.specs.Prelude.{◌≡◌, ◌++◌, ◌↔◌, IsTrue, IfOk, OnOk, length, map, vec_items};
-ghost use Rattle.u_rules.specs.Codes.{AreSortedCodes, terms};
+ghost use Rattle.u_rules.specs.Codes.{AreSortedCodes};
 ghost use Rattle.u_rules.specs.Terms as spec;
-ghost use Rattle.u_rules.specs.Terms.{add_leaves, mul_leaves, TellsSame};
+ghost use Rattle.u_rules.specs.Terms.{add_leaves, mul_leaves, terms, TellsSame};
 
 mod code;
 

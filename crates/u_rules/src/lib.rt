@@ -4,30 +4,30 @@
 
 mod build;
 mod building;
+mod changed_same;
 mod closed_same;
 mod closedness;
 mod comparing;
+mod faults;
 mod forms;
+mod found;
 mod holes;
 mod instances;
 pub mod laws;
 mod leaf_lists;
 mod measure;
 mod measuring;
-mod put_same;
 mod rule;
 mod side_sizes;
-mod sides;
-mod standing;
 mod table;
+mod table_same;
 mod table_sizes;
 mod tables;
 
 pub use closed_same::same_closed;
-pub use instances::{instance, side};
+pub use instances::{instance, side, stands};
 pub use leaf_lists::{leaves, same_leaves};
 pub use measuring::sizes;
 pub use rule::{Arg, InstanceFault, Rule, Why};
 pub use side_sizes::Sizes;
-pub use standing::stands;
 pub use std::alloc::AllocError as NoMemory;

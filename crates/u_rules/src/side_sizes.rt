@@ -1,11 +1,11 @@
 //! Nodes and depth of the term that a side is, without the term.
 ghost use Rattle.std.specs.Prelude.{◌≡◌, slice_get};
-ghost use Rattle.u_rules.specs.Measures.{flat, measure_of, sizes_of};
-ghost use Rattle.u_rules.specs.Templates.{denote, template_row, term_of, value_of};
+ghost use Rattle.u_rules.specs.Measures.{flat, measure_of};
+ghost use Rattle.u_rules.specs.Templates.{denote, term_of, value_of};
 ghost use Rattle.u_rules.specs.Terms as terms;
 
-use crate::forms::{Side, Template};
-use crate::holes::{fit, measured_value, term, value, values};
+use crate::forms::Side;
+use crate::holes::{measured_value, term, value, values};
 use crate::measure::{LEAF, Measure, of, of_list, put};
 use crate::rule::Arg;
 use u_terms::{U, Val};
@@ -35,19 +35,6 @@ pub fn both(left: Measure, right: Measure) -> Sizes
         left_depth: left.depth,
         right_nodes: right.nodes,
         right_depth: right.depth,
-    }
-}
-
-pub fn template_sizes(template: &Template<'_>, args: &[Arg]) -> Sizes
-    ensures { result ≡ sizes_of (template_row template.now args.now) }
-{
-    if fit(template.kinds, args) {
-        both(
-            measure_side(&template.left, args),
-            measure_side(&template.right, args),
-        )
-    } else {
-        NONE
     }
 }
 

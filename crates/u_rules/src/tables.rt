@@ -1,70 +1,57 @@
-//! The sides of the rules whose rows speak of numbers of sums, of tables, of keys and of foreign keys.
-ghost use Rattle.std.specs.Prelude.{◌≡◌, ◌∷◌, ◌+◌, ◌<◌, ◌^◌, IfOk, MatchOption, nat_lt, length, true, false};
+//! The sides of the rules whose rows speak of numbers of sums, of keys and of foreign keys.
+ghost use Rattle.std.specs.Prelude.{◌≡◌, ◌∷◌, ◌+◌, ◌<◌, ◌^◌, IfOk};
 ghost use Rattle.u_terms.specs.Binding as binding;
-ghost use Rattle.u_terms.specs.Size.{depth};
-ghost use Rattle.u_terms.specs.declared.facts.Facts.{Facts as TheFacts};
-ghost use Rattle.u_rules.specs.Terms as terms;
 ghost use Rattle.u_terms.specs.Products.{product_of};
+ghost use Rattle.u_terms.specs.Size.{depth};
+ghost use Rattle.u_rules.specs.Sides.{side_of};
+ghost use Rattle.u_rules.specs.Terms as terms;
 ghost use Rattle.u_rules.specs.Terms.{◌⊗◌, ◌≐◌, R};
-ghost use Rattle.u_rules.specs.Rows.{row};
-ghost use Rattle.u_rules.specs.Answers.{AnswersRow, Builds};
-ghost use Rattle.u_rules.specs.declared.rule.Rule.TheVariants as rule;
 
 use crate::build::{eq, mul, rel};
-use crate::rule::Arg;
-use crate::sides::{Misfit, Unfit};
+use crate::closedness::TOO_DEEP;
 use std::alloc::{AllocError, Global};
 use u_binder::{exchange, sums};
-use u_terms::{Boxed, Facts, Fkey, List, U, Val, depth};
+use u_terms::{Boxed, Fkey, List, U, Val, depth};
 
-/// The most sums that `sum_swap` exchanges.
-const MOST_SUMS: u64 = 2_048;
-
-// The body with the places of both groups exchanged.
-fn turned(alloc: Global, a: u32, b: u32, f: &U) -> Result<U, AllocError>
-    requires shallow { depth f.now + a + b < 2 ^ 32 }
-    ensures { IfOk result (λ u. u ≡ terms.turned a b f.now) }
+/// The body under the sums of both groups, exchanged where the right side is asked for. There is no memory for one that is too deep.
+pub fn sum_swap_side(
+    alloc: Global,
+    outer: u32,
+    inner: u32,
+    body: &U,
+    turned: bool,
+) -> Result<U, AllocError>
+    ensures { IfOk result (λ u. u ≡ side_of turned (binding.sums (outer + inner) body.now) (binding.sums (outer + inner) (terms.turned outer inner body.now))) }
 {
-    let mut body = f.copy(alloc)?;
-    exchange(&mut body, a, b);
-    Ok(body)
-}
-
-fn sum_swap_sides(alloc: Global, a: u32, b: u32, f: &U) -> Result<(U, U), Unfit>
-    requires shallow { depth f.now + a + b < 2 ^ 32 }
-    ensures { Builds (binding.sums (a + b) f.now) (binding.sums (a + b) (terms.turned a b f.now)) result }
-{
-    let left = sums(alloc, a + b, f.copy(alloc)?)?;
-    let right = sums(alloc, a + b, turned(alloc, a, b, f)?)?;
-    Ok((left, right))
-}
-
-pub fn sum_swap(alloc: Global, args: &[Arg]) -> Result<(U, U), Unfit>
-    ensures { (F : TheFacts) → AnswersRow (row F rule.SumSwap args.now) result }
-{
-    match args {
-        [Arg::Num(a), Arg::Num(b), Arg::Body(f)] => {
-            let count = u64::from(*a) + u64::from(*b);
-            if !(0 < *a && 0 < *b && count <= MOST_SUMS) {
-                return Err(Unfit::Wrong(Misfit::ZeroCount));
-            }
-            if depth(f) >= 0x8000_0000 {
-                return Err(Unfit::NoMemory);
-            }
-            sum_swap_sides(alloc, *a, *b, f)
-        }
-        _ => Err(Unfit::ArgKinds),
+    if depth(body).saturating_add(u64::from(outer) + u64::from(inner)) >= TOO_DEEP {
+        return Err(AllocError);
     }
+    sums(
+        alloc,
+        outer + inner,
+        swapped(alloc, outer, inner, body, turned)?,
+    )
+}
+
+// The body, its places exchanged where it is turned.
+fn swapped(alloc: Global, outer: u32, inner: u32, body: &U, turned: bool) -> Result<U, AllocError>
+    requires shallow { depth body.now + outer + inner < 2 ^ 32 }
+    ensures { IfOk result (λ u. u ≡ side_of turned body.now (terms.turned outer inner body.now)) }
+{
+    let mut copy = body.copy(alloc)?;
+    if turned {
+        exchange(&mut copy, outer, inner);
+    }
+    Ok(copy)
 }
 
 // The value in a column, and `c0` past the last one.
 fn value_at(alloc: Global, values: &[Val], at: u32) -> Result<Val, AllocError>
     ensures { IfOk result (λ v. v ≡ terms.column values.now at) }
 {
-    if (at as usize) < values.len() {
-        values[at as usize].copy(alloc)
-    } else {
-        Ok(Val::Lit(0))
+    match values.get(at as usize) {
+        Some(value) => value.copy(alloc),
+        None => Ok(Val::Lit(0)),
     }
 }
 
@@ -118,63 +105,22 @@ fn rows_after(alloc: Global, head: Boxed<U>, s: &[Val], t: &[Val]) -> Result<Box
     }
 }
 
-fn key_sides(alloc: Global, t: u32, key: &[u32], s: &[Val], r: &[Val]) -> Result<(U, U), Unfit>
-    ensures { Builds (product_of (R t s.now ∷ (R t r.now ∷ terms.equal_columns s.now key.now r.now key.now))) (product_of (R t s.now ∷ terms.equal_rows s.now r.now)) result }
+pub fn key_side(
+    alloc: Global,
+    table: u32,
+    key: &[u32],
+    one: &[Val],
+    other: &[Val],
+    turned: bool,
+) -> Result<U, AllocError>
+    ensures { IfOk result (λ u. u ≡ side_of turned (product_of (R table one.now ∷ (R table other.now ∷ terms.equal_columns one.now key.now other.now key.now))) (product_of (R table one.now ∷ terms.equal_rows one.now other.now))) }
 {
-    let rest = columns_after(alloc, rel(alloc, t, r)?, s, key, r, key)?;
-    let left = mul(alloc, rel(alloc, t, s)?, rest)?;
-    let right = rows_after(alloc, rel(alloc, t, s)?, s, r)?;
-    Ok((left.into_inner(), right.into_inner()))
-}
-
-pub fn width(facts: &Facts, t: u32) -> u32
-    ensures { result ≡ terms.width facts.now t }
-{
-    let widths = facts.widths.as_slice();
-    if (t as usize) < widths.len() {
-        widths[t as usize]
-    } else {
-        0
+    let head = rel(alloc, table, one)?;
+    if turned {
+        return Ok(rows_after(alloc, head, one, other)?.into_inner());
     }
-}
-
-pub fn key_columns<'a>(facts: &'a Facts, t: u32, i: u32) -> Option<&'a [u32]>
-    ensures { MatchOption result (nat_lt i (length (terms.keys_of facts.now t)) ≡ false) (λ k. (nat_lt i (length (terms.keys_of facts.now t)) ≡ true) × (k.now ≡ terms.key_columns facts.now t i)) }
-{
-    let keys = facts.keys.as_slice();
-    if (t as usize) < keys.len() {
-        let of_table = keys[t as usize].as_slice();
-        if (i as usize) < of_table.len() {
-            Some(of_table[i as usize].as_slice())
-        } else {
-            None
-        }
-    } else {
-        None
-    }
-}
-
-pub fn key(alloc: Global, facts: &Facts, args: &[Arg]) -> Result<(U, U), Unfit>
-    ensures { AnswersRow (row facts.now rule.Key args.now) result }
-{
-    match args {
-        [Arg::Num(t), Arg::Num(i), Arg::Values(s), Arg::Values(r)] => {
-            if !((*t as usize) < facts.widths.len()) {
-                return Err(Unfit::Wrong(Misfit::NoSuchTable));
-            }
-            match key_columns(facts, *t, *i) {
-                None => Err(Unfit::Wrong(Misfit::NoSuchKey)),
-                Some(key) => {
-                    let count = width(facts, *t) as usize;
-                    if !(s.len() == count && r.len() == count) {
-                        return Err(Unfit::Wrong(Misfit::WidthDiffers));
-                    }
-                    key_sides(alloc, *t, key, s.as_slice(), r.as_slice())
-                }
-            }
-        }
-        _ => Err(Unfit::ArgKinds),
-    }
+    let rest = columns_after(alloc, rel(alloc, table, other)?, one, key, other, key)?;
+    Ok(U::Mul(head, rest))
 }
 
 fn places(alloc: Global, count: u32) -> Result<List<Val>, AllocError>
@@ -187,39 +133,33 @@ fn places(alloc: Global, count: u32) -> Result<List<Val>, AllocError>
     Ok(all)
 }
 
-fn fkey_sides(alloc: Global, facts: &Facts, f: &Fkey, s: &[Val]) -> Result<(U, U), Unfit>
-    ensures { Builds (R f.now.from s.now) (R f.now.from s.now ⊗ terms.referenced facts.now f.now s.now) result }
+pub fn fkey_side(
+    alloc: Global,
+    fkey: &Fkey,
+    width: u32,
+    row: &[Val],
+    turned: bool,
+) -> Result<U, AllocError>
+    ensures { IfOk result (λ u. u ≡ side_of turned (R fkey.now.from row.now) (R fkey.now.from row.now ⊗ terms.found_rows width fkey.now row.now)) }
 {
-    let count = width(facts, f.to);
-    let row = places(alloc, count)?;
-    let head = rel(alloc, f.to, row.as_slice())?;
-    let body = columns_after(
-        alloc,
-        head,
-        row.as_slice(),
-        f.key.as_slice(),
-        s,
-        f.cols.as_slice(),
-    )?;
-    let nested = Boxed::new(alloc, sums(alloc, count, body.into_inner())?)?;
-    let right = mul(alloc, rel(alloc, f.from, s)?, nested)?;
-    let left = rel(alloc, f.from, s)?;
-    Ok((left.into_inner(), right.into_inner()))
+    let head = rel(alloc, fkey.from, row)?;
+    if !turned {
+        return Ok(head.into_inner());
+    }
+    Ok(U::Mul(head, found_rows(alloc, fkey, width, row)?))
 }
 
-pub fn fkey(alloc: Global, facts: &Facts, args: &[Arg]) -> Result<(U, U), Unfit>
-    ensures { AnswersRow (row facts.now rule.Fkey args.now) result }
+fn found_rows(alloc: Global, fkey: &Fkey, width: u32, row: &[Val]) -> Result<Boxed<U>, AllocError>
+    ensures { IfOk result (λ u. u ≡ terms.found_rows width fkey.now row.now) }
 {
-    match args {
-        [Arg::Num(i), Arg::Values(s)] => match facts.fkeys.as_slice().get(*i as usize) {
-            None => Err(Unfit::Wrong(Misfit::NoSuchFkey)),
-            Some(f) => {
-                if s.len() != width(facts, f.from) as usize {
-                    return Err(Unfit::Wrong(Misfit::WidthDiffers));
-                }
-                fkey_sides(alloc, facts, f, s.as_slice())
-            }
-        },
-        _ => Err(Unfit::ArgKinds),
-    }
+    let places = places(alloc, width)?;
+    let body = columns_after(
+        alloc,
+        rel(alloc, fkey.to, places.as_slice())?,
+        places.as_slice(),
+        fkey.key.as_slice(),
+        row,
+        fkey.cols.as_slice(),
+    )?;
+    Boxed::new(alloc, sums(alloc, width, body.into_inner())?)
 }

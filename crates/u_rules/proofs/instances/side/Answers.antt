@@ -1,15 +1,14 @@
-use Rattle.std.proofs.Common.{◌≡◌, ◌∙◌, sym}
+use Rattle.std.proofs.Common.{◌≡◌, ◌∙◌}
 use Rattle.std.proofs.lemmas.Result.{IfOk-weaker}
 use Rattle.u_terms.specs.Syntax.{U}
-use Rattle.u_rules.specs.Sides.{side_of}
-use Rattle.u_rules.specs.Templates.{denote}
-use Rattle.u_rules.proofs.TemplatesAt.{template-sides, side-chosen}
+use Rattle.u_rules.specs.Answers.{left_found, right_found, side_found}
+use Rattle.u_rules.specs.Rows.{row}
+use Rattle.u_rules.proofs.TemplatesAt.{row-sides, side-chosen}
 use Rattle.u_rules.proofs.instances.side.Goals as goal
 
-pub returns-in-Plain : goal.returns-in-Plain
-returns-in-Plain c =
-    let t = c.in-Plain.template.now in
-    let args = c.args.args.now in
-    IfOk-weaker c.template_side.result (λ (u : U). u ≡ side_of c.args.turned (denote args t.left) (denote args t.right)) _
-    (λ u is l r i. is ∙ side-chosen c.args.turned (denote args t.left) (denote args t.right) l r (template-sides t args l r (sym (c.in-Plain.ensures c.args.facts.now args) ∙ i.row)))
-    c.template_side.ensures
+pub returns-in-Ok : goal.returns-in-Ok
+returns-in-Ok c =
+    let sides = c.in-Ok.found in
+    IfOk-weaker c.build.result (λ (u : U). u ≡ side_found c.args.turned sides) _
+    (λ u is l r i. is ∙ side-chosen c.args.turned (left_found sides) (right_found sides) l r (row-sides (row c.args.facts.now c.args.rule c.args.args.now) (left_found sides) (right_found sides) l r c.in-Ok.ensures i.row))
+    c.build.ensures

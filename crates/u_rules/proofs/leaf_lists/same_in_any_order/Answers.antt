@@ -1,5 +1,5 @@
 use Rattle.std.proofs.Common.{vec_items}
-use Rattle.u_rules.specs.Codes.{terms}
+use Rattle.u_rules.specs.Terms.{terms}
 use Rattle.u_rules.proofs.OneOrder.{tells}
 use Rattle.u_rules.proofs.leaf_lists.same_in_any_order.Goals as goal
 

@@ -1,7 +1,7 @@
 use Rattle.std.proofs.Common.{◌≡◌, length, sym, ◌∙◌}
 use Rattle.std.proofs.lemmas.List.{length-map}
 use Rattle.std.proofs.lemmas.List.Sorted.{length_permutation}
-use Rattle.u_rules.specs.Codes.{terms}
+use Rattle.u_rules.specs.Terms.{terms}
 use Rattle.u_rules.proofs.leaf_lists.same_terms.Goals as goal
 
 pub returns-then-left-right : goal.returns-then-left-right

@@ -3,7 +3,8 @@ use Rattle.std.specs.Ordering.{nat_cmp}
 use Rattle.std.specs.Cmp.Lexicographic.{slice_cmp}
 use Rattle.std.proofs.lemmas.List.{take_all}
 use Rattle.std.proofs.lemmas.List.Sorted.{IsPermutation-map}
-use Rattle.u_rules.specs.Codes.{code, terms}
+use Rattle.u_rules.specs.Codes.{code}
+use Rattle.u_rules.specs.Terms.{terms}
 use Rattle.u_rules.proofs.OneOrder.{ascends}
 use Rattle.u_rules.proofs.leaf_lists.sorted_codes.Goals as goal
 
