@@ -1,13 +1,13 @@
-use Rattle.std.proofs.Common.{◌≡◌, ◌∷◌, length, slice_index_or, slice_range, arith}
+use Rattle.std.proofs.Common.{◌≡◌, ◌∷◌, length, slice_range, arith}
 use Rattle.std.specs.Prelude.{IsTrue, ◌↔◌}
 use Rattle.std.proofs.lemmas.Grind.{common_steps}
 use Rattle.u_terms.specs.Binding.{mapped, same_place, place_for_names}
 use Rattle.u_terms.specs.Products.{product_of}
 use Rattle.u_terms.proofs.Mapped.{mapped-Mul}
 use Rattle.u_terms.proofs.Parts.{parts-Mul}
-use Rattle.u_rules.specs.Factors.{cells_of, factor_of}
-use Rattle.u_rules.specs.Terms.{◌≐◌, column, equal_columns, equal_rows}
-use Rattle.u_rules.proofs.UnderSums.{columns-step, rows-step}
+use Rattle.u_rules.specs.Factors.{factor_of}
+use Rattle.u_rules.specs.Terms.{◌≐◌, equal_rows}
+use Rattle.u_rules.proofs.UnderSums.{rows-step}
 use Rattle.u_rules.proofs.table_same.+are_rows.Goals as goal
 
 pub returns-then-is_factor : goal.returns-then-is_factor
