@@ -165,14 +165,14 @@ pub fn product_with_one(alloc: Global) -> Result<Boxed<U>, NoMemory> {
     product(alloc, first, y(alloc)?)
 }
 
-/// `+(0,+(1,*(0,1)))`
-pub fn units(alloc: Global) -> Result<Boxed<U>, NoMemory> {
+/// `+(0,+(R0(f0),*(0,1)))`
+pub fn sum_with_zeros(alloc: Global) -> Result<Boxed<U>, NoMemory> {
     let last = product(
         alloc,
         Boxed::new(alloc, U::Zero)?,
         Boxed::new(alloc, U::One)?,
     )?;
-    let rest = sum(alloc, Boxed::new(alloc, U::One)?, last)?;
+    let rest = sum(alloc, x(alloc)?, last)?;
     sum(alloc, Boxed::new(alloc, U::Zero)?, rest)
 }
 

@@ -4,8 +4,8 @@ use crate::arguments::arguments;
 use crate::text::spells;
 use std::alloc::Global;
 use u_binder::close_path;
-use u_rules::{Arg, InstanceFault, Rule, Why, instance, side, sizes, stands};
-use u_terms::{Facts, NoMemory, U, depth, nodes, same};
+use u_rules::{Arg, InstanceFault, Rule, Why, instance, leaves, side, sizes, stands};
+use u_terms::{Facts, NoMemory, U, depth, same};
 
 /// Whether the rule has these two sides for the arguments, each stands in place, and each is written alone.
 pub fn holds(
@@ -25,7 +25,7 @@ pub fn holds(
     )
 }
 
-/// Whether the rule has these two sides for the arguments, and `sizes` knows how large they are.
+/// Whether the rule has these two sides for the arguments.
 fn has_sides(
     alloc: Global,
     facts: &Facts,
@@ -36,19 +36,41 @@ fn has_sides(
 ) -> Result<bool, NoMemory> {
     let args = arguments(alloc, letters)?;
     match instance(alloc, facts, rule, &args) {
-        Ok((l, r)) => Ok(
-            spells(left, &l) && spells(right, &r) && sized(facts, rule, &args, &l, &r),
-        ),
+        Ok((l, r)) => Ok(spells(left, &l) && spells(right, &r)),
         Err(_) => Ok(false),
     }
 }
 
-fn sized(facts: &Facts, rule: Rule, args: &[Arg], left: &U, right: &U) -> bool {
-    let sizes = sizes(facts, rule, args);
-    sizes.left_nodes == nodes(left)
-        && sizes.left_depth == depth(left)
-        && sizes.right_nodes == nodes(right)
-        && sizes.right_depth == depth(right)
+/// The nodes and the depth of the left and of the right side.
+pub fn counted(
+    alloc: Global,
+    facts: &Facts,
+    rule: Rule,
+    letters: &str,
+) -> Result<[u64; 4], NoMemory> {
+    let args = arguments(alloc, letters)?;
+    let sizes = sizes(facts, rule, &args);
+    Ok([
+        sizes.left_nodes,
+        sizes.left_depth,
+        sizes.right_nodes,
+        sizes.right_depth,
+    ])
+}
+
+/// Whether the leaves of a sum or, for a product, of a product are two of these texts.
+pub fn has_leaves(
+    alloc: Global,
+    term: &U,
+    product: bool,
+    one: &str,
+    other: &str,
+) -> Result<bool, NoMemory> {
+    let all = leaves(alloc, term, product)?;
+    match all.as_slice() {
+        [first, second] => Ok(spells(one, first) && spells(other, second)),
+        _ => Ok(false),
+    }
 }
 
 /// What `instance` refuses.

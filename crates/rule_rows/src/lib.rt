@@ -4,6 +4,7 @@
 
 pub mod arguments;
 pub mod calls;
+pub mod rows;
 #[cfg(test)]
 mod tests;
 pub mod text;
