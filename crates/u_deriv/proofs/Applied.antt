@@ -18,10 +18,12 @@ use Rattle.u_deriv.specs.declared.run.Run.{Run}
 use Rattle.u_deriv.specs.declared.step.Step.{Step, out-Step}
 use Rattle.u_deriv.specs.Turns.{turns}
 use Rattle.u_deriv.specs.Contexts.{binders}
-use Rattle.u_deriv.specs.Steps.{Turned, Sides, Rewrites, Replays, by_rule, by_proof, no_step, first_then}
-use Rattle.u_deriv.specs.Applying.{place_of, Finds, IsMade, IsTurned, IsReplayed, Tells}
+use Rattle.u_deriv.specs.Steps.{Exchanged, Sides, Rewrites, Replays, by_rule, by_proof, no_step, first_then}
+use Rattle.u_deriv.specs.Applying.{place_of, Finds, IsMade, IsExchanged, IsReplayed, Tells}
+use Rattle.u_terms.specs.Binding.{closed_path}
+use Rattle.u_terms.proofs.Sizes.{depth-positive}
 use Rattle.u_deriv.proofs.OneContext.{same_context}
-use Rattle.u_deriv.proofs.Keeps.{turned-of}
+use Rattle.u_deriv.proofs.Keeps.{exchanged-of}
 use Rattle.u_deriv.proofs.OneResult.{one_result}
 use Rattle.u_deriv.proofs.Extents.{replaced-depth, binders-few, deep-filled}
 
@@ -29,44 +31,34 @@ module _ (facts : Facts) (outs : ℕ) (before : U) (step : Step) where
   abbrev path : List Run
   path = (out-Step step).path
 
-  turns-of : (place : Place) (after : U) (t : Turned facts outs before step after) → place ≡ place_of t.replaced.context → place.turns ≡ length (turns path)
+  turns-of : (place : Place) (after : U) (t : Exchanged facts outs before step after) → place ≡ place_of t.replaced.context → place.turns ≡ length (turns path)
   turns-of place after t here = ap (λ (p : Place). p.turns) here ∙ ap length t.replaced.at_path
 
   -- ---- by a rule
   pub made-by_rule : (after : U) (r : Result Place StepFault) → ((out-Step step).rule ≡ rule.SqFix → ⊥) → (out-Step step).inner ≡ []
-      → IsTurned facts outs before step after r → IsMade facts outs before step after r
-  made-by_rule after (Ok place) plain empty turned = (by_rule turned.0 plain empty, turns-of place after turned.0 turned.1)
-  made-by_rule after (Err NoResult) plain empty turned = (λ other r. turned.0 other (turned-of facts outs before step other r), turned.1)
-  made-by_rule after (Err NoMemory) plain empty turned = turned
-
-  pub needless : ((out-Step step).rule ≡ rule.SqFix → ⊥) → ((out-Step step).inner ≡ [] → ⊥) → (other : U) → Rewrites facts outs before step other → ⊥
-  needless plain some other (by_rule t not_fix empty) = some empty
-  needless plain some other (by_proof x t is are inner) = plain is
+      → IsExchanged facts outs before step after r → IsMade facts outs before step after r
+  made-by_rule after (Ok place) plain empty exchanged = (by_rule exchanged.0 plain empty, turns-of place after exchanged.0 exchanged.1)
+  made-by_rule after (Err NoResult) plain empty exchanged = (λ other r. exchanged.0 other (exchanged-of facts outs before step other r), exchanged.1)
+  made-by_rule after (Err NoMemory) plain empty exchanged = exchanged
 
   -- ---- by a proof
-  pub proof-argument : ((x : U) → (out-Step step).args ≡ Term x ∷ [] → ⊥) → (out-Step step).rule ≡ rule.SqFix → (other : U) → Rewrites facts outs before step other → ⊥
-  proof-argument none is other (by_rule t not_fix empty) = not_fix is
-  proof-argument none is other (by_proof x t is_fix are inner) = none x are
+  pub unfound : (fault : StepFault) (after : U) → after ≡ before → Finds facts outs before step (Err fault) → IsMade facts outs before step after (Err fault)
+  unfound NoResult after same none = (λ other r. none other (exchanged-of facts outs before step other r), same)
+  unfound NoMemory after same none = same
 
-  pub nowhere : Finds path before (Err NoResult) → (other : U) → Rewrites facts outs before step other → ⊥
-  nowhere none other r = let t = turned-of facts outs before step other r in none t.replaced.context _ t.replaced.at_path t.replaced.is_from
-
-  pub unfound : (fault : StepFault) (after : U) → after ≡ before → Finds path before (Err fault) → IsMade facts outs before step after (Err fault)
-  unfound NoResult after same none = (nowhere none, same)
-  unfound NoMemory after same none = absurd none
-
-  module _ (place : Place) (found : Finds path before (Ok place)) where
-    binders-of : (after : U) (t : Turned facts outs before step after) → place.binders ≡ binders t.replaced.context
+  module _ (place : Place) (found : Finds facts outs before step (Ok place)) where
+    binders-of : (after : U) (t : Exchanged facts outs before step after) → place.binders ≡ binders t.replaced.context
     binders-of after t =
-        ap (λ (p : Place). p.binders) found.4
-        ∙ ap binders (same_context found.0 t.replaced.context found.1 _ (found.2 ∙ sym t.replaced.at_path) (sym found.3 ∙ t.replaced.is_from))
+        let r = found.1.replaced in
+        ap (λ (p : Place). p.binders) found.2
+        ∙ ap binders (same_context r.context t.replaced.context _ _ (r.at_path ∙ sym t.replaced.at_path) (sym r.is_from ∙ t.replaced.is_from))
 
     pub made-by_proof : (x : U) (after : U) (r : Result Place StepFault) → (out-Step step).rule ≡ rule.SqFix → (out-Step step).args ≡ Term x ∷ []
-        → Replays facts (outs + place.binders) (x ⊗ x) (out-Step step).inner x → IsTurned facts outs before step after r → IsMade facts outs before step after r
-    made-by_proof x after (Ok end) is are inner turned =
-        (by_proof x turned.0 is are (subst (λ k. Replays facts (outs + k) (x ⊗ x) (out-Step step).inner x) (binders-of after turned.0) inner), turns-of end after turned.0 turned.1)
-    made-by_proof x after (Err NoResult) is are inner turned = (λ other r. turned.0 other (turned-of facts outs before step other r), turned.1)
-    made-by_proof x after (Err NoMemory) is are inner turned = turned
+        → Replays facts (outs + place.binders) (x ⊗ x) (out-Step step).inner x → IsExchanged facts outs before step after r → IsMade facts outs before step after r
+    made-by_proof x after (Ok end) is are inner exchanged =
+        (by_proof x exchanged.0 is are (subst (λ k. Replays facts (outs + k) (x ⊗ x) (out-Step step).inner x) (binders-of after exchanged.0) inner), turns-of end after exchanged.0 exchanged.1)
+    made-by_proof x after (Err NoResult) is are inner exchanged = (λ other r. exchanged.0 other (exchanged-of facts outs before step other r), exchanged.1)
+    made-by_proof x after (Err NoMemory) is are inner exchanged = exchanged
 
     one_argument : (x y : U) → ◌≡◌ {A = List Arg} (Term x ∷ []) (Term y ∷ []) → x ≡ y
     one_argument x y e = cc
@@ -80,12 +72,16 @@ module _ (facts : Facts) (outs : ℕ) (before : U) (step : Step) where
         (subst (λ k. Replays facts (outs + k) (y ⊗ y) (out-Step step).inner y) (sym (binders-of other t)) inner))
 
 -- the names for the binders where a path leads
-pub names-fit : (outs : ℕ) (path : List Run) (before : U) (place : Place) → Finds path before (Ok place) → outs + depth before < 2 ^ 32 → outs + place.binders < 2 ^ 32
-names-fit outs path before place found shallow =
-    let b : place.binders ≡ binders found.0 = ap (λ (p : Place). p.binders) found.4 in
-    let few = binders-few found.0 in
-    let deep = deep-filled found.0 found.1 in
-    omega (arith, b, few, deep, ap depth found.3, shallow)
+pub names-fit : (facts : Facts) (outs : ℕ) (before : U) (step : Step) (place : Place) → Finds facts outs before step (Ok place) → outs + depth before < 2 ^ 32
+    → outs + place.binders < 2 ^ 32
+names-fit facts outs before step place found shallow =
+    let r = found.1.replaced in
+    let part : U = closed_path found.1.from outs (binders r.context) in
+    let b : place.binders ≡ binders r.context = ap (λ (p : Place). p.binders) found.2 in
+    let few = binders-few r.context in
+    let deep = deep-filled r.context part in
+    let some = depth-positive part in
+    omega (arith, b, few, deep, some, ap depth r.is_from, shallow)
 
 -- ---- sizes of the sides
 right-depth : (facts : Facts) (step : Step) (l r : U) → Instance facts (out-Step step).rule (out-Step step).args l r
@@ -134,7 +130,7 @@ one_end facts outs before _ end end' (first_then {middle = middle} {step = step}
 pub deep-after : (facts : Facts) (outs : ℕ) (before : U) (step : Step) (after : U) (most new : ℕ) → Rewrites facts outs before step after → depth before ≤ most
     → ((from to : U) → Sides facts (out-Step step).forward step from to → length (turns (out-Step step).path) + depth to ≤ new) → most ≤ new → depth after ≤ new
 deep-after facts outs before step after most new r shallow sides above =
-    let t = turned-of facts outs before step after r in
+    let t = exchanged-of facts outs before step after r in
     let fits = replaced-depth outs (out-Step step).path before t.from t.to after t.replaced new (omega (arith, shallow, above)) in
     fits.1 (sides t.from t.to t.sides)
 

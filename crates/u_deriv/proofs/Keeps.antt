@@ -14,7 +14,7 @@ use Rattle.u_terms.proofs.MappedNames.{names-mapped, EachNameRow-list}
 use Rattle.u_rules.proofs.SidesKept.{sides-closed, sides-named}
 use Rattle.u_deriv.specs.declared.step.Step.{Step, out-Step}
 use Rattle.u_deriv.specs.Contexts.{Context, ValueContext, hole, add_left, add_right, mul_left, mul_right, in_squash, in_not, in_sum, in_relation, eq_left, eq_right, in_predicate, in_function, in_aggregate, filled, filled_value, binders, value_binders}
-use Rattle.u_deriv.specs.Steps.{Sides, Turned, Rewrites, Replays, by_rule, by_proof, no_step, first_then}
+use Rattle.u_deriv.specs.Steps.{Sides, Exchanged, Rewrites, Replays, by_rule, by_proof, no_step, first_then}
 
 each-changed : (P : Val → Type 0) (before after : List Val) (value new : Val) → Each P (before ++ value ∷ after) → (P value → P new) → Each P (before ++ new ∷ after)
 each-changed P [] after value new each f = (f each.0, each.1)
@@ -90,40 +90,41 @@ closed_path-named u outs count each =
 
 -- ---- steps
 module _ (facts : Facts) where
-  sides-closed_to : (forward : Bool) (step : Step) (from to : U) → Sides facts forward step from to → IsClosed 0 to
-  sides-closed_to true step from to i = let c = sides-closed facts (out-Step step).rule (out-Step step).args from to i in c.1
-  sides-closed_to false step from to i = let c = sides-closed facts (out-Step step).rule (out-Step step).args to from i in c.0
+  pub sides-closed_both : (forward : Bool) (step : Step) (from to : U) → Sides facts forward step from to → IsClosed 0 from × IsClosed 0 to
+  sides-closed_both true step from to i = sides-closed facts (out-Step step).rule (out-Step step).args from to i
+  sides-closed_both false step from to i = let c = sides-closed facts (out-Step step).rule (out-Step step).args to from i in (c.1, c.0)
 
   sides-named_to : (P : ℕ → Type 0) (forward : Bool) (step : Step) (from to : U) → Sides facts forward step from to → Each (HasNames P) (out-Step step).args → EachName P to
   sides-named_to P true step from to i n = let c = sides-named P facts (out-Step step).rule (out-Step step).args from to i n in c.1
   sides-named_to P false step from to i n = let c = sides-named P facts (out-Step step).rule (out-Step step).args to from i n in c.0
 
-  turned-closed : (outs : ℕ) (before : U) (step : Step) (after : U) → Turned facts outs before step after → IsClosed 0 before → IsClosed 0 after
-  turned-closed outs before step after t closed =
+  exchanged-closed : (outs : ℕ) (before : U) (step : Step) (after : U) → Exchanged facts outs before step after → IsClosed 0 before → IsClosed 0 after
+  exchanged-closed outs before step after t closed =
       let r = t.replaced in
       let k = binders r.context in
       let e : k ≡ 0 + k = omega arith in
-      let new : IsClosed (0 + k) (closed_path t.to outs k) = subst (λ m. IsClosed m (closed_path t.to outs k)) e (closed_path-closed t.to outs k (sides-closed_to (out-Step step).forward step t.from t.to t.sides)) in
+      let sides = sides-closed_both (out-Step step).forward step t.from t.to t.sides in
+      let new : IsClosed (0 + k) (closed_path t.to outs k) = subst (λ m. IsClosed m (closed_path t.to outs k)) e (closed_path-closed t.to outs k sides.1) in
       subst (λ w. IsClosed 0 w) (sym r.is_to)
       (closed-refilled r.context (closed_path t.from outs k) (closed_path t.to outs k) 0 (subst (λ w. IsClosed 0 w) r.is_from closed) new)
 
-  turned-named : (outs : ℕ) (before : U) (step : Step) (after : U) → Turned facts outs before step after → IsFreeBelow outs before → IsFreeBelow outs after
-  turned-named outs before step after t named =
+  exchanged-named : (outs : ℕ) (before : U) (step : Step) (after : U) → Exchanged facts outs before step after → IsFreeBelow outs before → IsFreeBelow outs after
+  exchanged-named outs before step after t named =
       let r = t.replaced in
       let k = binders r.context in
       let to : IsFreeBelow (outs + k) t.to = sides-named_to (λ x. x < outs + k) (out-Step step).forward step t.from t.to t.sides t.named in
       subst (λ w. IsFreeBelow outs w) (sym r.is_to)
       (names-refilled (λ x. x < outs) r.context (closed_path t.from outs k) (closed_path t.to outs k) (subst (λ w. IsFreeBelow outs w) r.is_from named) (closed_path-named t.to outs k to))
 
-  pub turned-of : (outs : ℕ) (before : U) (step : Step) (after : U) → Rewrites facts outs before step after → Turned facts outs before step after
-  turned-of outs before step after (by_rule t other empty) = t
-  turned-of outs before step after (by_proof x t is are inner) = t
+  pub exchanged-of : (outs : ℕ) (before : U) (step : Step) (after : U) → Rewrites facts outs before step after → Exchanged facts outs before step after
+  exchanged-of outs before step after (by_rule t other empty) = t
+  exchanged-of outs before step after (by_proof x t is are inner) = t
 
   pub rewrites-closed : (outs : ℕ) (before : U) (step : Step) (after : U) → Rewrites facts outs before step after → IsClosed 0 before → IsClosed 0 after
-  rewrites-closed outs before step after r closed = turned-closed outs before step after (turned-of outs before step after r) closed
+  rewrites-closed outs before step after r closed = exchanged-closed outs before step after (exchanged-of outs before step after r) closed
 
   pub rewrites-named : (outs : ℕ) (before : U) (step : Step) (after : U) → Rewrites facts outs before step after → IsFreeBelow outs before → IsFreeBelow outs after
-  rewrites-named outs before step after r named = turned-named outs before step after (turned-of outs before step after r) named
+  rewrites-named outs before step after r named = exchanged-named outs before step after (exchanged-of outs before step after r) named
 
 -- ---- one after another
 module _ (facts : Facts) where

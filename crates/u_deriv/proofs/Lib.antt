@@ -8,7 +8,7 @@ pub mod Congruence
 pub mod Edited
 pub mod Made
 pub mod Extents
-pub mod Turning
+pub mod Exchanges
 pub mod Keeps
 pub mod OneResult
 pub mod Soundness

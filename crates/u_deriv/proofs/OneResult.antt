@@ -9,7 +9,7 @@ use Rattle.u_deriv.specs.declared.step.Step.{Step, out-Step}
 use Rattle.u_deriv.specs.Contexts.{Context, filled, binders}
 use Rattle.u_deriv.specs.Steps.{Replaced, Sides, Rewrites}
 use Rattle.u_deriv.proofs.OneContext as one
-use Rattle.u_deriv.proofs.Keeps.{turned-of}
+use Rattle.u_deriv.proofs.Keeps.{exchanged-of}
 
 one_to : (facts : Facts) (forward : Bool) (step : Step) (f t f' t' : U) → Sides facts forward step f t → Sides facts forward step f' t' → t ≡ t'
 one_to facts true step f t f' t' i j = let e = one-instance facts (out-Step step).rule (out-Step step).args f t f' t' i j in e.1
@@ -23,7 +23,7 @@ one_replaced outs path before from to to' after after' from' r s e =
 module _ (facts : Facts) where
   pub one_result : (outs : ℕ) (before : U) (step : Step) (after after' : U) → Rewrites facts outs before step after → Rewrites facts outs before step after' → after ≡ after'
   one_result outs before step after after' r s =
-      let t = turned-of facts outs before step after r in
-      let w = turned-of facts outs before step after' s in
+      let t = exchanged-of facts outs before step after r in
+      let w = exchanged-of facts outs before step after' s in
       one_replaced outs (out-Step step).path before t.from t.to w.to after after' w.from t.replaced w.replaced
       (one_to facts (out-Step step).forward step t.from t.to w.from w.to t.sides w.sides)

@@ -12,7 +12,7 @@ use Rattle.u_deriv.specs.declared.run.Run.{Run}
 use Rattle.u_deriv.specs.declared.step.Step.{Step, out-Step}
 use Rattle.u_deriv.specs.Turns.{turns}
 use Rattle.u_deriv.specs.Contexts.{Context, filled, way, binders}
-use Rattle.u_deriv.specs.Steps.{Replaced, Turned, Rewrites, Replays}
+use Rattle.u_deriv.specs.Steps.{Replaced, Exchanged, Rewrites, Replays}
 
 -- the names for the binders on the path are numbers of 32 bits, and so are places in the new term there
 abbrev pub HasRoomAt : ℕ → List Run → U → U → Type 0
@@ -29,10 +29,10 @@ abbrev pub place_of : Context → Place
 place_of c = record { binders = binders c; turns = length (way c) }
 
 -- the sides are exchanged at this place; or they are not exchanged anywhere, and the term stays; or memory ran out and it stays
-abbrev pub IsTurned : Facts → ℕ → U → Step → U → Result Place StepFault → Type 0
-IsTurned facts outs before step after (Ok place) = (t : Turned facts outs before step after) × (place ≡ place_of t.replaced.context)
-IsTurned facts outs before step after (Err NoResult) = ((other : U) → Turned facts outs before step other → ⊥) × (after ≡ before)
-IsTurned facts outs before step after (Err NoMemory) = after ≡ before
+abbrev pub IsExchanged : Facts → ℕ → U → Step → U → Result Place StepFault → Type 0
+IsExchanged facts outs before step after (Ok place) = (t : Exchanged facts outs before step after) × (place ≡ place_of t.replaced.context)
+IsExchanged facts outs before step after (Err NoResult) = ((other : U) → Exchanged facts outs before step other → ⊥) × (after ≡ before)
+IsExchanged facts outs before step after (Err NoMemory) = after ≡ before
 
 -- the step is made, or it has no result and the term stays, or memory ran out and it stays
 abbrev pub IsApplied : Facts → ℕ → U → Step → U → Result (Unit {0}) StepFault → Type 0
@@ -41,11 +41,11 @@ IsApplied facts outs before step after (Err NoResult) = ((other : U) → Rewrite
 IsApplied facts outs before step after (Err NoMemory) = after ≡ before
 
 -- ---- its parts: contracts of private functions alone cite these
--- where the path leads in the term
-abbrev pub Finds : List Run → U → Result Place StepFault → Type 0
-Finds path u (Ok place) = (c : Context) × (part : U) × (way c ≡ turns path) × (u ≡ filled c part) × (place ≡ place_of c)
-Finds path u (Err NoResult) = (c : Context) (part : U) → way c ≡ turns path → u ≡ filled c part → ⊥
-Finds path u (Err NoMemory) = ⊥
+-- where the sides could be exchanged
+abbrev pub Finds : Facts → ℕ → U → Step → Result Place StepFault → Type 0
+Finds facts outs before step (Ok place) = (other : U) × (t : Exchanged facts outs before step other) × (place ≡ place_of t.replaced.context)
+Finds facts outs before step (Err NoResult) = (other : U) → Exchanged facts outs before step other → ⊥
+Finds facts outs before step (Err NoMemory) = Unit {0}
 
 -- the step is made at this place
 abbrev pub IsMade : Facts → ℕ → U → Step → U → Result Place StepFault → Type 0

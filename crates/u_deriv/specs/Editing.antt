@@ -31,36 +31,30 @@ from_side facts step = let r = row facts (out-Step step).rule (out-Step step).ar
 abbrev pub to_side : Facts → Step → U
 to_side facts step = let r = row facts (out-Step step).rule (out-Step step).args in side_of (out-Step step).forward (left_of r) (right_of r)
 
--- the part in place is the one side, and this is the other one
-abbrev pub IsOtherSide : Facts → ℕ → ℕ → Step → U → Result U StepFault → Type 0
-IsOtherSide facts outs count step part (Ok to) =
+-- the part in its place is the one that the step begins with, and the arguments have no other names than those of the place
+abbrev pub IsSide : Facts → ℕ → ℕ → Step → U → Type 0
+IsSide facts outs count step part =
     Sides facts (out-Step step).forward step (from_side facts step) (to_side facts step)
+    × AreNamed (outs + count) (out-Step step).args
     × (part ≡ closed_path (from_side facts step) outs count)
-    × (to ≡ to_side facts step)
-IsOtherSide facts outs count step part (Err NoResult) =
-    (from to : U) → Sides facts (out-Step step).forward step from to → part ≡ closed_path from outs count → ⊥
-IsOtherSide facts outs count step part (Err NoMemory) = Unit {0}
 
 -- ---- edits
 -- the part in its place is one that the edit changes
 abbrev pub Suits : Edit → ℕ → Place → U → Type 0
-Suits edit.Look outs place part = Unit {0}
+Suits (edit.Look alloc facts step) outs place part = IsSide facts.now outs place.binders step.now part
 Suits (edit.Term from) outs place part = part ≡ closed_path from.now outs place.binders
-Suits (edit.Side alloc facts step) outs place part =
-    Sides facts.now (out-Step step.now).forward step.now (from_side facts.now step.now) (to_side facts.now step.now)
-    × AreNamed (outs + place.binders) (out-Step step.now).args
-    × (part ≡ closed_path (from_side facts.now step.now) outs place.binders)
+Suits (edit.Side alloc facts step) outs place part = IsSide facts.now outs place.binders step.now part
 
 -- what comes there
 abbrev pub new_part : Edit → ℕ → U → Place → U → U
-new_part edit.Look outs other place part = part
+new_part (edit.Look alloc facts step) outs other place part = part
 new_part (edit.Term from) outs other place part = closed_path other outs place.binders
 new_part (edit.Side alloc facts step) outs other place part = closed_path (to_side facts.now step.now) outs place.binders
 
 -- where memory may be wanted
 abbrev pub TakesMemory : Edit → Type 0
-TakesMemory (edit.Side alloc facts step) = Unit {0}
-TakesMemory _ = ⊥
+TakesMemory (edit.Term from) = ⊥
+TakesMemory _ = Unit {0}
 
 abbrev pub Answers : Edit → ℕ → Result Place StepFault → Place → U → Type 0
 Answers by outs (Ok end) place part = (end ≡ place) × Suits by outs place part

@@ -27,7 +27,7 @@ Sides facts true step from to = Instance facts (out-Step step).rule (out-Step st
 Sides facts false step from to = Instance facts (out-Step step).rule (out-Step step).args to from
 
 -- one side of the instance becomes the other one, and the arguments have no names beside those of the term and of the binders on the path
-pub record Turned (facts : Facts) (outs : ℕ) (before : U) (step : Step) (after : U) : Type 0 where
+pub record Exchanged (facts : Facts) (outs : ℕ) (before : U) (step : Step) (after : U) : Type 0 where
   pub from : U
   pub to : U
   pub sides : Sides facts (out-Step step).forward step from to
@@ -38,15 +38,15 @@ mutual
   -- the step leads from the one term to the other; it is meant for closed terms with names below `outs`
   pub data Rewrites (facts : Facts) : ℕ → U → Step → U → Type 0 where
     by_rule : {outs : ℕ} {before : U} {step : Step} {after : U}
-        → Turned facts outs before step after
+        → Exchanged facts outs before step after
         → ((out-Step step).rule ≡ rule.SqFix → ⊥)
         → (out-Step step).inner ≡ []
         → Rewrites facts outs before step after
     by_proof : {outs : ℕ} {before : U} {step : Step} {after : U} (x : U)
-        → (turned : Turned facts outs before step after)
+        → (exchanged : Exchanged facts outs before step after)
         → (out-Step step).rule ≡ rule.SqFix
         → (out-Step step).args ≡ Term x ∷ []
-        → Replays facts (outs + binders turned.replaced.context) (x ⊗ x) (out-Step step).inner x
+        → Replays facts (outs + binders exchanged.replaced.context) (x ⊗ x) (out-Step step).inner x
         → Rewrites facts outs before step after
 
   -- the steps lead from the one term to the other, one after the other

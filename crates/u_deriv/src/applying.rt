@@ -5,23 +5,20 @@ ghost use Rattle.u_terms.specs.declared.term.U.{U as TheU};
 ghost use Rattle.u_rules.specs.Terms.{◌⊗◌};
 ghost use Rattle.u_rules.specs.declared.rule.Rule.TheVariants as rule;
 ghost use Rattle.u_rules.specs.Measures.{capped};
-ghost use Rattle.u_deriv.specs.Applying.{Finds, IsApplied, IsMade, IsOnlyTerm, IsReplayed, IsTurned, Tells};
+ghost use Rattle.u_deriv.specs.Applying.{Finds, IsApplied, IsExchanged, IsMade, IsOnlyTerm, IsReplayed, Tells};
 ghost use Rattle.u_deriv.specs.Editing.{ClosesTo};
 ghost use Rattle.u_deriv.specs.Steps.{Replays, Sides};
 ghost use Rattle.u_deriv.specs.declared.step.Step.{out-Step};
 
 use crate::edit::{Edit, edit_at};
 use crate::fault::StepFault;
-use crate::path::Path;
 use crate::place::Place;
+use crate::sides::TOO_DEEP;
 use crate::step::Step;
 use crate::way::Way;
 use std::alloc::Global;
 use u_rules::{Arg, Rule, sizes};
 use u_terms::{Boxed, Facts, U, depth, same};
-
-/// No term is as deep: there is no memory for it.
-const TOO_DEEP: u64 = 0x1_0000_0000;
 
 /// Makes the step on the term. After a refusal the term is as before.
 pub fn apply(
@@ -42,7 +39,7 @@ pub fn apply(
 
 /// Exchanges the sides of the step's instance at the end of its path, and tells where that is. The inner steps are not
 /// looked at. After a refusal the term is as before.
-pub fn turn(
+pub fn exchange(
     alloc: Global,
     facts: &Facts,
     outs: u32,
@@ -50,7 +47,7 @@ pub fn turn(
     step: &Step,
 ) -> Result<Place, StepFault>
     requires shallow { outs + depth_of u.old < 2 ^ 32 }
-    ensures { IsTurned facts.now outs u.old step.now u.new result }
+    ensures { IsExchanged facts.now outs u.old step.now u.new result }
 {
     let mut none = U::Zero;
     let side = Edit::Side { alloc, facts, step };
@@ -90,10 +87,11 @@ fn make_by_rule(
     if !step.inner.is_empty() {
         return Err(StepFault::NoResult);
     }
-    turn(alloc, facts, outs, u, step)
+    exchange(alloc, facts, outs, u, step)
 }
 
-// A step of `sq_fix`: its inner steps lead from the square of its argument to the argument.
+// A step of `sq_fix`: its inner steps lead from the square of its argument to the argument. They are made only where the one
+// side stands.
 #[cycle(make)]
 fn make_by_proof(
     alloc: Global,
@@ -107,11 +105,11 @@ fn make_by_proof(
     ensures { IsMade facts.now outs u.old step.now u.new result }
 {
     match only_term(step.args.as_slice()) {
-        Some(x) => match find(u, &step.path) {
+        Some(x) => match find(alloc, facts, outs, u, step) {
             Ok(place) => {
                 let names = outs + place.binders;
                 match shows_square(alloc, facts, names, x, step.inner.as_slice()) {
-                    Ok(true) => turn(alloc, facts, outs, u, step),
+                    Ok(true) => exchange(alloc, facts, outs, u, step),
                     Ok(false) => Err(StepFault::NoResult),
                     Err(fault) => Err(fault),
                 }
@@ -132,19 +130,20 @@ fn only_term(args: &[Arg]) -> Option<&U>
     }
 }
 
-// Where the path leads.
-fn find(u: &mut U, path: &Path) -> Result<Place, StepFault>
-    requires shallow { depth_of u.old < 2 ^ 32 }
-    ensures found { Finds path.now u.old result }
+// Where the one side of the step's instance stands. The term stays as it is.
+fn find(alloc: Global, facts: &Facts, outs: u32, u: &mut U, step: &Step) -> Result<Place, StepFault>
+    requires shallow { outs + depth_of u.old < 2 ^ 32 }
+    ensures found { Finds facts.now outs u.old step.now result }
     ensures same { u.new ≡ u.old }
 {
     let mut none = U::Zero;
+    let look = Edit::Look { alloc, facts, step };
     edit_at(
         u,
-        Way::along(path),
+        Way::along(&step.path),
         Place::root(),
-        0,
-        &Edit::Look,
+        outs,
+        &look,
         &mut none,
     )
 }

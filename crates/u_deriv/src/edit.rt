@@ -10,7 +10,7 @@ ghost use Rattle.u_deriv.specs.declared.edit.Edit.TheVariants as edit;
 use crate::fault::StepFault;
 use crate::place::Place;
 use crate::run::Turn;
-use crate::sides::put_side;
+use crate::sides::{look, put_side};
 use crate::step::Step;
 use crate::way::Way;
 use std::alloc::Global;
@@ -22,8 +22,12 @@ use u_terms::{Facts, List, U, Val};
 /// What is put in the place of what, both under names for the binders on the path.
 #[derive(Clone, Copy)]
 pub enum Edit<'a> {
-    /// Nothing in the place of nothing: where the path leads is told.
-    Look,
+    /// Nothing, where the one side of the step's instance stands: its place is told.
+    Look {
+        alloc: Global,
+        facts: &'a Facts,
+        step: &'a Step,
+    },
     /// A term of the caller's in the place of this one.
     Term {
         from: &'a U,
@@ -165,7 +169,7 @@ fn put(
     ensures found { Answers by.now outs result place part.old }
 {
     match by {
-        Edit::Look => Ok(place),
+        Edit::Look { alloc, facts, step } => look(*alloc, part, place, outs, facts, step),
         Edit::Term { from } => put_term(part, place, outs, from, other),
         Edit::Side { alloc, facts, step } => put_side(*alloc, part, place, outs, facts, step),
     }

@@ -1,5 +1,4 @@
-//! Derivations. So far: paths into a term, the subterm at a path, steps that rewrite a term in place, and the laws of contexts and of
-//! steps.
+//! Paths into a term, the subterm at a path, steps that rewrite a term in place, and the laws of contexts and of steps.
 #![tactic(auto)]
 
 mod applying;
@@ -15,7 +14,7 @@ mod step;
 mod subterm;
 mod way;
 
-pub use applying::{apply, turn};
+pub use applying::{apply, exchange};
 pub use fault::StepFault;
 pub use path::Path;
 pub use place::Place;

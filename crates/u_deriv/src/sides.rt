@@ -1,13 +1,15 @@
 //! One side of a step's instance in the place of the other one.
-ghost use Rattle.std.specs.Prelude.{◌≡◌, ◌↔◌, ◌+◌, ◌<◌, ◌≤◌, ◌^◌, IsTrue};
+ghost use Rattle.std.specs.Prelude.{◌≡◌, ◌↔◌, ◌+◌, ◌<◌, ◌≤◌, ◌^◌, IsTrue, Ok, true};
 ghost use Rattle.data_model.specs.Lists.{Each};
 ghost use Rattle.u_terms.specs.Binding.{closed_path};
 ghost use Rattle.u_terms.specs.Names.{IsFreeBelowValue};
 ghost use Rattle.u_terms.specs.Size.{depth as depth_of};
-ghost use Rattle.u_rules.specs.Sides.{AreNamed, HasNames};
+ghost use Rattle.u_rules.specs.Sides.{AreNamed, HasInstance, HasNames};
 ghost use Rattle.u_terms.specs.declared.term.U.TheVariants as u;
 ghost use Rattle.u_deriv.specs.declared.edit.Edit.TheVariants as edit;
-ghost use Rattle.u_deriv.specs.Editing.{Answers, ClosesTo, IsOtherSide, part_after};
+ghost use Rattle.u_deriv.specs.Applying.{Tells};
+ghost use Rattle.u_deriv.specs.Editing.{Answers, ClosesTo, IsSide, part_after, to_side};
+ghost use Rattle.u_deriv.specs.declared.step.Step.{out-Step};
 
 use crate::fault::StepFault;
 use crate::place::Place;
@@ -19,7 +21,27 @@ use u_rules::{Arg, InstanceFault, side, stands};
 use u_terms::{Facts, U, Val, depth};
 
 /// No term is as deep: there is no memory for it.
-const TOO_DEEP: u64 = 0x1_0000_0000;
+pub const TOO_DEEP: u64 = 0x1_0000_0000;
+
+/// Tells the place where `put_side` would write, and writes nothing.
+pub fn look(
+    alloc: Global,
+    part: &U,
+    place: Place,
+    outs: u32,
+    facts: &Facts,
+    step: &Step,
+) -> Result<Place, StepFault>
+    requires shallow { outs + place.turns + depth_of part.now < 2 ^ 32 }
+    requires bound { place.binders ≤ place.turns }
+    ensures { Answers (edit.Look alloc facts.entry step.entry) outs result place part.now }
+{
+    match is_side(alloc, part, place, outs, facts, step) {
+        Ok(true) => Ok(place),
+        Ok(false) => Err(StepFault::NoResult),
+        Err(fault) => Err(fault),
+    }
+}
 
 /// Where the part is the one side of the step's instance, and the arguments have no other names than those of the place,
 /// writes the other side.
@@ -36,35 +58,38 @@ pub fn put_side(
     ensures term { part.new ≡ part_after (edit.Side alloc facts.entry step.entry) outs u.Zero result place part.old }
     ensures found { Answers (edit.Side alloc facts.entry step.entry) outs result place part.old }
 {
-    if !are_named(step.args.as_slice(), u64::from(outs + place.binders)) {
-        return Err(StepFault::NoResult);
-    }
-    match other_side(alloc, facts, step, part, outs, place.binders) {
-        Ok(to) => match close(to, outs, place.binders) {
-            Ok(mut closed) => {
-                mem::swap(part, &mut closed);
+    match is_side(alloc, part, place, outs, facts, step) {
+        Ok(true) => match other_side(alloc, facts, step, outs, place.binders) {
+            Ok(mut other) => {
+                mem::swap(part, &mut other);
                 Ok(place)
             }
             Err(fault) => Err(fault),
         },
+        Ok(false) => Err(StepFault::NoResult),
         Err(fault) => Err(fault),
     }
 }
 
-// The other side, where the part is the one side with the names closed.
-fn other_side(
+// Whether the part is the one side of the step's instance with the names closed, and the arguments have no other names than
+// those of the place.
+fn is_side(
     alloc: Global,
+    part: &U,
+    place: Place,
+    outs: u32,
     facts: &Facts,
     step: &Step,
-    part: &U,
-    outs: u32,
-    count: u32,
-) -> Result<U, StepFault>
-    requires shallow { depth_of part.now + count < 2 ^ 32 }
-    requires fits { outs + count < 2 ^ 32 }
-    ensures { IsOtherSide facts.now outs count step.now part.now result }
+) -> Result<bool, StepFault>
+    requires shallow { outs + place.turns + depth_of part.now < 2 ^ 32 }
+    requires bound { place.binders ≤ place.turns }
+    ensures side { Tells (IsSide facts.now outs place.binders step.now part.now) result }
+    ensures instance { result ≡ Ok true → HasInstance facts.now (out-Step step.now).rule (out-Step step.now).args }
 {
     let args = step.args.as_slice();
+    if !are_named(args, u64::from(outs + place.binders)) {
+        return Ok(false);
+    }
     match stands(
         alloc,
         facts,
@@ -73,12 +98,28 @@ fn other_side(
         !step.forward,
         part,
         outs,
-        count,
+        place.binders,
     ) {
-        Ok(true) => Ok(side(alloc, facts, step.rule, args, step.forward)?),
-        Ok(false) | Err(InstanceFault::BadInstance { .. }) => Err(StepFault::NoResult),
+        Ok(is_side) => Ok(is_side),
+        Err(InstanceFault::BadInstance { .. }) => Ok(false),
         Err(InstanceFault::NoMemory) => Err(StepFault::NoMemory),
     }
+}
+
+// The side that the step ends with, the names closed.
+fn other_side(
+    alloc: Global,
+    facts: &Facts,
+    step: &Step,
+    outs: u32,
+    count: u32,
+) -> Result<U, StepFault>
+    requires stands { HasInstance facts.now (out-Step step.now).rule (out-Step step.now).args }
+    requires fits { outs + count < 2 ^ 32 }
+    ensures { ClosesTo (closed_path (to_side facts.now step.now) outs count) result }
+{
+    let to = side(alloc, facts, step.rule, step.args.as_slice(), step.forward)?;
+    close(to, outs, count)
 }
 
 // The term after the names of the path are closed.

@@ -8,13 +8,17 @@ use Rattle.u_rules.specs.Terms.{◌⊗◌}
 use Rattle.u_deriv.specs.Steps.{Replays, Rewrites, no_step}
 use Rattle.u_deriv.specs.Applying.{IsMade, Tells}
 use Rattle.u_deriv.proofs.StepHeights.{height-out, height-item}
-use Rattle.u_deriv.proofs.Applied.{made-by_proof, unproved, names-fit, deep-within, replays-more, replays-first, replays-result, square-shown, replayed-yes, tells-yes, tells-no}
+use Rattle.u_deriv.proofs.Applied.{made-by_proof, unfound, unproved, names-fit, deep-within, replays-more, replays-first, replays-result, square-shown, replayed-yes, tells-yes, tells-no}
 use Rattle.u_deriv.proofs.applying.+make.Goals as goal
 
 pub make_by_proof-overflow_add-names : goal.make_by_proof-overflow_add-names
 make_by_proof-overflow_add-names t c =
-    let h = names-fit c.args.outs (out-Step c.args.step.now).path c.args.u.now c.in-Ok.place (rw c.in-Ok.is at c.find.ensures.found) c.requires.shallow in
+    let h = names-fit c.args.facts.now c.args.outs c.args.u.now c.args.step.now c.in-Ok.place (rw c.in-Ok.is at c.find.ensures.found) c.requires.shallow in
     omega (arith, h)
+
+pub make_by_proof-returns-in-Err : goal.make_by_proof-returns-in-Err
+make_by_proof-returns-in-Err t c =
+    unfound c.args.facts.now c.args.outs c.args.u.now c.args.step.now c.in-Err.fault c.find.new.u c.find.ensures.same (rw c.in-Err.is at c.find.ensures.found)
 
 pub make_by_proof-shows_square-requires : goal.make_by_proof-shows_square-requires
 make_by_proof-shows_square-requires t c =
@@ -28,8 +32,8 @@ make_by_proof-returns-in-Ok-true t c =
     let are : (out-Step c.args.step.now).args ≡ Term c.in-Some.x.now ∷ [] = rw (c.as_slice.ensures, c.in-Some.is) at c.only_term.ensures in
     let shown : Tells (Replays c.args.facts.now (c.args.outs + c.in-Ok.place.binders) (c.in-Some.x.now ⊗ c.in-Some.x.now) (out-Step c.args.step.now).inner c.in-Some.x.now) (Ok c.in-Ok-true.field-0)
     = rw (c.as_slice-in-Ok.ensures, c.in-Ok-true.is) at c.shows_square.ensures in
-    made-by_proof c.args.facts.now c.args.outs c.args.u.now c.args.step.now c.in-Ok.place (rw c.in-Ok.is at c.find.ensures.found) c.in-Some.x.now c.turn.new.u c.turn.result
-    c.requires.proved are (tells-yes _ c.in-Ok-true.field-0 c.in-Ok-true.field-0-test shown) (rw c.find.ensures.same at c.turn.ensures)
+    made-by_proof c.args.facts.now c.args.outs c.args.u.now c.args.step.now c.in-Ok.place (rw c.in-Ok.is at c.find.ensures.found) c.in-Some.x.now c.exchange.new.u c.exchange.result
+    c.requires.proved are (tells-yes _ c.in-Ok-true.field-0 c.in-Ok-true.field-0-test shown) (rw c.find.ensures.same at c.exchange.ensures)
 
 pub make_by_proof-returns-in-Ok-false : goal.make_by_proof-returns-in-Ok-false
 make_by_proof-returns-in-Ok-false t c =

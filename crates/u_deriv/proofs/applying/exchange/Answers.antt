@@ -1,7 +1,7 @@
-use Rattle.u_deriv.proofs.Turning.{room-there, room-Zero, turned}
+use Rattle.u_deriv.proofs.Exchanges.{room-there, room-Zero, exchanged}
 use Rattle.u_deriv.specs.declared.step.Step.{out-Step}
 use Rattle.u_terms.specs.declared.term.U.TheVariants as u
-use Rattle.u_deriv.proofs.applying.turn.Goals as goal
+use Rattle.u_deriv.proofs.applying.exchange.Goals as goal
 
 pub edit_at-requires-clause-room : goal.edit_at-requires-clause-room
 edit_at-requires-clause-room c =
@@ -10,5 +10,5 @@ edit_at-requires-clause-room c =
 
 pub returns : goal.returns
 returns c =
-    turned c.args.alloc c.args.facts c.args.step c.args.outs c.args.u.now c.edit_at.new.u c.edit_at.result
+    exchanged c.args.alloc c.args.facts c.args.step c.args.outs c.args.u.now c.edit_at.new.u c.edit_at.result
     (rw (c.along.ensures, c.root.ensures) at c.edit_at.ensures.term) (rw (c.along.ensures, c.root.ensures) at c.edit_at.ensures.found)

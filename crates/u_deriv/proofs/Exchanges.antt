@@ -18,10 +18,10 @@ use Rattle.u_deriv.specs.declared.place.Place.{Place}
 use Rattle.u_deriv.specs.declared.run.Run.{Run}
 use Rattle.u_deriv.specs.declared.step.Step.{Step, out-Step}
 use Rattle.u_deriv.specs.Turns.{turns}
-use Rattle.u_deriv.specs.Contexts.{filled, binders}
-use Rattle.u_deriv.specs.Steps.{Replaced, Sides, Turned}
-use Rattle.u_deriv.specs.Applying.{HasRoomAt, Replaces, place_of, Finds, IsTurned}
-use Rattle.u_deriv.specs.Editing.{Answers, OfEnd, IsRefused, HasRoom, part_after, left_of, right_of, from_side, to_side}
+use Rattle.u_deriv.specs.Contexts.{Context, filled, way, binders}
+use Rattle.u_deriv.specs.Steps.{Replaced, Sides, Exchanged}
+use Rattle.u_deriv.specs.Applying.{HasRoomAt, Replaces, Finds, IsExchanged}
+use Rattle.u_deriv.specs.Editing.{Answers, IsSide, OfEnd, IsRefused, HasRoom, part_after, left_of, right_of, from_side, to_side}
 use Rattle.u_deriv.specs.Walk.{root, ended, end_of}
 use Rattle.u_deriv.proofs.Ends.{end_of-found}
 use Rattle.u_deriv.proofs.Edited.{ended-same}
@@ -71,18 +71,6 @@ module _ (outs : ℕ) (path : List Run) (before to after : U) (from : Bor U) whe
   )
   not_replaced NoMemory is found = lacks path before outs (edit.Term from) to after found
 
--- ---- a look
-module _ (path : List Run) (before after other : U) where
-  pub found : (r : Result Place StepFault) → OfEnd (IsRefused r) (Answers edit.Look 0 r (end path before)) (end_of (turns path) before)
-      → after ≡ ended (part_after edit.Look 0 other r) (turns path) root before → Finds path before r
-  found (Ok place) ends is = let m = made path before 0 edit.Look other after place is ends in (m.context, m.part, m.at_path, m.was, m.here)
-  found (Err NoResult) ends is = λ c part at was. refused path before 0 edit.Look other after ends c part at was tt
-  found (Err NoMemory) ends is = lacks path before 0 edit.Look other after ends
-
-  pub looked : (r : Result Place StepFault) → after ≡ ended (part_after edit.Look 0 other r) (turns path) root before → after ≡ before
-  looked (Ok place) is = is ∙ ended-same (turns path) root before
-  looked (Err fault) is = is ∙ ended-same (turns path) root before
-
 -- ---- the sides of a step
 side-left : (facts : Facts) (step : Step) (l r : U) → Instance facts (out-Step step).rule (out-Step step).args l r → left_of (row facts (out-Step step).rule (out-Step step).args) ≡ l
 side-left facts step l r i = ap left_of i.row
@@ -116,36 +104,66 @@ module _ (facts : Facts) (step : Step) where
       subst (λ x. Sides facts (out-Step step).forward step x (to_side facts step)) (sym (from-is from to i))
       (subst (λ x. Sides facts (out-Step step).forward step from x) (sym (to-is from to i)) i)
 
--- ---- a step's turn
+-- ---- a step at its place
 module _ (alloc : Global) (facts : Bor Facts) (step : Bor Step) (outs : ℕ) (before after : U) where
   abbrev path : List Run
   path = (out-Step step.now).path
 
+  abbrev look : Edit
+  look = edit.Look alloc facts step
+
   abbrev by : Edit
   by = edit.Side alloc facts step
 
-  turned-made : (place : Place) → Made by outs path before u.Zero after place → (t : Turned facts.now outs before step.now after) × (place ≡ place_of t.replaced.context)
-  turned-made place m = (
-    record {
-      from = from_side facts.now step.now;
-      to = to_side facts.now step.now;
-      sides = m.suits.0;
-      replaced = record { context = m.context; at_path = m.at_path; is_from = m.was ∙ ap (filled m.context) m.suits.2; is_to = m.is };
-      named = m.suits.1;
-    },
-    m.here,
-  )
+  abbrev there : (c : Context) (part : U) → way c ≡ turns path → before ≡ filled c part → IsSide facts.now outs (binders c) step.now part
+      → (other : U) → other ≡ filled c (closed_path (to_side facts.now step.now) outs (binders c)) → Exchanged facts.now outs before step.now other
+  there c part at was side other is = record {
+    from = from_side facts.now step.now;
+    to = to_side facts.now step.now;
+    sides = side.0;
+    replaced = record { context = c; at_path = at; is_from = was ∙ ap (filled c) side.2; is_to = is };
+    named = side.1;
+  }
 
-  never_turned : OfEnd (IsRefused (Err NoResult)) (Answers by outs (Err NoResult) (end path before)) (end_of (turns path) before)
-      → (other : U) → Turned facts.now outs before step.now other → ⊥
-  never_turned ends other t =
-      let c = t.replaced.context in
+  -- what stands where the sides can be exchanged
+  side-there : (other : U) (t : Exchanged facts.now outs before step.now other)
+      → IsSide facts.now outs (binders t.replaced.context) step.now (closed_path t.from outs (binders t.replaced.context))
+  side-there other t =
       let e : t.from ≡ from_side facts.now step.now = sym (from-is facts.now step.now t.from t.to t.sides) in
-      refused path before outs by u.Zero after ends c (closed_path t.from outs (binders c)) t.replaced.at_path t.replaced.is_from
-      (sides-are facts.now step.now t.from t.to t.sides, t.named, ap (λ (x : U). closed_path x outs (binders c)) e)
+      (sides-are facts.now step.now t.from t.to t.sides, t.named, ap (λ (x : U). closed_path x outs (binders t.replaced.context)) e)
 
-  pub turned : (r : Result Place StepFault) → after ≡ ended (part_after by outs u.Zero r) (turns path) root before
-      → OfEnd (IsRefused r) (Answers by outs r (end path before)) (end_of (turns path) before) → IsTurned facts.now outs before step.now after r
-  turned (Ok place) is ends = turned-made place (made path before outs by u.Zero after place is ends)
-  turned (Err NoResult) is ends = (never_turned ends, unmade path before outs by u.Zero after NoResult is)
-  turned (Err NoMemory) is ends = unmade path before outs by u.Zero after NoMemory is
+  never_found : OfEnd (IsRefused (Err NoResult)) (Answers look outs (Err NoResult) (end path before)) (end_of (turns path) before)
+      → (other : U) → Exchanged facts.now outs before step.now other → ⊥
+  never_found ends other t =
+      refused path before outs look u.Zero after ends t.replaced.context (closed_path t.from outs (binders t.replaced.context)) t.replaced.at_path t.replaced.is_from (side-there other t)
+
+  never_exchanged : OfEnd (IsRefused (Err NoResult)) (Answers by outs (Err NoResult) (end path before)) (end_of (turns path) before)
+      → (other : U) → Exchanged facts.now outs before step.now other → ⊥
+  never_exchanged ends other t =
+      refused path before outs by u.Zero after ends t.replaced.context (closed_path t.from outs (binders t.replaced.context)) t.replaced.at_path t.replaced.is_from (side-there other t)
+
+  -- ---- a look
+  looked : (place : Place) → Made look outs path before u.Zero after place → Finds facts.now outs before step.now (Ok place)
+  looked place m =
+      let new : U = filled m.context (closed_path (to_side facts.now step.now) outs (binders m.context)) in
+      (new, there m.context m.part m.at_path m.was m.suits new refl, m.here)
+
+  pub found : (r : Result Place StepFault) → after ≡ ended (part_after look outs u.Zero r) (turns path) root before
+      → OfEnd (IsRefused r) (Answers look outs r (end path before)) (end_of (turns path) before) → Finds facts.now outs before step.now r
+  found (Ok place) is ends = looked place (made path before outs look u.Zero after place is ends)
+  found (Err NoResult) is ends = never_found ends
+  found (Err NoMemory) is ends = tt
+
+  pub unchanged : (r : Result Place StepFault) → after ≡ ended (part_after look outs u.Zero r) (turns path) root before → after ≡ before
+  unchanged (Ok place) is = is ∙ ended-same (turns path) root before
+  unchanged (Err fault) is = is ∙ ended-same (turns path) root before
+
+  -- ---- an exchange
+  exchanged-made : (place : Place) → Made by outs path before u.Zero after place → IsExchanged facts.now outs before step.now after (Ok place)
+  exchanged-made place m = (there m.context m.part m.at_path m.was m.suits after m.is, m.here)
+
+  pub exchanged : (r : Result Place StepFault) → after ≡ ended (part_after by outs u.Zero r) (turns path) root before
+      → OfEnd (IsRefused r) (Answers by outs r (end path before)) (end_of (turns path) before) → IsExchanged facts.now outs before step.now after r
+  exchanged (Ok place) is ends = exchanged-made place (made path before outs by u.Zero after place is ends)
+  exchanged (Err NoResult) is ends = (never_exchanged ends, unmade path before outs by u.Zero after NoResult is)
+  exchanged (Err NoMemory) is ends = unmade path before outs by u.Zero after NoMemory is
