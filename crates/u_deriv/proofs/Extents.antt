@@ -1,5 +1,5 @@
 -- How large a context is with a term in it: what the limits on a term need after a step.
-use Rattle.std.proofs.Common.{◌≡◌, ℕ, ◌+◌, ◌≤◌, max, List, [], ◌∷◌, ◌++◌, length, ap, ◌∙◌, arith}
+use Rattle.std.proofs.Common.{◌≡◌, ℕ, ◌+◌, ◌<◌, ◌≤◌, max, List, [], ◌∷◌, ◌++◌, length, refl, ap, sym, ◌∙◌, arith}
 use Rattle.std.specs.Prelude.{◌↔◌}
 use Rattle.std.proofs.lemmas.List.Sums.{sum_by-cons, sum_by-append}
 use Rattle.u_terms.specs.Syntax.{U, Val}
@@ -7,9 +7,13 @@ use Rattle.u_terms.specs.Size.{nodes, value_nodes, list_nodes, depth, value_dept
 use Rattle.u_terms.specs.Binding.{closed_path}
 use Rattle.u_terms.proofs.MappedSizes.{closed_path-nodes, closed_path-depth}
 use Rattle.u_terms.proofs.Sizes as at
+use Rattle.u_terms.specs.declared.term.U.TheOpen.{U-F}
+use Rattle.u_terms.specs.declared.term.U.TheViews.{out-U}
+use Rattle.u_rules.specs.Terms.{◌⊗◌}
 use Rattle.u_deriv.specs.declared.run.Run.{Run}
 use Rattle.u_deriv.specs.Turns.{turns}
 use Rattle.u_deriv.specs.Steps.{Replaced}
+use Rattle.u_deriv.proofs.Ends.{out-Add, out-Mul, out-Squash, out-Not, out-Sum, out-Rel, out-Eq, out-Pred}
 use Rattle.u_deriv.specs.Contexts.{Context, ValueContext, hole, add_left, add_right, mul_left, mul_right, in_squash, in_not, in_sum, in_relation, eq_left, eq_right, in_predicate, in_function, in_aggregate, filled, filled_value, way, value_way, binders, value_binders}
 
 -- ---- a context with one of two terms in it
@@ -164,6 +168,59 @@ replaced-nodes outs path before from to after r =
     let k = binders r.context in
     let e = nodes-filled r.context (closed_path to outs k) (closed_path from outs k) in
     omega (arith, e, ap nodes r.is_from, ap nodes r.is_to, closed_path-nodes from outs k, closed_path-nodes to outs k)
+
+-- at the root the new term is all that there is
+filled-at_root : (c : Context) (s : U) → length (way c) ≡ 0 → filled c s ≡ s
+unfolding filled way
+filled-at_root hole s none = refl
+filled-at_root (add_left c b) s none = absurd (omega (arith, none))
+filled-at_root (add_right a c) s none = absurd (omega (arith, none))
+filled-at_root (mul_left c b) s none = absurd (omega (arith, none))
+filled-at_root (mul_right a c) s none = absurd (omega (arith, none))
+filled-at_root (in_squash c) s none = absurd (omega (arith, none))
+filled-at_root (in_not c) s none = absurd (omega (arith, none))
+filled-at_root (in_sum c) s none = absurd (omega (arith, none))
+filled-at_root (in_relation table before c after) s none = absurd (omega (arith, none))
+filled-at_root (eq_left c b) s none = absurd (omega (arith, none))
+filled-at_root (eq_right a c) s none = absurd (omega (arith, none))
+filled-at_root (in_predicate symbol before c after) s none = absurd (omega (arith, none))
+
+pub replaced-at_root : (outs : ℕ) (path : List Run) (before from to after : U) → Replaced outs path before from to after → length (turns path) ≡ 0 → depth after ≡ depth to
+replaced-at_root outs path before from to after r none =
+    ap depth (r.is_to ∙ filled-at_root r.context (closed_path to outs (binders r.context)) (ap length r.at_path ∙ none)) ∙ closed_path-depth to outs (binders r.context)
+
+-- elsewhere in a square the other factor stays
+out-square : (c : Context) (s x : U) → x ⊗ x ≡ filled c s → U-F.Mul x x ≡ out-U (filled c s)
+out-square c s x is = sym (out-Mul x x) ∙ ap out-U is
+
+square-filled : (c : Context) (s t x : U) → x ⊗ x ≡ filled c s → 0 < length (way c) → depth (x ⊗ x) ≤ depth (filled c t)
+unfolding filled way
+square-filled hole s t x is some = absurd (omega (arith, some))
+square-filled (mul_left c b) s t x is some =
+    let e : U-F.Mul x x ≡ U-F.Mul (filled c s) b = out-square (mul_left c b) s x is ∙ out-Mul (filled c s) b in
+    let same : x ≡ b = cc in
+    omega (arith, at.depth-Mul x x, at.depth-Mul (filled c t) b, ap depth same)
+square-filled (mul_right a c) s t x is some =
+    let e : U-F.Mul x x ≡ U-F.Mul a (filled c s) = out-square (mul_right a c) s x is ∙ out-Mul a (filled c s) in
+    let same : x ≡ a = cc in
+    omega (arith, at.depth-Mul x x, at.depth-Mul a (filled c t), ap depth same)
+square-filled (add_left c b) s t x is some = let e = out-square (add_left c b) s x is ∙ out-Add (filled c s) b in absurd cc
+square-filled (add_right a c) s t x is some = let e = out-square (add_right a c) s x is ∙ out-Add a (filled c s) in absurd cc
+square-filled (in_squash c) s t x is some = let e = out-square (in_squash c) s x is ∙ out-Squash (filled c s) in absurd cc
+square-filled (in_not c) s t x is some = let e = out-square (in_not c) s x is ∙ out-Not (filled c s) in absurd cc
+square-filled (in_sum c) s t x is some = let e = out-square (in_sum c) s x is ∙ out-Sum (filled c s) in absurd cc
+square-filled (in_relation table before c after) s t x is some =
+    let e = out-square (in_relation table before c after) s x is ∙ out-Rel table (before ++ filled_value c s ∷ after) in absurd cc
+square-filled (eq_left c b) s t x is some = let e = out-square (eq_left c b) s x is ∙ out-Eq (filled_value c s) b in absurd cc
+square-filled (eq_right a c) s t x is some = let e = out-square (eq_right a c) s x is ∙ out-Eq a (filled_value c s) in absurd cc
+square-filled (in_predicate symbol before c after) s t x is some =
+    let e = out-square (in_predicate symbol before c after) s x is ∙ out-Pred symbol (before ++ filled_value c s ∷ after) in absurd cc
+
+pub replaced-in_square : (outs : ℕ) (path : List Run) (x from to after : U) → Replaced outs path (x ⊗ x) from to after → 0 < length (turns path) → depth (x ⊗ x) ≤ depth after
+replaced-in_square outs path x from to after r some =
+    let t : length (way r.context) ≡ length (turns path) = ap length r.at_path in
+    let kept = square-filled r.context (closed_path from outs (binders r.context)) (closed_path to outs (binders r.context)) x r.is_from (omega (arith, t, some)) in
+    omega (arith, kept, ap depth r.is_to)
 
 -- what the new term has more in depth than the old one it has at the end of the path
 pub replaced-depth : (outs : ℕ) (path : List Run) (before from to after : U) → Replaced outs path before from to after

@@ -2,6 +2,7 @@ pub mod Turns
 pub mod Normal
 pub mod Contexts
 pub mod Subterms
+pub mod Opening
 pub mod Steps
 pub mod StepText
 pub mod Applying

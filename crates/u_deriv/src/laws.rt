@@ -12,7 +12,9 @@ ghost use Rattle.u_terms.specs.Size.{depth, nodes};
 ghost use Rattle.u_terms.specs.Syntax.{U};
 ghost use Rattle.u_terms.specs.declared.facts.Facts.{Facts};
 ghost use Rattle.u_rules.specs.Sides.{SameMeaning};
+ghost use Rattle.u_rules.specs.Terms.{◌⊗◌};
 ghost use Rattle.u_deriv.specs.Contexts.{Context, binders, filled, in_aggregate, in_sum, value_binders, way};
+ghost use Rattle.u_deriv.specs.Opening.{opened_path};
 ghost use Rattle.u_deriv.specs.StepText.{lines_length, steps_text};
 ghost use Rattle.u_deriv.specs.Steps.{Replaced, Replays, Rewrites};
 ghost use Rattle.u_deriv.specs.Turns.{turns};
@@ -62,13 +64,31 @@ pub fn contexts_by_names()
         ≡ meaning n reading db names places (filled c (closed_path t first (binders c))) }
 {}
 
+/// What stands at a path is a closed term, its names for the binders on the path closed, exactly where it is that term after
+/// it is opened by these names; and opened it is closed. So `replace` compares the opened part with `from`, and a step the
+/// opened part with a side, wherever the whole is closed and has names below `outs` alone.
+#[tactic(auto, using(crate::proofs::Opening::laws))]
+pub fn opening_a_path()
+    ensures same { (c : Context) (part from : U) (outs : ℕ) → IsFreeBelow outs (filled c part) → IsClosed 0 from →
+        (part ≡ closed_path from outs (binders c)) ↔ (opened_path part outs (binders c) ≡ from) }
+    ensures closed { (c : Context) (part : U) (outs : ℕ) → IsClosed 0 (filled c part) → IsClosed 0 (opened_path part outs (binders c)) }
+    ensures named { (c : Context) (part : U) (outs : ℕ) → IsFreeBelow outs (filled c part) →
+        IsFreeBelow (outs + binders c) (opened_path part outs (binders c)) }
+{}
+
 /// What is written in the place of a term makes the difference in nodes; and where the term was no deeper than some bound,
-/// it stays within it exactly where the new part does, as many nodes further down as its path has turns.
+/// it stays within it exactly where the new part does, as many nodes further down as its path has turns. At the root the new
+/// part is all that there is; a square stays as deep elsewhere, by its other factor, so where it was deeper than the bound
+/// nothing but a replacement at its root brings it within.
 pub fn sizes_after_a_replacement()
     ensures nodes { (outs : ℕ) (path : List Run) (before from to after : U) → Replaced outs path before from to after →
         nodes after + nodes from ≡ nodes before + nodes to }
     ensures depth { (outs : ℕ) (path : List Run) (before from to after : U) → Replaced outs path before from to after →
         (most : ℕ) → depth before ≤ most → (depth after ≤ most) ↔ (length (turns path) + depth to ≤ most) }
+    ensures root { (outs : ℕ) (path : List Run) (before from to after : U) → Replaced outs path before from to after →
+        length (turns path) ≡ 0 → depth after ≡ depth to }
+    ensures square { (outs : ℕ) (path : List Run) (x from to after : U) → Replaced outs path (x ⊗ x) from to after →
+        0 < length (turns path) → depth (x ⊗ x) ≤ depth after }
 {}
 
 /// A step keeps what a term means wherever the facts are met, under sums and inside the bodies of aggregates too. So do

@@ -10,9 +10,10 @@ use crate::place::Place;
 use crate::way::Way;
 use u_terms::U;
 
-/// Where the subterm at the end of the path is `from` with the names from `outs` on closed, a name for each binder on the path and
-/// the first for the binder nearest to the root, writes `to` there, closed by the same names. Else there is no result, and the term
-/// is as before. Takes no memory.
+/// Where the subterm at the end of the path is `from` after the names from `outs` on are closed in it, one for each binder on
+/// the path and the first for the outermost one, writes `to` in its place, closed by the same names. Else there is no
+/// result, and the term is as before. In a closed term with names below `outs` alone, and for a closed `from`, that is where
+/// the subterm opened by these names is `from` (`laws::opening_a_path`). Takes no memory.
 pub fn replace(outs: u32, u: &mut U, path: &Path, from: &U, to: U) -> Result<(), StepFault>
     requires shallow { outs + depth u.old < 2 ^ 32 }
     requires room { HasRoomAt outs path.now u.old to }
