@@ -16,3 +16,4 @@ pub mod Soundness
 pub mod StepHeights
 pub mod Applied
 pub mod Lines
+mod StepSamples

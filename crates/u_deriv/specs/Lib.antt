@@ -10,3 +10,4 @@ pub mod StepHeight
 pub mod Walk
 pub mod Editing
 pub mod Samples
+pub mod StepSamples
