@@ -1,0 +1,5 @@
+mod calls;
+mod keyed;
+mod paths;
+mod places;
+mod terms;
