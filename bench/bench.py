@@ -115,4 +115,5 @@ def main():
     print(f"\nfrom {FEW:,} to {MANY:,} short steps: {growth:.0f} times the seconds (goal: about {MANY // FEW} times)")
 
 
-main()
+if __name__ == "__main__":
+    main()
