@@ -17,3 +17,4 @@ pub mod TermsSpelled
 pub mod LinesSpelled
 pub mod OneAnswer
 pub mod OneText
+pub mod HeadingsRead

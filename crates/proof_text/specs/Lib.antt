@@ -1,7 +1,9 @@
 pub mod Begun
 pub mod Faults
 pub mod Grammar
+pub mod Heading
 pub mod Limits
+pub mod LineSamples
 pub mod LinesOfText
 pub mod NumberSteps
 pub mod Outcomes
@@ -12,4 +14,3 @@ pub mod RuleNames
 pub mod Signs
 pub mod Words
 pub mod Written
-pub mod LineSamples

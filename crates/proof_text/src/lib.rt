@@ -3,6 +3,7 @@
 
 mod argument;
 mod cursor;
+mod heading;
 mod kinds;
 pub mod laws;
 mod limits;
@@ -14,9 +15,8 @@ mod rule_name;
 mod sign;
 mod step;
 mod term;
-#[cfg(test)]
-mod tests;
 
+pub use heading::{read_outs, read_version};
 pub use limits::LimitKind;
 pub use line::{LineFault, LineStep, read_step};
 pub use lines::{Line, Lines};

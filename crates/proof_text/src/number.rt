@@ -1,5 +1,5 @@
 //! Numbers of 32 bits, without leading zeros.
-ghost use Rattle.std.specs.Prelude.{◌≡◌, ◌≤◌, ◌<◌, ◌*◌, ◌+◌, drop, length, Option, Some, None, Ok, IfOk};
+ghost use Rattle.std.specs.Prelude.{◌≡◌, ◌≤◌, ◌<◌, ◌*◌, ◌+◌, drop, length, Option, Some, None, Ok, IfOk, IsErrOf};
 ghost use Rattle.proof_text.specs.Reading.{Gives, count_at, longest_at, number_at, turns_at};
 ghost use Rattle.proof_text.specs.NumberSteps.{Longer};
 
@@ -38,7 +38,8 @@ fn longest(cursor: &mut Cursor<'_>, first: u32) -> u32
 /// The longest number that begins here.
 #[tactic(auto, unfolding(crate::specs::Reading::number_at))]
 pub fn number(cursor: &mut Cursor<'_>) -> Result<u32, Stop>
-    ensures { Gives result cursor.new (number_at cursor.old) }
+    ensures gives { Gives result cursor.new (number_at cursor.old) }
+    ensures no_memory { IsErrOf result Stop.NoMemory → ⊥ }
 {
     let first = code(cursor.peek());
     if first >= 10 {
