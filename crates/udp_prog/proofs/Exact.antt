@@ -1,14 +1,20 @@
 -- Each answer of a run comes exactly where its cause holds, faults and want of memory left aside.
-use Rattle.std.proofs.Common.{◌≡◌, ℕ, ◌<◌, List, [], ◌∷◌, Option, length, sym, ◌∙◌, subst, inl, inr, codes, String}
-use Rattle.std.specs.Prelude.{◌⊎◌, IfSome}
+use Rattle.std.proofs.Common.{◌≡◌, ◌≢◌, ℕ, List, [], ◌∷◌, Option, Some, None, refl, sym, ◌∙◌, subst, inl, inr, codes, String}
+use Rattle.std.specs.Prelude.{◌⊎◌}
 use Rattle.std.specs.declared.alloc.Global.{Global}
-use Rattle.udp_prog.specs.Limits.{most_case_bytes, most_proof_bytes}
+use Rattle.udp_io.specs.Faults.{Rose}
+use Rattle.sql_to_u.specs.declared.fault.TermFault.{TermFault}
+use Rattle.sql_to_u.specs.declared.fault.TermFault.TheVariants as no_term
+use Rattle.sql_to_u.specs.Limits.{IsCause as IsSizeCause}
 use Rattle.udp_prog.specs.declared.answer.Status.{Status}
 use Rattle.udp_prog.specs.declared.answer.Status.TheVariants as status
 use Rattle.udp_prog.specs.declared.answer.Verdict.{Verdict}
-use Rattle.udp_prog.specs.declared.answer.Verdict.TheVariants.{NoSuchForm, CaseTooLong, ProofTooLong}
-use Rattle.udp_prog.specs.Answer.{IsCheck, AsksNothing, AsksCheck, IsFound, IsSaid, IsCause, IsAnswer, IsJust, SpellsSomeCase, status_of}
-use Rattle.udp_prog.proofs.OneVerdict.{IsFault, one_verdict}
+use Rattle.udp_prog.specs.declared.answer.Verdict.TheVariants.{Proved, StepFails, EndDiffers, CaseRefused, TermRefused, ProofRefused, NoSuchForm, CaseUnread, ProofUnread, CaseTooLong, ProofTooLong, OutOfMemory}
+use Rattle.udp_prog.specs.Cases.{size_fault}
+use Rattle.udp_prog.specs.Output.{case_status, size_status}
+use Rattle.udp_prog.specs.Answer.{AsksCheck, AsksNothing, BothTold, HasReadFault, IsAnswer, IsCause, IsCheck, IsFound, IsJust, IsSaid, PassesLimit, status_of}
+use Rattle.udp_prog.proofs.OneVerdict.{IsFault, one_verdict, size-found}
+use Rattle.udp_prog.proofs.TopAnswers.{IsRefusal, case-refusal, ends_limit, ends_memory, ends_refused, size-refusal}
 
 -- ---- the words
 -- they give one name of a case, and one of a proof
@@ -38,43 +44,140 @@ said-status verdict old new b n answer (inl (is, grows)) written memory = sym is
 said-status verdict old new b n answer (inr (inl (failed, rose, grows))) written memory = absurd (written failed)
 said-status verdict old new b n answer (inr (inr (none, same))) written memory = absurd (memory none)
 
+-- ---- what a verdict with a status says
+-- a status that a refusal does not end with
+no-refusal : (answer wanted : Status) → IsRefusal answer → answer ≡ wanted → wanted ≢ status.CaseRefused → wanted ≢ status.Limit → wanted ≢ status.NoMemory → ⊥
+no-refusal answer wanted (ends_refused e) w refused limit memory = refused (sym w ∙ e)
+no-refusal answer wanted (ends_limit e) w refused limit memory = limit (sym w ∙ e)
+no-refusal answer wanted (ends_memory e) w refused limit memory = memory (sym w ∙ e)
+
+is-found : (fault : TermFault) (found : Option TermFault) → size_status fault ≡ status.Limit → IsSizeCause fault found → found ≢ None
+is-found (no_term.TooBig what count) found e c = λ none. let n : Some (no_term.TooBig what count) ≡ None = sym (size-found (no_term.TooBig what count) found (λ m. cc) c) ∙ none in cc
+is-found no_term.NoMemory found e c = absurd cc
+
+just-limit : (told : BothTold) (verdict : Verdict) → status_of verdict ≡ status.Limit → IsJust told verdict → PassesLimit told.case.text told.proof.text
+just-limit told CaseTooLong e l = inl l
+just-limit told (CaseRefused fault) e r = inr (inl (fault, e, r))
+just-limit told (TermRefused fault) e h = inr (inr (inl (record {
+  schema = h.schema;
+  written = h.written;
+  spelled = h.spelled;
+  comparable = h.comparable;
+  holds = is-found fault (size_fault h.schema h.written) e h.holds;
+})))
+just-limit told ProofTooLong e l = inr (inr (inr l))
+just-limit told Proved e h = absurd cc
+just-limit told (StepFails line) e h = absurd cc
+just-limit told EndDiffers e h = absurd cc
+just-limit told ProofRefused e h = absurd cc
+just-limit told NoSuchForm e h = absurd cc
+just-limit told CaseUnread e h = absurd cc
+just-limit told ProofUnread e h = absurd cc
+just-limit told OutOfMemory e h = absurd cc
+
+just-read_fault : (told : BothTold) (verdict : Verdict) → status_of verdict ≡ status.ReadFault → IsJust told verdict → HasReadFault told
+just-read_fault told CaseUnread e r = inl r
+just-read_fault told ProofUnread e r = inr r
+just-read_fault told (CaseRefused fault) e r = absurd (no-refusal (case_status fault) status.ReadFault (case-refusal fault) e (λ f. cc) (λ f. cc) (λ f. cc))
+just-read_fault told (TermRefused fault) e r = absurd (no-refusal (size_status fault) status.ReadFault (size-refusal fault) e (λ f. cc) (λ f. cc) (λ f. cc))
+just-read_fault told CaseTooLong e h = absurd cc
+just-read_fault told ProofTooLong e h = absurd cc
+just-read_fault told Proved e h = absurd cc
+just-read_fault told (StepFails line) e h = absurd cc
+just-read_fault told EndDiffers e h = absurd cc
+just-read_fault told ProofRefused e h = absurd cc
+just-read_fault told NoSuchForm e h = absurd cc
+just-read_fault told OutOfMemory e h = absurd cc
+
+just-usage : (told : BothTold) (verdict : Verdict) → status_of verdict ≡ status.Usage → IsJust told verdict → ⊥
+just-usage told NoSuchForm e h = h
+just-usage told (CaseRefused fault) e r = no-refusal (case_status fault) status.Usage (case-refusal fault) e (λ f. cc) (λ f. cc) (λ f. cc)
+just-usage told (TermRefused fault) e r = no-refusal (size_status fault) status.Usage (size-refusal fault) e (λ f. cc) (λ f. cc) (λ f. cc)
+just-usage told CaseUnread e h = cc
+just-usage told ProofUnread e h = cc
+just-usage told CaseTooLong e h = cc
+just-usage told ProofTooLong e h = cc
+just-usage told Proved e h = cc
+just-usage told (StepFails line) e h = cc
+just-usage told EndDiffers e h = cc
+just-usage told ProofRefused e h = cc
+just-usage told OutOfMemory e h = cc
+
+-- no verdict has the status of a write fault
+no-write_fault : (verdict : Verdict) → status_of verdict ≡ status.WriteFault → ⊥
+no-write_fault (CaseRefused fault) e = no-refusal (case_status fault) status.WriteFault (case-refusal fault) e (λ f. cc) (λ f. cc) (λ f. cc)
+no-write_fault (TermRefused fault) e = no-refusal (size_status fault) status.WriteFault (size-refusal fault) e (λ f. cc) (λ f. cc) (λ f. cc)
+no-write_fault NoSuchForm e = cc
+no-write_fault CaseUnread e = cc
+no-write_fault ProofUnread e = cc
+no-write_fault CaseTooLong e = cc
+no-write_fault ProofTooLong e = cc
+no-write_fault Proved e = cc
+no-write_fault (StepFails line) e = cc
+no-write_fault EndDiffers e = cc
+no-write_fault ProofRefused e = cc
+no-write_fault OutOfMemory e = cc
+
 -- ---- the run
-module _ (words : List (String Global)) (text : List ℕ → Option (List ℕ)) (before now : List ℕ → ℕ) (verdict : Verdict) (found : IsFound words text before now verdict)
+module _ (words : List (String Global)) (told : List ℕ → List ℕ → BothTold) (verdict : Verdict) (found : IsFound words told verdict)
     (old new : Option (List ℕ)) (b n : ℕ) (answer : Status) (said : IsSaid verdict old new b n answer) where
-  pub run-exact : (other : Verdict) → AsksCheck words (λ case proof. IsCause other (text case) (text proof)) → IsAnswer other old new answer
+  pub run-exact : (other : Verdict) → AsksCheck words (λ case proof. IsCause other (told case proof).case.text (told case proof).proof.text) → IsAnswer other old new answer
   run-exact other (case, proof, is, cause) = by found
     where
       of : IsFault verdict ⊎ (verdict ≡ other) → IsAnswer other old new answer
       of (inl fault) = said-fault verdict other old new b n answer fault said
       of (inr same) = subst (λ (v : Verdict). IsAnswer v old new answer) same (said-answer verdict old new b n answer said)
 
-      by : IsFound words text before now verdict → IsAnswer other old new answer
+      by : IsFound words told verdict → IsAnswer other old new answer
       by (inl (name, also, are, just)) =
-          of (one_verdict (text case) (text proof) (before case) (now case) (before proof) (now proof) verdict other
-          (check-one words (λ c p. IsJust (text c) (text p) (before c) (now c) (before p) (now p) verdict) case proof name also is are just) cause)
+          of (one_verdict (told case proof) verdict other (check-one words (λ c p. IsJust (told c p) verdict) case proof name also is are just) cause)
       by (inr (form, nothing)) = absurd (nothing case proof is)
 
   pub run-no_form : AsksNothing words → IsSaid NoSuchForm old new b n answer
   run-no_form nothing = by found
     where
-      by : IsFound words text before now verdict → IsSaid NoSuchForm old new b n answer
+      by : IsFound words told verdict → IsSaid NoSuchForm old new b n answer
       by (inl (case, proof, is, just)) = absurd (nothing case proof is)
       by (inr (form, none)) = subst (λ (v : Verdict). IsSaid v old new b n answer) form said
 
-  -- a text passes its length
-  abbrev TooLong : List ℕ → List ℕ → Type 0
-  TooLong case proof =
-      IfSome (text case) (λ t. most_case_bytes < length t) ⊎ (SpellsSomeCase (text case) × IfSome (text proof) (λ t. most_proof_bytes < length t))
+  -- what holds of a just verdict of this status holds of the texts
+  of-status : (wanted : Status) → answer ≡ wanted → wanted ≢ status.WriteFault → wanted ≢ status.NoMemory → wanted ≢ status.Usage → (P : BothTold → Type 0)
+      → ((t : BothTold) → status_of verdict ≡ wanted → IsJust t verdict → P t) → AsksCheck words (λ case proof. P (told case proof))
+  of-status wanted is write memory usage P holds = by found
+    where
+      status_is : status_of verdict ≡ wanted
+      status_is = said-status verdict old new b n answer said (λ failed. write (sym is ∙ failed)) (λ none. memory (sym is ∙ none)) ∙ is
 
-  found-limit : (v : Verdict) → status_of v ≡ status.Limit → IsFound words text before now v → AsksCheck words TooLong
-  found-limit CaseTooLong e (inl (case, proof, is, long)) = (case, proof, is, inl long)
-  found-limit ProofTooLong e (inl (case, proof, is, (long, spells))) = (case, proof, is, inr (spells, long))
-  found-limit CaseTooLong e (inr (form, nothing)) = absurd (let f : CaseTooLong ≡ NoSuchForm = form in cc)
-  found-limit ProofTooLong e (inr (form, nothing)) = absurd (let f : ProofTooLong ≡ NoSuchForm = form in cc)
-  found-limit v e f = absurd cc
+      by : IsFound words told verdict → AsksCheck words (λ case proof. P (told case proof))
+      by (inl (case, proof, are, just)) = (case, proof, are, holds (told case proof) status_is just)
+      by (inr (form, nothing)) = absurd (usage (sym status_is ∙ subst (λ (v : Verdict). status_of v ≡ status.Usage) (sym form) refl))
 
-  pub run-limits : answer ≡ status.Limit → AsksCheck words TooLong
-  run-limits limit = found-limit verdict (said-status verdict old new b n answer said (λ failed. cc) (λ none. cc) ∙ limit) found
+  pub run-limits : answer ≡ status.Limit → AsksCheck words (λ case proof. PassesLimit (told case proof).case.text (told case proof).proof.text)
+  run-limits limit = of-status status.Limit limit (λ e. cc) (λ e. cc) (λ e. cc) (λ t. PassesLimit t.case.text t.proof.text) (λ t. just-limit t verdict)
+
+  pub run-read_fault : answer ≡ status.ReadFault → AsksCheck words (λ case proof. HasReadFault (told case proof))
+  run-read_fault fault = of-status status.ReadFault fault (λ e. cc) (λ e. cc) (λ e. cc) HasReadFault (λ t. just-read_fault t verdict)
+
+  pub run-usage : answer ≡ status.Usage → AsksNothing words
+  run-usage is = by found
+    where
+      status_is : status_of verdict ≡ status.Usage
+      status_is =
+          said-status verdict old new b n answer said (λ failed. let f : status.WriteFault ≡ status.Usage = sym failed ∙ is in cc)
+          (λ none. let f : status.NoMemory ≡ status.Usage = sym none ∙ is in cc)
+          ∙ is
+
+      by : IsFound words told verdict → AsksNothing words
+      by (inl (case, proof, are, just)) = absurd (just-usage (told case proof) verdict status_is just)
+      by (inr (form, nothing)) = nothing
+
+  pub run-write_fault : answer ≡ status.WriteFault → Rose b n
+  run-write_fault is = by said
+    where
+      by : IsSaid verdict old new b n answer → Rose b n
+      by (inl (status_is, grows)) = absurd (no-write_fault verdict (sym status_is ∙ is))
+      by (inr (inl (failed, rose, grows))) = rose
+      by (inr (inr (none, same))) = absurd (let f : status.NoMemory ≡ status.WriteFault = sym none ∙ is in cc)
 
 -- ---- without faults
 pub answered_surely : (verdict : Verdict) (old new : Option (List ℕ)) (answer : Status) → (answer ≡ status.ReadFault → ⊥) → (answer ≡ status.WriteFault → ⊥)

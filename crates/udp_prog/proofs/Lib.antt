@@ -11,12 +11,11 @@ pub mod ReadTerms
 pub mod ReadProofs
 pub mod Checked
 pub mod StepsMean
-pub mod TableTerms
-pub mod QueryTerms
-pub mod FirstTerms
-pub mod Translating
+pub mod Equivalence
 pub mod Verdicts
+pub mod TopAnswers
 pub mod Forms
 pub mod OneReplay
+pub mod Unrefused
 pub mod OneVerdict
 pub mod Exact

@@ -1,47 +1,58 @@
 -- Texts have one verdict: what decides of a case, of a proof and of its steps exclude each other.
-use Rattle.std.proofs.Common.{◌≡◌, ℕ, ◌<◌, ◌≤◌, List, Option, Some, None, Ok, length, refl, sym, ap, ◌∙◌, subst, arith, inl, inr}
-use Rattle.std.specs.Prelude.{◌⊎◌, IfSome, IsSomeAnd, option_and_then}
+use Rattle.std.proofs.Common.{◌≡◌, ◌≢◌, ℕ, ◌<◌, ◌≤◌, List, Option, Some, None, Ok, [], length, refl, sym, ap, ◌∙◌, subst, arith, inl, inr}
+use Rattle.std.specs.Prelude.{◌⊎◌, IfSome, IsSomeAnd}
+use Rattle.std.specs.Option.{option_or}
 use Rattle.std.proofs.lemmas.Option.{same_Some}
 use Rattle.sql_model.specs.declared.schema.Schema.{Schema}
-use Rattle.sql_model.specs.Syntax.{Name, Query, OfBlock, Set}
-use Rattle.sql_model.specs.Relations.{Relation, relation_named}
-use Rattle.sql_model.specs.Compute.{everything}
-use Rattle.first_form.specs.FirstForm.{IsFirstCase}
-use Rattle.first_form.proofs.CaseLaws.{same_read}
+use Rattle.scope_core.specs.Resolving.{resolved}
+use Rattle.scope_core.specs.Relations.{known_relations, view_trees}
 use Rattle.u_terms.specs.declared.term.U.{U}
-use Rattle.udp_prog.specs.Limits.{most_case_bytes, most_proof_bytes}
+use Rattle.sql_to_u.specs.declared.fault.TermFault.{TermFault}
+use Rattle.sql_to_u.specs.declared.fault.TermFault.TheVariants as no_term
+use Rattle.sql_to_u.specs.Answer.{translation}
+use Rattle.sql_to_u.specs.Limits.{IsCause as IsSizeCause, too_big}
+use Rattle.case_core.specs.declared.fault.CaseFault.{CaseFault}
+use Rattle.case_core.specs.declared.fault.CaseFault.TheVariants as case_refusal
+use Rattle.case_core.specs.declared.text.CaseText.{CaseText}
+use Rattle.case_core.specs.Answer.{IsRefused, width_of}
+use Rattle.udp_prog.specs.Limits.{most_proof_bytes}
 use Rattle.udp_prog.specs.declared.step.Step.{Step}
 use Rattle.udp_prog.specs.declared.checker.Shown.{Shown}
 use Rattle.udp_prog.specs.declared.checker.Shown.TheVariants as shown
 use Rattle.udp_prog.specs.declared.answer.Verdict.{Verdict}
-use Rattle.udp_prog.specs.declared.answer.Verdict.TheVariants.{Proved, StepFails, EndDiffers, CaseRefused, ProofRefused, NoSuchForm, CaseFault, ProofFault, CaseTooLong, ProofTooLong, OutOfMemory}
+use Rattle.udp_prog.specs.declared.answer.Verdict.TheVariants.{Proved, StepFails, EndDiffers, CaseRefused, TermRefused, ProofRefused, NoSuchForm, CaseUnread, ProofUnread, CaseTooLong, ProofTooLong, OutOfMemory}
 use Rattle.udp_prog.specs.declared.answer.Status.TheVariants as status
-use Rattle.udp_prog.specs.Translation.{relation_term, shown_name, set_term, query_term}
+use Rattle.udp_prog.specs.Cases.{AreComparable, HasCase, Spells, size_fault, term_of}
 use Rattle.udp_prog.specs.ProofText.{IsProofText}
 use Rattle.udp_prog.specs.Checking.{StepsShow, IsShown, Accepted, StepFailsIn, EndDiffersIn, IsNoProofText}
-use Rattle.udp_prog.specs.Answer.{SpellsCase, SpellsNoCase, TellsBoth, IsJust, IsCause, status_of}
+use Rattle.udp_prog.specs.Answer.{BothTold, HasTerms, IsCause, IsJust, IsLongCase, IsRefusedAlone, IsRefusedFor, TellsBoth, status_of}
 use Rattle.udp_prog.proofs.ReadProofs.{proof_at-some}
 use Rattle.udp_prog.proofs.OneReplay.{shows-one}
+use Rattle.udp_prog.proofs.Unrefused.{Relations, memory_alone, same_case, width_over}
 
 -- ---- a text spells one case, and so one pair of terms
--- a term depends on what the schema holds, and on nothing else of it
-query_term-same : (schema other : Schema) → schema.relations.entries ≡ other.relations.entries → (query : Query) → query_term schema query ≡ query_term other query
-unfolding query_term everything
-query_term-same schema other e (OfBlock block) =
-    ap (λ (entries : List (Name × Relation)). relation_term (option_and_then (λ name. relation_named name entries) (shown_name block))) e
-query_term-same schema other e (Set op left right at) = λ i. set_term op (query_term-same schema other e left i) (query_term-same schema other e right i)
-
 -- the width and the terms of a case
-abbrev terms : Schema → Query → Query → ℕ → ℕ × U × U
-terms schema left right width = (width, query_term schema left, query_term schema right)
+abbrev Terms : Type 0
+Terms = ℕ × U × U
 
-one_case : (text : List ℕ) (schema other : Schema) (left right p q : Query) (width w : ℕ) → IsFirstCase text schema left right width → IsFirstCase text other p q w
-    → terms other p q w ≡ terms schema left right width
-one_case text schema other left right p q width w is also =
-    let (entries, keys, same_left, same_right, same_width) = same_read text schema other left right p q width w is also in
-    let l : query_term other p ≡ query_term schema left = sym (query_term-same schema other entries left ∙ ap (query_term other) same_left) in
-    let r : query_term other q ≡ query_term schema right = sym (query_term-same schema other entries right ∙ ap (query_term other) same_right) in
-    λ i. (sym same_width i, l i, r i)
+abbrev terms : Schema → CaseText → Terms
+terms schema written = (width_of schema written.left, term_of schema written.left, term_of schema written.right)
+
+-- they depend on the relations of the schema alone, and so does their size
+abbrev terms_over : Relations → CaseText → Terms
+terms_over relations w = (
+  width_over relations w.left,
+  translation (view_trees [] [] relations) (resolved w.left (known_relations [] [] relations) []),
+  translation (view_trees [] [] relations) (resolved w.right (known_relations [] [] relations) []),
+)
+
+abbrev size_of : Terms → Option TermFault
+size_of t = option_or (too_big t.1) (too_big t.2)
+
+one_case : (text : List ℕ) (schema other : Schema) (written also : CaseText) → Spells text schema written → Spells text other also → terms other also ≡ terms schema written
+one_case text schema other written also a b =
+    let s = same_case b.has_schema a.has_schema in
+    λ i. terms_over (s.relations i) (s.text i)
 
 -- ---- a proof's text
 -- a text spells one list of steps
@@ -54,7 +65,7 @@ verdict_of (shown.StepFails line) = StepFails line
 verdict_of shown.EndDiffers = EndDiffers
 
 -- the text is a proof, and its steps show this
-record Shows (t : ℕ × U × U) (text : List ℕ) (verdict : Verdict) : Type 0 where
+record Shows (t : Terms) (text : List ℕ) (verdict : Verdict) : Type 0 where
   steps : List Step
   spelled : IsProofText t.0 text steps
   shown : Shown
@@ -62,18 +73,18 @@ record Shows (t : ℕ × U × U) (text : List ℕ) (verdict : Verdict) : Type 0 
   is : verdict ≡ verdict_of shown
 
 -- What decides of a proof: its length, that it is no proof text, or what its steps show.
-abbrev ProofDecides : ℕ × U × U → Verdict → List ℕ → Type 0
+abbrev ProofDecides : Terms → Verdict → List ℕ → Type 0
 ProofDecides t verdict text =
     ((most_proof_bytes < length text) × (verdict ≡ ProofTooLong))
     ⊎ ((length text ≤ most_proof_bytes) × ((IsNoProofText t.0 t.1 t.2 text × (verdict ≡ ProofRefused)) ⊎ Shows t text verdict))
 
-shown-one : (t : ℕ × U × U) (text : List ℕ) (v w : Verdict) → Shows t text v → Shows t text w → v ≡ w
+shown-one : (t : Terms) (text : List ℕ) (v w : Verdict) → Shows t text v → Shows t text w → v ≡ w
 shown-one t text v w a b =
     let same : b.steps ≡ a.steps = one_proof t.0 text b.steps a.steps b.spelled a.spelled in
     let shows : StepsShow t.1 t.2 a.steps b.shown = subst (λ (steps : List Step). StepsShow t.1 t.2 steps b.shown) same b.shows in
     a.is ∙ ap verdict_of (shows-one t.1 t.2 a.steps a.shown b.shown a.shows shows) ∙ sym b.is
 
-proof-one : (t : ℕ × U × U) (text : List ℕ) (v w : Verdict) → ProofDecides t v text → ProofDecides t w text → v ≡ w
+proof-one : (t : Terms) (text : List ℕ) (v w : Verdict) → ProofDecides t v text → ProofDecides t w text → v ≡ w
 proof-one t text v w (inl (long, is)) (inl (over, also)) = is ∙ sym also
 proof-one t text v w (inl (long, is)) (inr (within, b)) = absurd (omega arith)
 proof-one t text v w (inr (within, a)) (inl (over, also)) = absurd (omega arith)
@@ -83,29 +94,71 @@ proof-one t text v w (inr (within, inr a)) (inr (fits, inl (none, also))) = absu
 proof-one t text v w (inr (within, inr a)) (inr (fits, inr b)) = shown-one t text v w a b
 
 -- ---- both texts
--- What decides of a case: its length, that it is of no form, or what decides of the proof, as far as its text is known.
-abbrev CaseDecides : ((List ℕ → Type 0) → Type 0) → List ℕ → Verdict → Type 0
-CaseDecides Known text verdict =
-    ((most_case_bytes < length text) × (verdict ≡ CaseTooLong))
-    ⊎ ((SpellsNoCase text × (verdict ≡ CaseRefused))
-    ⊎ SpellsCase (Some text) (λ schema left right width. Known (ProofDecides (terms schema left right width) verdict)))
+abbrev KnownProof : Type 1
+KnownProof = (List ℕ → Type 0) → Type 0
 
-case-one : (text : List ℕ) (proof : Option (List ℕ)) (v w : Verdict) → CaseDecides (IfSome proof) text v → CaseDecides (IsSomeAnd proof) text w → v ≡ w
-case-one text proof v w (inl (long, is)) (inl (over, also)) = is ∙ sym also
-case-one text proof v w (inl (long, is)) (inr (inl (none, also))) = absurd (omega (arith, none.0))
-case-one text proof v w (inl (long, is)) (inr (inr (schema, left, right, width, spells, b))) = absurd (omega (arith, spells.0))
-case-one text proof v w (inr (inl (none, is))) (inl (over, also)) = absurd (omega (arith, none.0))
-case-one text proof v w (inr (inl (none, is))) (inr (inl (never, also))) = is ∙ sym also
-case-one text proof v w (inr (inl (none, is))) (inr (inr (schema, left, right, width, spells, b))) = absurd (none.1 schema left right width spells.1)
-case-one text proof v w (inr (inr (schema, left, right, width, spells, a))) (inl (over, also)) = absurd (omega (arith, spells.0))
-case-one text proof v w (inr (inr (schema, left, right, width, spells, a))) (inr (inl (none, also))) = absurd (none.1 schema left right width spells.1)
-case-one text None v w (inr (inr (schema, left, right, width, spells, a))) (inr (inr (other, p, q, n, also, b))) = absurd b
-case-one text (Some proof) v w (inr (inr (schema, left, right, width, spells, a))) (inr (inr (other, p, q, n, also, b))) =
-    let same : terms other p q n ≡ terms schema left right width = one_case text schema other left right p q width n spells.1 also.1 in
-    proof-one (terms schema left right width) proof v w a (subst (λ (t : ℕ × U × U). ProofDecides t w proof) same b)
+-- What decides of a case that is spelled: the size of its terms, or what decides of the proof, as far as its text is known.
+abbrev TermsDecide : KnownProof → Terms → Verdict → Type 0
+TermsDecide Known t verdict =
+    ((fault : TermFault) × (size_of t ≡ Some fault) × (verdict ≡ TermRefused fault)) ⊎ ((size_of t ≡ None) × Known (ProofDecides t verdict))
+
+record SpellsOne (Known : KnownProof) (text : List ℕ) (verdict : Verdict) : Type 0 where
+  schema : Schema
+  written : CaseText
+  spelled : Spells text schema written
+  comparable : AreComparable schema written
+  decides : TermsDecide Known (terms schema written) verdict
+
+-- the text is refused for this, and it is not want of memory
+record RefusedOne (text : List ℕ) (verdict : Verdict) : Type 0 where
+  fault : CaseFault
+  refused : IsRefusedFor fault text
+  memory : fault ≢ case_refusal.NoMemory
+  is : verdict ≡ CaseRefused fault
+
+-- What decides of a case: its length, its refusal, or what is behind that.
+data CaseDecides (Known : KnownProof) (text : List ℕ) (verdict : Verdict) : Type 0 where
+  is_long : IsLongCase text → verdict ≡ CaseTooLong → CaseDecides Known text verdict
+  is_refused : RefusedOne text verdict → CaseDecides Known text verdict
+  is_spelled : SpellsOne Known text verdict → CaseDecides Known text verdict
+
+-- the one cause is of this fault alone
+abbrev IsAlone : List ℕ → Verdict → Type 0
+IsAlone text verdict = (fault : CaseFault) → verdict ≡ CaseRefused fault → IsRefusedAlone fault text
+
+not_both : (text : List ℕ) (fault : CaseFault) (schema : Schema) (written : CaseText) → Spells text schema written → AreComparable schema written → IsRefused text fault
+    → fault ≢ case_refusal.NoMemory → ⊥
+not_both text fault schema written s c r m = m (memory_alone text schema written s.numbers s.has_schema c fault r)
+
+terms-one : (t : Terms) (proof : Option (List ℕ)) (v w : Verdict) → TermsDecide (IfSome proof) t v → TermsDecide (IsSomeAnd proof) t w → v ≡ w
+terms-one t proof v w (inl (fault, is, e)) (inl (other, also, f)) = e ∙ (ap TermRefused (same_Some fault other (sym is ∙ also)) ∙ sym f)
+terms-one t proof v w (inl (fault, is, e)) (inr (none, b)) = absurd (let n : Some fault ≡ None = sym is ∙ none in cc)
+terms-one t proof v w (inr (none, a)) (inl (other, also, f)) = absurd (let n : Some other ≡ None = sym also ∙ none in cc)
+terms-one t None v w (inr (none, a)) (inr (also, b)) = absurd b
+terms-one t (Some proof) v w (inr (none, a)) (inr (also, b)) = proof-one t proof v w a b
+
+refused-one : (text : List ℕ) (v w : Verdict) (a : RefusedOne text v) (b : RefusedOne text w) → IsRefusedAlone b.fault text → v ≡ w
+refused-one text v w a b alone = by (alone.alone a.fault a.refused.1)
+  where
+    by : (a.fault ≡ case_refusal.NoMemory) ⊎ (a.fault ≡ b.fault) → v ≡ w
+    by (inl none) = absurd (a.memory none)
+    by (inr same) = a.is ∙ (ap CaseRefused same ∙ sym b.is)
+
+case-one : (text : List ℕ) (proof : Option (List ℕ)) (v w : Verdict) → CaseDecides (IfSome proof) text v → CaseDecides (IsSomeAnd proof) text w → IsAlone text w → v ≡ w
+case-one text proof v w (is_long l e) (is_long k f) alone = e ∙ sym f
+case-one text proof v w (is_long l e) (is_refused b) alone = absurd (omega (arith, l, b.refused.0))
+case-one text proof v w (is_long l e) (is_spelled b) alone = absurd (omega (arith, l, b.spelled.within))
+case-one text proof v w (is_refused a) (is_long k f) alone = absurd (omega (arith, k, a.refused.0))
+case-one text proof v w (is_refused a) (is_refused b) alone = refused-one text v w a b (alone b.fault b.is)
+case-one text proof v w (is_refused a) (is_spelled b) alone = absurd (not_both text a.fault b.schema b.written b.spelled b.comparable a.refused.1 a.memory)
+case-one text proof v w (is_spelled a) (is_long k f) alone = absurd (omega (arith, k, a.spelled.within))
+case-one text proof v w (is_spelled a) (is_refused b) alone = absurd (not_both text b.fault a.schema a.written a.spelled a.comparable b.refused.1 b.memory)
+case-one text proof v w (is_spelled a) (is_spelled b) alone =
+    let same : terms b.schema b.written ≡ terms a.schema a.written = one_case text a.schema b.schema a.written b.written a.spelled b.spelled in
+    terms-one (terms a.schema a.written) proof v w a.decides (subst (λ (t : Terms). TermsDecide (IsSomeAnd proof) t w) same b.decides)
 
 -- ---- from what is said of a verdict to what decides
-module _ (t : ℕ × U × U) (text : List ℕ) where
+module _ (t : Terms) (text : List ℕ) where
   shown-decides : (shown : Shown) → (length text ≤ most_proof_bytes) × IsShown t.0 t.1 t.2 text (Ok shown) → ProofDecides t (verdict_of shown) text
   shown-decides shown.Proved (fits, a) = inr (fits, inr (record { steps = a.steps; spelled = a.text; shown = shown.Proved; shows = a.replays; is = refl }))
   shown-decides (shown.StepFails line) (fits, f) = inr (fits, inr (record { steps = f.0; spelled = f.1; shown = shown.StepFails line; shows = f.2; is = refl }))
@@ -119,39 +172,83 @@ IfSome-map : (text : Option (List ℕ)) (P Q : List ℕ → Type 0) → ((t : Li
 IfSome-map None P Q f p = tt
 IfSome-map (Some t) P Q f p = f t p
 
+-- a case whose terms are within the limits
+terms-decide : {text : List ℕ} {Known : KnownProof} {verdict : Verdict} {P : Schema → CaseText → Type 0} → HasTerms (Some text) P
+    → ((schema : Schema) (written : CaseText) → P schema written → Known (ProofDecides (terms schema written) verdict)) → CaseDecides Known text verdict
+terms-decide h known = is_spelled (record {
+  schema = h.schema;
+  written = h.written;
+  spelled = h.spelled;
+  comparable = h.comparable;
+  decides = inr (h.holds.0, known h.schema h.written h.holds.1);
+})
+
 both-decide : (text : List ℕ) (proof : Option (List ℕ)) (verdict : Verdict) (P : ℕ → U → U → List ℕ → Type 0)
-    → ((t : ℕ × U × U) (p : List ℕ) → (length p ≤ most_proof_bytes) × P t.0 t.1 t.2 p → ProofDecides t verdict p)
+    → ((t : Terms) (p : List ℕ) → (length p ≤ most_proof_bytes) × P t.0 t.1 t.2 p → ProofDecides t verdict p)
     → TellsBoth (Some text) proof P → CaseDecides (IsSomeAnd proof) text verdict
 both-decide text None verdict P f b = absurd b
-both-decide text (Some p) verdict P f (schema, left, right, width, spells, (any, h)) =
-    inr (inr (schema, left, right, width, spells, f (terms schema left right width) p h))
+both-decide text (Some p) verdict P f b = terms-decide b (λ schema written h. f (terms schema written) p h.1)
 
 long-decides : (text : List ℕ) (proof : Option (List ℕ)) → IsCause ProofTooLong (Some text) proof → CaseDecides (IsSomeAnd proof) text ProofTooLong
 long-decides text None b = absurd b.1
-long-decides text (Some p) ((schema, left, right, width, spells, any), long) = inr (inr (schema, left, right, width, spells, inl (long, refl)))
+long-decides text (Some p) b = terms-decide b.0 (λ schema written any. inl (b.1, refl))
 
 -- the verdict is a fault of the store, or want of memory
 abbrev pub IsFault : Verdict → Type 0
 IsFault verdict = (status_of verdict ≡ status.ReadFault) ⊎ (status_of verdict ≡ status.NoMemory)
 
+is_memory : (fault : CaseFault) → (fault ≡ case_refusal.NoMemory) ⊎ (fault ≢ case_refusal.NoMemory)
+is_memory case_refusal.NoMemory = inl refl
+is_memory (case_refusal.Read fault) = inr (λ e. cc)
+is_memory (case_refusal.Schema fault) = inr (λ e. cc)
+is_memory (case_refusal.Scope fault) = inr (λ e. cc)
+is_memory (case_refusal.QueriesDiffer left right) = inr (λ e. cc)
+is_memory (case_refusal.NotTwoQueries count at) = inr (λ e. cc)
+
+pub size-found : (fault : TermFault) (found : Option TermFault) → fault ≢ no_term.NoMemory → IsSizeCause fault found → found ≡ Some fault
+unfolding IsSizeCause
+size-found fault found n c = c n
+
 module _ (text : List ℕ) (proof : Option (List ℕ)) where
-  just-decides : (cb cn pb pn : ℕ) (verdict : Verdict) → IsJust (Some text) proof cb cn pb pn verdict → IsFault verdict ⊎ CaseDecides (IfSome proof) text verdict
-  just-decides cb cn pb pn Proved (schema, left, right, width, spells, (same, p)) =
-      inr (inr (inr (schema, left, right, width, spells, IfSome-map proof _ _ (λ t h. shown-decides (terms schema left right width) t shown.Proved h) p)))
-  just-decides cb cn pb pn (StepFails line) (schema, left, right, width, spells, (any, p)) =
-      inr (inr (inr (schema, left, right, width, spells, IfSome-map proof _ _ (λ t h. shown-decides (terms schema left right width) t (shown.StepFails line) h) p)))
-  just-decides cb cn pb pn EndDiffers (schema, left, right, width, spells, (any, p)) =
-      inr (inr (inr (schema, left, right, width, spells, IfSome-map proof _ _ (λ t h. shown-decides (terms schema left right width) t shown.EndDiffers h) p)))
-  just-decides cb cn pb pn ProofRefused (schema, left, right, width, spells, (any, p)) =
-      inr (inr (inr (schema, left, right, width, spells, IfSome-map proof _ _ (λ t h. refused-decides (terms schema left right width) t h) p)))
-  just-decides cb cn pb pn ProofTooLong (p, (schema, left, right, width, spells, any)) =
-      inr (inr (inr (schema, left, right, width, spells, IfSome-map proof _ _ (λ t h. inl (h, refl)) p)))
-  just-decides cb cn pb pn CaseRefused none = inr (inr (inl (none, refl)))
-  just-decides cb cn pb pn CaseTooLong long = inr (inl (long, refl))
-  just-decides cb cn pb pn CaseFault rose = inl (inl refl)
-  just-decides cb cn pb pn ProofFault rose = inl (inl refl)
+  abbrev Decided : Verdict → Type 0
+  Decided verdict = IsFault verdict ⊎ CaseDecides (IfSome proof) text verdict
+
+  refusal-decides : (fault : CaseFault) → IsRefusedFor fault text → Decided (CaseRefused fault)
+  refusal-decides fault r = by (is_memory fault)
+    where
+      by : (fault ≡ case_refusal.NoMemory) ⊎ (fault ≢ case_refusal.NoMemory) → Decided (CaseRefused fault)
+      by (inl e) = inl (inr (ap (λ f. status_of (CaseRefused f)) e))
+      by (inr n) = inr (is_refused (record { fault = fault; refused = r; memory = n; is = refl }))
+
+  size-decides : (fault : TermFault) → HasCase (Some text) (λ schema written. IsSizeCause fault (size_fault schema written)) → Decided (TermRefused fault)
+  size-decides no_term.NoMemory h = inl (inr refl)
+  size-decides (no_term.TooBig what count) h = inr (is_spelled (record {
+    schema = h.schema;
+    written = h.written;
+    spelled = h.spelled;
+    comparable = h.comparable;
+    decides = inl (no_term.TooBig what count, size-found (no_term.TooBig what count) (size_fault h.schema h.written) (λ e. cc) h.holds, refl);
+  }))
+
+  just-decides : (cb cn pb pn : ℕ) (verdict : Verdict)
+      → IsJust (record { case = record { text = Some text; before = cb; now = cn }; proof = record { text = proof; before = pb; now = pn } }) verdict → Decided verdict
+  just-decides cb cn pb pn Proved h = inr (terms-decide h (λ schema written p. IfSome-map proof _ _ (λ t q. shown-decides (terms schema written) t shown.Proved q) p.1))
+  just-decides cb cn pb pn (StepFails line) h =
+      inr (terms-decide h (λ schema written p. IfSome-map proof _ _ (λ t q. shown-decides (terms schema written) t (shown.StepFails line) q) p.1))
+  just-decides cb cn pb pn EndDiffers h = inr (terms-decide h (λ schema written p. IfSome-map proof _ _ (λ t q. shown-decides (terms schema written) t shown.EndDiffers q) p.1))
+  just-decides cb cn pb pn ProofRefused h = inr (terms-decide h (λ schema written p. IfSome-map proof _ _ (λ t q. refused-decides (terms schema written) t q) p.1))
+  just-decides cb cn pb pn ProofTooLong h = inr (terms-decide h.1 (λ schema written any. IfSome-map proof _ _ (λ t q. inl (q, refl)) h.0))
+  just-decides cb cn pb pn (CaseRefused fault) r = refusal-decides fault r
+  just-decides cb cn pb pn (TermRefused fault) h = size-decides fault h
+  just-decides cb cn pb pn CaseTooLong l = inr (is_long l refl)
+  just-decides cb cn pb pn CaseUnread rose = inl (inl refl)
+  just-decides cb cn pb pn ProofUnread rose = inl (inl refl)
   just-decides cb cn pb pn OutOfMemory u = inl (inr refl)
   just-decides cb cn pb pn NoSuchForm u = absurd u
+
+  size-cause : (fault : TermFault) → HasCase (Some text) (λ schema written. size_fault schema written ≡ Some fault) → CaseDecides (IsSomeAnd proof) text (TermRefused fault)
+  size-cause fault h =
+      is_spelled (record { schema = h.schema; written = h.written; spelled = h.spelled; comparable = h.comparable; decides = inl (fault, h.holds, refl) })
 
   cause-decides : (verdict : Verdict) → IsCause verdict (Some text) proof → CaseDecides (IsSomeAnd proof) text verdict
   cause-decides Proved b = both-decide text proof Proved Accepted (λ t p. shown-decides t p shown.Proved) b
@@ -159,22 +256,42 @@ module _ (text : List ℕ) (proof : Option (List ℕ)) where
   cause-decides EndDiffers b = both-decide text proof EndDiffers EndDiffersIn (λ t p. shown-decides t p shown.EndDiffers) b
   cause-decides ProofRefused b = both-decide text proof ProofRefused IsNoProofText refused-decides b
   cause-decides ProofTooLong b = long-decides text proof b
-  cause-decides CaseRefused none = inr (inl (none, refl))
-  cause-decides CaseTooLong long = inl (long, refl)
-  cause-decides CaseFault u = absurd u
-  cause-decides ProofFault u = absurd u
+  cause-decides (CaseRefused fault) b = is_refused (record { fault = fault; refused = b.refused; memory = b.memory; is = refl })
+  cause-decides (TermRefused fault) b = size-cause fault b
+  cause-decides CaseTooLong l = is_long l refl
+  cause-decides CaseUnread u = absurd u
+  cause-decides ProofUnread u = absurd u
   cause-decides OutOfMemory u = absurd u
   cause-decides NoSuchForm u = absurd u
 
+  cause-alone : (verdict : Verdict) → IsCause verdict (Some text) proof → IsAlone text verdict
+  cause-alone (CaseRefused fault) b other e = let same : fault ≡ other = cc in subst (λ (f : CaseFault). IsRefusedAlone f text) same b
+  cause-alone Proved b other e = absurd cc
+  cause-alone (StepFails line) b other e = absurd cc
+  cause-alone EndDiffers b other e = absurd cc
+  cause-alone (TermRefused fault) b other e = absurd cc
+  cause-alone ProofRefused b other e = absurd cc
+  cause-alone NoSuchForm b other e = absurd cc
+  cause-alone CaseUnread b other e = absurd cc
+  cause-alone ProofUnread b other e = absurd cc
+  cause-alone CaseTooLong b other e = absurd cc
+  cause-alone ProofTooLong b other e = absurd cc
+  cause-alone OutOfMemory b other e = absurd cc
+
 -- A verdict that is just is a fault or want of memory, or it is the one whose cause stands in the texts.
-pub one_verdict : (case proof : Option (List ℕ)) (cb cn pb pn : ℕ) (v w : Verdict) → IsJust case proof cb cn pb pn v → IsCause w case proof → IsFault v ⊎ (v ≡ w)
-one_verdict (Some text) proof cb cn pb pn v w just cause = by (just-decides text proof cb cn pb pn v just)
+pub one_verdict : (t : BothTold) (v w : Verdict) → IsJust t v → IsCause w t.case.text t.proof.text → IsFault v ⊎ (v ≡ w)
+one_verdict t v w just cause = of t.case.text just cause
   where
-    by : IsFault v ⊎ CaseDecides (IfSome proof) text v → IsFault v ⊎ (v ≡ w)
-    by (inl fault) = inl fault
-    by (inr found) = inr (case-one text proof v w found (cause-decides text proof w cause))
-one_verdict None proof cb cn pb pn v w just cause = absurd (untold w cause)
-  where
-    untold : (verdict : Verdict) → IsCause verdict None proof → ⊥
-    untold ProofTooLong b = b.0
-    untold verdict b = b
+    of : (case : Option (List ℕ))
+        → IsJust (record { case = record { text = case; before = t.case.before; now = t.case.now }; proof = t.proof }) v
+        → IsCause w case t.proof.text → IsFault v ⊎ (v ≡ w)
+    of (Some text) just cause = by (just-decides text t.proof.text t.case.before t.case.now t.proof.before t.proof.now v just)
+      where
+        by : IsFault v ⊎ CaseDecides (IfSome t.proof.text) text v → IsFault v ⊎ (v ≡ w)
+        by (inl fault) = inl fault
+        by (inr found) = inr (case-one text t.proof.text v w found (cause-decides text t.proof.text w cause) (cause-alone text t.proof.text w cause))
+    of None just cause = absurd (untold w cause)
+      where
+        untold : (verdict : Verdict) → IsCause verdict None t.proof.text → ⊥
+        untold ProofTooLong b = b.0
+        untold verdict b = b

@@ -1,26 +1,29 @@
 -- From what the parts of a run found to what its verdict says.
-use Rattle.std.proofs.Common.{◌≡◌, ℕ, ◌≤◌, List, [], ◌∷◌, Option, Some, None, length, refl, sym, ◌∙◌, subst, arith, inl, inr, codes, String}
-use Rattle.std.specs.declared.alloc.Global.{Global}
-use Rattle.udp_io.specs.Writing.{Grows}
+use Rattle.std.proofs.Common.{◌≡◌, ℕ, ◌≤◌, List, [], Option, Some, None, length, sym, ap, ◌∙◌, subst, arith}
 use Rattle.std.specs.Prelude.{IfSome}
-use Rattle.first_form.specs.declared.first.FirstCase.{FirstCase}
-use Rattle.first_form.specs.FirstForm.{IsFirstCase}
-use Rattle.sql_model.specs.declared.schema.Schema.{Schema}
-use Rattle.sql_model.specs.declared.tree.Query.{Query}
-use Rattle.sql_model.specs.Equivalent.{Equivalent}
-use Rattle.u_terms.specs.declared.term.U.{U}
+use Rattle.std.specs.Option.{option_or}
 use Rattle.udp_io.specs.Faults.{Rose}
-use Rattle.udp_prog.specs.Limits.{most_case_bytes, most_proof_bytes}
+use Rattle.sql_model.specs.declared.schema.Schema.{Schema}
+use Rattle.scope_core.specs.Width.{width}
+use Rattle.scope_core.proofs.SoundTrees.{tree-width}
+use Rattle.u_terms.specs.declared.term.U.{U}
+use Rattle.sql_to_u.specs.declared.fault.TermFault.{TermFault}
+use Rattle.sql_to_u.specs.Answer.{translation}
+use Rattle.sql_to_u.specs.Limits.{IsCause as IsSizeCause, too_big}
+use Rattle.sql_to_u.proofs.Wholes.{none-within}
+use Rattle.case_core.specs.declared.text.CaseText.{CaseText}
+use Rattle.case_core.specs.Answer.{width_of}
+use Rattle.case_core.specs.Parts.{Parts}
+use Rattle.case_core.specs.Terms.{AreTerms, terms_fault}
+use Rattle.udp_prog.specs.Limits.{most_proof_bytes}
 use Rattle.udp_prog.specs.declared.answer.Verdict.{Verdict}
-use Rattle.udp_prog.specs.declared.answer.Verdict.TheVariants.{Proved, StepFails, EndDiffers, CaseRefused, ProofRefused, NoSuchForm, CaseFault, ProofFault, CaseTooLong, ProofTooLong, OutOfMemory}
-use Rattle.udp_prog.specs.Translation.{query_term}
-use Rattle.udp_prog.specs.declared.answer.Status.{Status}
-use Rattle.udp_prog.specs.declared.answer.Status.TheVariants as status
+use Rattle.udp_prog.specs.declared.answer.Verdict.TheVariants.{Proved, StepFails, EndDiffers, CaseRefused, TermRefused, ProofRefused, NoSuchForm, CaseUnread, ProofUnread, CaseTooLong, ProofTooLong, OutOfMemory}
+use Rattle.udp_prog.specs.Cases.{HasCase, Spells, size_fault, term_of}
 use Rattle.udp_prog.specs.Checking.{Accepted, StepFailsIn, EndDiffersIn, IsNoProofText}
-use Rattle.udp_prog.specs.Answer.{SpellsCase, SpellsBoth, OfAny, IsJust, IsCheck, IsFound, IsSaid, IsProved, status_of, text_of, line}
-use Rattle.udp_prog.specs.Runs.{IsCaseRead, IsCaseCause, IsProofCause, ShowsOf}
+use Rattle.udp_prog.specs.Answer.{AreEquivalent, BothTold, HasBoth, HasTerms, IsJust, IsProofOf, OfAny}
+use Rattle.udp_prog.specs.Runs.{IsCaseCause, IsCaseRead, IsProofCause, IsProofVerdict, ShowsOf, not_read, was_read}
 use Rattle.udp_prog.proofs.StepsMean.{replays-mean}
-use Rattle.udp_prog.proofs.FirstTerms.{equivalent}
+use Rattle.udp_prog.proofs.Equivalence.{equivalent}
 
 -- what holds of the bytes that were read holds of the text, where it is told
 pub told : (text : Option (List ℕ)) (bytes : List ℕ) (P : List ℕ → Type 0) → IfSome text (λ t. bytes ≡ t) → P bytes → IfSome text P
@@ -35,104 +38,107 @@ first_told (Some t) bytes Q h = h.0
 Rose-earlier : (earlier before now : ℕ) → earlier ≤ before → Rose before now → Rose earlier now
 Rose-earlier earlier before now h r = omega arith
 
-pub IsProofCause-earlier : (proof : Option (List ℕ)) (earlier before now : ℕ) (verdict : Verdict) → earlier ≤ before → IsProofCause proof before now verdict → IsProofCause proof earlier now verdict
-IsProofCause-earlier proof earlier before now ProofFault h r = Rose-earlier earlier before now h r
-IsProofCause-earlier proof earlier before now ProofTooLong h l = l
-IsProofCause-earlier proof earlier before now OutOfMemory h u = tt
-IsProofCause-earlier proof earlier before now Proved h u = absurd u
-IsProofCause-earlier proof earlier before now (StepFails line) h u = absurd u
-IsProofCause-earlier proof earlier before now EndDiffers h u = absurd u
-IsProofCause-earlier proof earlier before now CaseRefused h u = absurd u
-IsProofCause-earlier proof earlier before now ProofRefused h u = absurd u
-IsProofCause-earlier proof earlier before now NoSuchForm h u = absurd u
-IsProofCause-earlier proof earlier before now CaseFault h u = absurd u
-IsProofCause-earlier proof earlier before now CaseTooLong h u = absurd u
+pub case_cause-just : (t : BothTold) (verdict : Verdict) → IsCaseCause t.case verdict → IsJust t verdict
+case_cause-just t CaseUnread r = r
+case_cause-just t CaseTooLong l = l
+case_cause-just t (CaseRefused fault) u = u
+case_cause-just t OutOfMemory u = tt
+case_cause-just t Proved u = absurd u
+case_cause-just t (StepFails line) u = absurd u
+case_cause-just t EndDiffers u = absurd u
+case_cause-just t (TermRefused fault) u = absurd u
+case_cause-just t ProofRefused u = absurd u
+case_cause-just t NoSuchForm u = absurd u
+case_cause-just t ProofUnread u = absurd u
+case_cause-just t ProofTooLong u = absurd u
 
-module _ (case proof : Option (List ℕ)) (c : FirstCase) (read : IsCaseRead case c) where
-  spells : (P : Schema → Query → Query → ℕ → Type 0) → P c.schema c.left c.right c.width → SpellsCase case P
-  spells P p =
-      (c.schema, c.left, c.right, c.width, told case read.text (λ t. (length t ≤ most_case_bytes) × IsFirstCase t c.schema c.left c.right c.width) read.told (read.within, read.spelled), p)
+-- ---- a case was read
+module _ (t : BothTold) (parts : Parts) (read : IsCaseRead t.case.text parts) where
+  abbrev written : CaseText
+  written = read.is_case.written
 
-  module _ (bytes : List ℕ) (proof_told : IfSome proof (λ t. bytes ≡ t)) (within : length bytes ≤ most_proof_bytes) where
-    spells_both : (Of : Schema → Query → Query → Type 0) (P : ℕ → U → U → List ℕ → Type 0) → Of c.schema c.left c.right
-        → P c.width (query_term c.schema c.left) (query_term c.schema c.right) bytes → SpellsBoth case proof Of P
-    spells_both Of P o p =
-        spells _ (o, told proof bytes (λ t. (length t ≤ most_proof_bytes) × P c.width (query_term c.schema c.left) (query_term c.schema c.right) t) proof_told (within, p))
+  has_case : (P : Schema → CaseText → Type 0) → P parts.schema written → HasCase t.case.text P
+  has_case P p = record {
+    schema = parts.schema;
+    written = written;
+    spelled = told t.case.text read.text (λ text. Spells text parts.schema written) read.told
+        (record { within = read.within; numbers = _; has_schema = read.is_case.has_schema });
+    comparable = record { well_formed = read.is_case.well_formed; one_width = read.is_case.one_width };
+    holds = p;
+  }
 
-    pub shown-just : (cb cn pb pn : ℕ) (verdict : Verdict) → ShowsOf c bytes verdict → IsJust case proof cb cn pb pn verdict
-    shown-just cb cn pb pn Proved a =
-        spells_both Equivalent Accepted (equivalent read.text c.schema c.left c.right c.width read.spelled (λ n reading db r. replays-mean n reading db r [] _ a.steps _ a.replays)) a
-    shown-just cb cn pb pn (StepFails line) f = spells_both OfAny (StepFailsIn line) tt f
-    shown-just cb cn pb pn EndDiffers e = spells_both OfAny EndDiffersIn tt e
-    shown-just cb cn pb pn ProofRefused none = spells_both OfAny IsNoProofText tt none
-    shown-just cb cn pb pn OutOfMemory u = tt
-    shown-just cb cn pb pn CaseRefused u = absurd u
-    shown-just cb cn pb pn NoSuchForm u = absurd u
-    shown-just cb cn pb pn CaseFault u = absurd u
-    shown-just cb cn pb pn ProofFault u = absurd u
-    shown-just cb cn pb pn CaseTooLong u = absurd u
-    shown-just cb cn pb pn ProofTooLong u = absurd u
+  left_is : translation parts.views parts.left ≡ term_of parts.schema written.left
+  left_is = λ i. translation (read.is_case.views i) (read.is_case.left i)
 
-  pub proof_cause-just : (cb cn pb pn : ℕ) (verdict : Verdict) → IsProofCause proof pb pn verdict → IsJust case proof cb cn pb pn verdict
-  proof_cause-just cb cn pb pn ProofFault r = (r, spells _ tt)
-  proof_cause-just cb cn pb pn ProofTooLong l = (l, spells _ tt)
-  proof_cause-just cb cn pb pn OutOfMemory u = tt
-  proof_cause-just cb cn pb pn Proved u = absurd u
-  proof_cause-just cb cn pb pn (StepFails line) u = absurd u
-  proof_cause-just cb cn pb pn EndDiffers u = absurd u
-  proof_cause-just cb cn pb pn CaseRefused u = absurd u
-  proof_cause-just cb cn pb pn ProofRefused u = absurd u
-  proof_cause-just cb cn pb pn NoSuchForm u = absurd u
-  proof_cause-just cb cn pb pn CaseFault u = absurd u
-  proof_cause-just cb cn pb pn CaseTooLong u = absurd u
+  right_is : translation parts.views parts.right ≡ term_of parts.schema written.right
+  right_is = λ i. translation (read.is_case.views i) (read.is_case.right i)
 
-pub case_cause-just : (case proof : Option (List ℕ)) (cb cn pb pn : ℕ) (verdict : Verdict) → IsCaseCause case cb cn verdict → IsJust case proof cb cn pb pn verdict
-case_cause-just case proof cb cn pb pn CaseFault r = r
-case_cause-just case proof cb cn pb pn CaseTooLong l = l
-case_cause-just case proof cb cn pb pn CaseRefused none = none
-case_cause-just case proof cb cn pb pn OutOfMemory u = tt
-case_cause-just case proof cb cn pb pn Proved u = absurd u
-case_cause-just case proof cb cn pb pn (StepFails line) u = absurd u
-case_cause-just case proof cb cn pb pn EndDiffers u = absurd u
-case_cause-just case proof cb cn pb pn ProofRefused u = absurd u
-case_cause-just case proof cb cn pb pn NoSuchForm u = absurd u
-case_cause-just case proof cb cn pb pn ProofFault u = absurd u
-case_cause-just case proof cb cn pb pn ProofTooLong u = absurd u
+  fault_is : terms_fault parts ≡ size_fault parts.schema written
+  fault_is = λ i. option_or (too_big (left_is i)) (too_big (right_is i))
 
--- ---- the top call
--- only one verdict is done
-only_proved : (verdict : Verdict) → status_of verdict ≡ status.Done → verdict ≡ Proved
-only_proved Proved e = refl
-only_proved (StepFails line) e = absurd cc
-only_proved EndDiffers e = absurd cc
-only_proved CaseRefused e = absurd cc
-only_proved ProofRefused e = absurd cc
-only_proved NoSuchForm e = absurd cc
-only_proved CaseFault e = absurd cc
-only_proved ProofFault e = absurd cc
-only_proved CaseTooLong e = absurd cc
-only_proved ProofTooLong e = absurd cc
-only_proved OutOfMemory e = absurd cc
+  pub size_cause-just : (fault : TermFault) → IsSizeCause fault (terms_fault parts) → IsJust t (TermRefused fault)
+  size_cause-just fault c = has_case (λ schema w. IsSizeCause fault (size_fault schema w)) (subst (IsSizeCause fault) fault_is c)
 
-said-done : (verdict : Verdict) (old new : Option (List ℕ)) (before now : ℕ) (answer : Status) → answer ≡ status.Done → IsSaid verdict old new before now answer
-    → (verdict ≡ Proved) × Grows old new (text_of verdict)
-said-done verdict old new before now answer done (inl (e, g)) = (only_proved verdict (sym e ∙ done), g)
-said-done verdict old new before now answer done (inr (inl (e, rose, grows))) = absurd (let f : status.WriteFault ≡ status.Done = sym e ∙ done in cc)
-said-done verdict old new before now answer done (inr (inr (e, rest))) = absurd (let f : status.NoMemory ≡ status.Done = sym e ∙ done in cc)
+  -- ---- its terms are within the limits
+  module _ (left right : U) (are : AreTerms parts (left, right)) where
+    no_fault : size_fault parts.schema written ≡ None
+    no_fault =
+        sym fault_is ∙ (ap (λ z. option_or z (too_big (translation parts.views parts.right))) (sym (ap too_big are.left.value) ∙ none-within left are.left.within)
+        ∙ (sym (ap too_big are.right.value) ∙ none-within right are.right.within))
 
-module _ (words : List (String Global)) (text : List ℕ → Option (List ℕ)) (before now : List ℕ → ℕ) where
-  found-proved : IsFound words text before now Proved → (case proof : List ℕ) → IsCheck words case proof → IsProved (text case) (text proof)
-  found-proved (inl (case', proof', is', just)) case proof is =
-      let e : codes "check" ∷ case' ∷ proof' ∷ [] ≡ codes "check" ∷ case ∷ proof ∷ [] = sym is' ∙ is in
-      let c : case' ≡ case = cc in
-      let p : proof' ≡ proof = cc in
-      subst (λ (n : List ℕ). IsProved (text case) (text n)) p (subst (λ (n : List ℕ). IsProved (text n) (text proof')) c just)
-  found-proved (inr (e, nothing)) case proof is = absurd (nothing case proof is)
+    has_terms : (P : Schema → CaseText → Type 0) → P parts.schema written → HasTerms t.case.text P
+    has_terms P p = has_case (λ schema w. (size_fault schema w ≡ None) × P schema w) (no_fault, p)
 
-  pub run-done : (verdict : Verdict) (old new : Option (List ℕ)) (b n : ℕ) (answer : Status) → IsFound words text before now verdict → IsSaid verdict old new b n answer
-      → answer ≡ status.Done → (case proof : List ℕ) → IsCheck words case proof → IsProved (text case) (text proof) × Grows old new (line (codes "proved"))
-  run-done verdict old new b n answer found said done case proof is =
-      let s : (verdict ≡ Proved) × Grows old new (text_of verdict) = said-done verdict old new b n answer done said in (
-        found-proved (subst (IsFound words text before now) s.0 found) case proof is,
-        subst (λ (v : Verdict). Grows old new (text_of v)) s.0 s.1,
-      )
+    module _ (outs : ℕ) (wide : outs ≡ width parts.left) where
+      outs_is : outs ≡ width_of parts.schema written.left
+      outs_is = wide ∙ (ap width read.is_case.left ∙ tree-width parts.schema written.left)
+
+      -- the same of the queries
+      of_queries : (P : ℕ → U → U → List ℕ → Type 0) (text : List ℕ) → P outs left right text
+          → P (width_of parts.schema written.left) (term_of parts.schema written.left) (term_of parts.schema written.right) text
+      of_queries P text = subst (λ (s : ℕ × U × U). P s.0 s.1 s.2 text) (λ i. (outs_is i, (are.left.value ∙ left_is) i, (are.right.value ∙ right_is) i))
+
+      module _ (text : List ℕ) (proof_told : IfSome t.proof.text (λ p. text ≡ p)) (within : length text ≤ most_proof_bytes) where
+        has_both : (Of : Schema → CaseText → Type 0) (P : ℕ → U → U → List ℕ → Type 0) → Of parts.schema written → P outs left right text → HasBoth t.case.text t.proof.text Of P
+        has_both Of P o p =
+            has_terms (λ schema w. Of schema w × IfSome t.proof.text (IsProofOf P schema w))
+            (o, told t.proof.text text (IsProofOf P parts.schema written) proof_told (within, of_queries P text p))
+
+        accepted-equivalent : Accepted outs left right text → AreEquivalent parts.schema written
+        accepted-equivalent a =
+            let b : Accepted (width_of parts.schema written.left) (term_of parts.schema written.left) (term_of parts.schema written.right) text = of_queries Accepted text a in
+            equivalent parts.schema written (record { well_formed = read.is_case.well_formed; one_width = read.is_case.one_width })
+            (λ n reading db r. replays-mean n reading db r [] _ b.steps _ b.replays)
+
+        shown-just : (verdict : Verdict) → ShowsOf outs left right text verdict → IsJust t verdict
+        shown-just Proved a = has_both AreEquivalent Accepted (accepted-equivalent a) a
+        shown-just (StepFails line) f = has_both OfAny (StepFailsIn line) tt f
+        shown-just EndDiffers e = has_both OfAny EndDiffersIn tt e
+        shown-just ProofRefused none = has_both OfAny IsNoProofText tt none
+        shown-just OutOfMemory u = tt
+        shown-just (CaseRefused fault) u = absurd u
+        shown-just (TermRefused fault) u = absurd u
+        shown-just NoSuchForm u = absurd u
+        shown-just CaseUnread u = absurd u
+        shown-just ProofUnread u = absurd u
+        shown-just CaseTooLong u = absurd u
+        shown-just ProofTooLong u = absurd u
+
+      proof_cause-just : (before : ℕ) → t.proof.before ≤ before → (verdict : Verdict) → IsProofCause (record { text = t.proof.text; before = before; now = t.proof.now }) verdict → IsJust t verdict
+      proof_cause-just before h ProofUnread r = (Rose-earlier t.proof.before before t.proof.now h r, has_terms OfAny tt)
+      proof_cause-just before h ProofTooLong l = (l, has_terms OfAny tt)
+      proof_cause-just before h OutOfMemory u = tt
+      proof_cause-just before h Proved u = absurd u
+      proof_cause-just before h (StepFails line) u = absurd u
+      proof_cause-just before h EndDiffers u = absurd u
+      proof_cause-just before h (CaseRefused fault) u = absurd u
+      proof_cause-just before h (TermRefused fault) u = absurd u
+      proof_cause-just before h ProofRefused u = absurd u
+      proof_cause-just before h NoSuchForm u = absurd u
+      proof_cause-just before h CaseUnread u = absurd u
+      proof_cause-just before h CaseTooLong u = absurd u
+
+      pub proof-just : (before : ℕ) → t.proof.before ≤ before → (verdict : Verdict)
+          → IsProofVerdict outs left right (record { text = t.proof.text; before = before; now = t.proof.now }) verdict → IsJust t verdict
+      proof-just before h verdict (not_read cause) = proof_cause-just before h verdict cause
+      proof-just before h verdict (was_read r) = shown-just r.text r.told r.within verdict r.shows

@@ -1,21 +1,26 @@
 -- What the program answers, and when.
-use Rattle.std.specs.Prelude.{◌≡◌, ℕ, ◌<◌, ◌≤◌, ◌⊎◌, List, [], ◌∷◌, ◌++◌, length, map, codes, string_bytes, String, Option, Some, IfSome, IsSomeAnd}
+use Rattle.std.specs.Prelude.{◌≡◌, ◌≢◌, ℕ, ◌<◌, ◌≤◌, ◌⊎◌, List, [], ◌∷◌, ◌++◌, length, map, codes, string_bytes, String, Option, Some, None, IfSome, IsSomeAnd}
 use Rattle.std.specs.Fmt.{decimal}
 use Rattle.std.specs.declared.alloc.Global.{Global}
 use Rattle.sql_model.specs.declared.schema.Schema.{Schema}
-use Rattle.sql_model.specs.declared.tree.Query.{Query}
 use Rattle.sql_model.specs.Equivalent.{Equivalent}
-use Rattle.first_form.specs.FirstForm.{IsFirstCase}
+use Rattle.scope_core.specs.WellFormed.{SchemaWellFormed, WellFormed}
 use Rattle.u_terms.specs.declared.term.U.{U}
+use Rattle.sql_to_u.specs.Limits.{IsCause as IsSizeCause}
+use Rattle.case_core.specs.declared.fault.CaseFault.{CaseFault}
+use Rattle.case_core.specs.declared.fault.CaseFault.TheVariants as case_refusal
+use Rattle.case_core.specs.declared.text.CaseText.{CaseText}
+use Rattle.case_core.specs.Answer.{IsRefused, width_of}
 use Rattle.udp_io.specs.Faults.{Rose}
 use Rattle.udp_io.specs.Writing.{Grows, GrowsByPrefix}
 use Rattle.udp_prog.specs.Limits.{most_case_bytes, most_proof_bytes}
 use Rattle.udp_prog.specs.declared.answer.Status.{Status}
 use Rattle.udp_prog.specs.declared.answer.Status.TheVariants as status
 use Rattle.udp_prog.specs.declared.answer.Verdict.{Verdict}
-use Rattle.udp_prog.specs.declared.answer.Verdict.TheVariants.{Proved, StepFails, EndDiffers, CaseRefused, ProofRefused, NoSuchForm, CaseFault, ProofFault, CaseTooLong, ProofTooLong, OutOfMemory}
-use Rattle.udp_prog.specs.Translation.{query_term}
+use Rattle.udp_prog.specs.declared.answer.Verdict.TheVariants.{Proved, StepFails, EndDiffers, CaseRefused, TermRefused, ProofRefused, NoSuchForm, CaseUnread, ProofUnread, CaseTooLong, ProofTooLong, OutOfMemory}
+use Rattle.udp_prog.specs.Cases.{HasCase, Spells, size_fault, term_of}
 use Rattle.udp_prog.specs.Checking.{Accepted, StepFailsIn, EndDiffersIn, IsNoProofText}
+use Rattle.udp_prog.specs.Output.{case_status, case_text, line, size_status, size_text}
 
 -- ---- the words
 -- the words are `check`, the name of a case and the name of a proof
@@ -31,18 +36,16 @@ abbrev pub AsksCheck : List (String Global) → (List ℕ → List ℕ → Type 
 AsksCheck words P = (case : List ℕ) × (proof : List ℕ) × IsCheck words case proof × P case proof
 
 -- ---- the lines, and the statuses
-abbrev pub line : List ℕ → List ℕ
-line text = text ++ 10 ∷ []
-
 abbrev pub text_of : Verdict → List ℕ
 text_of Proved = line (codes "proved")
 text_of (StepFails number) = codes "step fails at line " ++ (decimal number ++ 10 ∷ [])
 text_of EndDiffers = line (codes "end differs")
-text_of CaseRefused = line (codes "case refused: E10 at 0")
+text_of (CaseRefused fault) = case_text fault
+text_of (TermRefused fault) = size_text fault
 text_of ProofRefused = line (codes "proof refused: P1")
 text_of NoSuchForm = line (codes "usage: no such form of words")
-text_of CaseFault = line (codes "read fault: case")
-text_of ProofFault = line (codes "read fault: proof")
+text_of CaseUnread = line (codes "read fault: case")
+text_of ProofUnread = line (codes "read fault: proof")
 text_of CaseTooLong = line (codes "limit case 1048576")
 text_of ProofTooLong = line (codes "limit proof 1073741824")
 text_of OutOfMemory = []
@@ -51,65 +54,104 @@ abbrev pub status_of : Verdict → Status
 status_of Proved = status.Done
 status_of (StepFails number) = status.NotProved
 status_of EndDiffers = status.NotProved
-status_of CaseRefused = status.CaseRefused
+status_of (CaseRefused fault) = case_status fault
+status_of (TermRefused fault) = size_status fault
 status_of ProofRefused = status.ProofRefused
 status_of NoSuchForm = status.Usage
-status_of CaseFault = status.ReadFault
-status_of ProofFault = status.ReadFault
+status_of CaseUnread = status.ReadFault
+status_of ProofUnread = status.ReadFault
 status_of CaseTooLong = status.Limit
 status_of ProofTooLong = status.Limit
 status_of OutOfMemory = status.NoMemory
 
+-- the exit status of the program
+abbrev pub code_of : Status → ℕ
+code_of status.Done = 0
+code_of status.NotProved = 1
+code_of status.CaseRefused = 2
+code_of status.ProofRefused = 3
+code_of status.Usage = 4
+code_of status.ReadFault = 5
+code_of status.WriteFault = 6
+code_of status.Limit = 7
+code_of status.NoMemory = 8
+
+-- ---- what is told
+-- Of a text: its bytes, where the store tells them, and how many faults had come under its name before, and have come now.
+pub record Told : Type 0 where
+  pub text : Option (List ℕ)
+  pub before : ℕ
+  pub now : ℕ
+
+abbrev pub HasFailed : Told → Type 0
+HasFailed told = Rose told.before told.now
+
+pub record BothTold : Type 0 where
+  pub case : Told
+  pub proof : Told
+
+-- of the texts under two names, by the texts and counts of a store
+abbrev pub both_told : (List ℕ → Option (List ℕ)) → (List ℕ → ℕ) → (List ℕ → ℕ) → List ℕ → List ℕ → BothTold
+both_told text before now case proof = record {
+  case = record { text = text case; before = before case; now = now case };
+  proof = record { text = text proof; before = before proof; now = now proof };
+}
+
 -- ---- the causes
--- The text, where it is told, is within its length and spells a case of the form, and this holds of that case.
-abbrev pub SpellsCase : Option (List ℕ) → (Schema → Query → Query → ℕ → Type 0) → Type 0
-SpellsCase case P =
-    (schema : Schema) × (left : Query) × (right : Query) × (width : ℕ)
-    × IfSome case (λ c. (length c ≤ most_case_bytes) × IsFirstCase c schema left right width) × P schema left right width
+-- the text, where it is told, spells a case whose terms are within the limits, and this holds of it
+abbrev pub HasTerms : Option (List ℕ) → (Schema → CaseText → Type 0) → Type 0
+HasTerms case P = HasCase case (λ schema written. (size_fault schema written ≡ None) × P schema written)
 
--- The same, and the text of the proof, where it is told, is within its length, and this holds of it and of the terms of the queries.
-abbrev pub SpellsBoth : Option (List ℕ) → Option (List ℕ) → (Schema → Query → Query → Type 0) → (ℕ → U → U → List ℕ → Type 0) → Type 0
-SpellsBoth case proof Of P =
-    SpellsCase case (λ schema left right width. Of schema left right
-    × IfSome proof (λ p. (length p ≤ most_proof_bytes) × P width (query_term schema left) (query_term schema right) p))
+abbrev pub OfAny : Schema → CaseText → Type 0
+OfAny schema written = Unit {0}
 
-abbrev pub OfAny : Schema → Query → Query → Type 0
-OfAny schema left right = Unit {0}
+abbrev pub AreEquivalent : Schema → CaseText → Type 0
+AreEquivalent schema written = Equivalent schema written.left written.right
 
--- the text, where it is told, is within its length and spells some case of the form
-abbrev pub SpellsSomeCase : Option (List ℕ) → Type 0
-SpellsSomeCase case = SpellsCase case (λ schema left right width. Unit {0})
+-- The text of the proof is within its length, and this holds of it, of the queries' width and of their terms.
+abbrev pub IsProofOf : (ℕ → U → U → List ℕ → Type 0) → Schema → CaseText → List ℕ → Type 0
+IsProofOf P schema written text =
+    (length text ≤ most_proof_bytes) × P (width_of schema written.left) (term_of schema written.left) (term_of schema written.right) text
 
--- the text is within its length and spells no case of the form
-abbrev pub SpellsNoCase : List ℕ → Type 0
-SpellsNoCase text =
-    (length text ≤ most_case_bytes) × ((schema : Schema) (left right : Query) (width : ℕ) → IsFirstCase text schema left right width → ⊥)
+-- Both texts, where they are told, are a case and a proof of which this holds.
+abbrev pub HasBoth : Option (List ℕ) → Option (List ℕ) → (Schema → CaseText → Type 0) → (ℕ → U → U → List ℕ → Type 0) → Type 0
+HasBoth case proof Of P = HasTerms case (λ schema written. Of schema written × IfSome proof (IsProofOf P schema written))
 
--- What a verdict of a check says of the two texts, where the store tells them, and of the counts of faults at their names before and
--- after. The first cause in this order decides: the case can't be read, is too long, is not of the form; the same of the proof; the first
--- step without a result; the end.
-abbrev pub IsJust : Option (List ℕ) → Option (List ℕ) → ℕ → ℕ → ℕ → ℕ → Verdict → Type 0
-IsJust case proof case_before case_now proof_before proof_now Proved = SpellsBoth case proof Equivalent Accepted
-IsJust case proof case_before case_now proof_before proof_now (StepFails number) =
-    SpellsBoth case proof OfAny (StepFailsIn number)
-IsJust case proof case_before case_now proof_before proof_now EndDiffers =
-    SpellsBoth case proof OfAny EndDiffersIn
-IsJust case proof case_before case_now proof_before proof_now CaseRefused =
-    IfSome case SpellsNoCase
-IsJust case proof case_before case_now proof_before proof_now ProofRefused =
-    SpellsBoth case proof OfAny IsNoProofText
-IsJust case proof case_before case_now proof_before proof_now NoSuchForm = ⊥
-IsJust case proof case_before case_now proof_before proof_now CaseFault = Rose case_before case_now
-IsJust case proof case_before case_now proof_before proof_now ProofFault =
-    Rose proof_before proof_now × SpellsSomeCase case
-IsJust case proof case_before case_now proof_before proof_now CaseTooLong = IfSome case (λ c. most_case_bytes < length c)
-IsJust case proof case_before case_now proof_before proof_now ProofTooLong =
-    IfSome proof (λ p. most_proof_bytes < length p) × SpellsSomeCase case
-IsJust case proof case_before case_now proof_before proof_now OutOfMemory = Unit {0}
+-- the text is within its length, and refused for this fault
+abbrev pub IsRefusedFor : CaseFault → List ℕ → Type 0
+IsRefusedFor fault text = (length text ≤ most_case_bytes) × IsRefused text fault
 
--- Both texts are told, within their lengths, the one spells a case, and this holds of its width, of the terms of its queries and of the proof.
+abbrev pub IsLongCase : List ℕ → Type 0
+IsLongCase text = most_case_bytes < length text
+
+abbrev pub IsLongProof : List ℕ → Type 0
+IsLongProof text = most_proof_bytes < length text
+
+-- What a verdict of a check says of the two texts. The first cause in this order decides: the case can't be read, is too long, is refused, has
+-- too big a term; the proof can't be read, is too long, is no proof text; the first step without a result; the end.
+abbrev pub IsJust : BothTold → Verdict → Type 0
+IsJust told Proved = HasBoth told.case.text told.proof.text AreEquivalent Accepted
+IsJust told (StepFails number) = HasBoth told.case.text told.proof.text OfAny (StepFailsIn number)
+IsJust told EndDiffers = HasBoth told.case.text told.proof.text OfAny EndDiffersIn
+IsJust told (CaseRefused fault) = IfSome told.case.text (IsRefusedFor fault)
+IsJust told (TermRefused fault) = HasCase told.case.text (λ schema written. IsSizeCause fault (size_fault schema written))
+IsJust told ProofRefused = HasBoth told.case.text told.proof.text OfAny IsNoProofText
+IsJust told NoSuchForm = ⊥
+IsJust told CaseUnread = HasFailed told.case
+IsJust told ProofUnread = HasFailed told.proof × HasTerms told.case.text OfAny
+IsJust told CaseTooLong = IfSome told.case.text IsLongCase
+IsJust told ProofTooLong = IfSome told.proof.text IsLongProof × HasTerms told.case.text OfAny
+IsJust told OutOfMemory = Unit {0}
+
+-- the text is refused for this fault and, want of memory left aside, for no other
+pub record IsRefusedAlone (fault : CaseFault) (text : List ℕ) : Type 0 where
+  pub refused : IsRefusedFor fault text
+  pub memory : fault ≢ case_refusal.NoMemory
+  pub alone : (other : CaseFault) → IsRefused text other → (other ≡ case_refusal.NoMemory) ⊎ (other ≡ fault)
+
+-- both texts are told, and are a case and a proof of which this holds
 abbrev pub TellsBoth : Option (List ℕ) → Option (List ℕ) → (ℕ → U → U → List ℕ → Type 0) → Type 0
-TellsBoth case proof P = IsSomeAnd case (λ c. IsSomeAnd proof (λ p. SpellsBoth (Some c) (Some p) OfAny P))
+TellsBoth case proof P = IsSomeAnd case (λ c. IsSomeAnd proof (λ p. HasBoth (Some c) (Some p) OfAny P))
 
 -- The texts that a verdict speaks of are told, and they give cause for it. The causes exclude each other. A fault and want of memory have no cause
 -- in the texts, nor have words that are no form.
@@ -117,22 +159,45 @@ abbrev pub IsCause : Verdict → Option (List ℕ) → Option (List ℕ) → Typ
 IsCause Proved case proof = TellsBoth case proof Accepted
 IsCause (StepFails number) case proof = TellsBoth case proof (StepFailsIn number)
 IsCause EndDiffers case proof = TellsBoth case proof EndDiffersIn
-IsCause CaseRefused case proof = IsSomeAnd case SpellsNoCase
+IsCause (CaseRefused fault) case proof = IsSomeAnd case (IsRefusedAlone fault)
+IsCause (TermRefused fault) case proof = IsSomeAnd case (λ c. HasCase (Some c) (λ schema written. size_fault schema written ≡ Some fault))
 IsCause ProofRefused case proof = TellsBoth case proof IsNoProofText
-IsCause CaseTooLong case proof = IsSomeAnd case (λ c. most_case_bytes < length c)
-IsCause ProofTooLong case proof = IsSomeAnd case (λ c. SpellsSomeCase (Some c)) × IsSomeAnd proof (λ p. most_proof_bytes < length p)
+IsCause CaseTooLong case proof = IsSomeAnd case IsLongCase
+IsCause ProofTooLong case proof = IsSomeAnd case (λ c. HasTerms (Some c) OfAny) × IsSomeAnd proof IsLongProof
 IsCause _ case proof = ⊥
 
--- The headline: the case's text, where it is told, spells a schema and two queries of one width, and they are equivalent; and the proof's text, where
--- it is told, is accepted for their terms.
-abbrev pub IsProved : Option (List ℕ) → Option (List ℕ) → Type 0
-IsProved case proof = SpellsBoth case proof Equivalent Accepted
+-- The headline. The case's text, where it is told, is within its length and spells statements that build this schema, and two queries. They are
+-- well formed over it and of one width, and they are equivalent. The proof's text, where it is told, is within its length and accepted for their
+-- terms.
+pub record IsProved (case proof : Option (List ℕ)) : Type 0 where
+  pub schema : Schema
+  pub written : CaseText
+  pub spelled : IfSome case (λ text. Spells text schema written)
+  pub views_well_formed : SchemaWellFormed schema
+  pub left_well_formed : WellFormed schema written.left
+  pub right_well_formed : WellFormed schema written.right
+  pub one_width : width_of schema written.left ≡ width_of schema written.right
+  pub equivalent : Equivalent schema written.left written.right
+  pub accepted : IfSome proof (IsProofOf Accepted schema written)
 
 -- what a verdict says of the words, and by them of the texts and counts of a store
-abbrev pub IsFound : List (String Global) → (List ℕ → Option (List ℕ)) → (List ℕ → ℕ) → (List ℕ → ℕ) → Verdict → Type 0
-IsFound words text before now verdict =
-    AsksCheck words (λ case proof. IsJust (text case) (text proof) (before case) (now case) (before proof) (now proof) verdict)
-    ⊎ ((verdict ≡ NoSuchForm) × AsksNothing words)
+abbrev pub IsFound : List (String Global) → (List ℕ → List ℕ → BothTold) → Verdict → Type 0
+IsFound words told verdict =
+    AsksCheck words (λ case proof. IsJust (told case proof) verdict) ⊎ ((verdict ≡ NoSuchForm) × AsksNothing words)
+
+-- ---- faults and limits
+-- The store failed at the name of the case, or at that of the proof, and then the case is in order.
+abbrev pub HasReadFault : BothTold → Type 0
+HasReadFault told = HasFailed told.case ⊎ (HasFailed told.proof × HasTerms told.case.text OfAny)
+
+-- A limit is passed: by the length of the case, by what it spells, by one of its terms, or by the length of the proof, and then the case is in
+-- order.
+abbrev pub PassesLimit : Option (List ℕ) → Option (List ℕ) → Type 0
+PassesLimit case proof =
+    IfSome case IsLongCase
+    ⊎ (((fault : CaseFault) × (case_status fault ≡ status.Limit) × IfSome case (IsRefusedFor fault))
+    ⊎ (HasCase case (λ schema written. size_fault schema written ≢ None)
+    ⊎ (IfSome proof IsLongProof × HasTerms case OfAny)))
 
 -- ---- the output
 -- The text of a verdict was written and its status answered; or a write failed after a part of it; or there was no memory for the line, and

@@ -1,9 +1,10 @@
 pub mod Limits
-pub mod Translation
 pub mod TermText
 pub mod Steps
 pub mod ProofText
 pub mod Checking
+pub mod Cases
+pub mod Output
 pub mod Answer
 pub mod Reading
 pub mod Unread

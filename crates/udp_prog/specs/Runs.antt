@@ -1,42 +1,53 @@
 -- What the parts of a run found: contracts of private functions alone cite this.
-use Rattle.std.specs.Prelude.{◌≡◌, ℕ, ◌<◌, ◌≤◌, List, Option, IfSome, length}
-use Rattle.first_form.specs.declared.first.FirstCase.{FirstCase}
-use Rattle.first_form.specs.FirstForm.{IsFirstCase}
-use Rattle.udp_io.specs.Faults.{Rose}
+use Rattle.std.specs.Prelude.{◌≡◌, ℕ, ◌≤◌, List, Option, IfSome, length}
+use Rattle.u_terms.specs.declared.term.U.{U}
+use Rattle.case_core.specs.Answer.{IsCase}
+use Rattle.case_core.specs.Parts.{Parts}
 use Rattle.udp_prog.specs.Limits.{most_case_bytes, most_proof_bytes}
 use Rattle.udp_prog.specs.declared.answer.Verdict.{Verdict}
-use Rattle.udp_prog.specs.declared.answer.Verdict.TheVariants.{Proved, StepFails, EndDiffers, CaseRefused, ProofRefused, CaseFault, ProofFault, CaseTooLong, ProofTooLong, OutOfMemory}
-use Rattle.udp_prog.specs.Translation.{query_term}
+use Rattle.udp_prog.specs.declared.answer.Verdict.TheVariants.{Proved, StepFails, EndDiffers, CaseRefused, ProofRefused, CaseUnread, ProofUnread, CaseTooLong, ProofTooLong, OutOfMemory}
 use Rattle.udp_prog.specs.Checking.{Accepted, StepFailsIn, EndDiffersIn, IsNoProofText}
-use Rattle.udp_prog.specs.Answer.{SpellsNoCase}
+use Rattle.udp_prog.specs.Answer.{HasFailed, IsLongCase, IsLongProof, IsRefusedFor, Told}
 
 -- a case was read from the text, where that is told
-pub record IsCaseRead (case : Option (List ℕ)) (c : FirstCase) : Type 0 where
+pub record IsCaseRead (case : Option (List ℕ)) (parts : Parts) : Type 0 where
   pub text : List ℕ
   pub told : IfSome case (λ t. text ≡ t)
   pub within : length text ≤ most_case_bytes
-  pub spelled : IsFirstCase text c.schema c.left c.right c.width
+  pub is_case : IsCase text parts
 
 -- why no case was read
-abbrev pub IsCaseCause : Option (List ℕ) → ℕ → ℕ → Verdict → Type 0
-IsCaseCause case before now CaseFault = Rose before now
-IsCaseCause case before now CaseTooLong = IfSome case (λ c. most_case_bytes < length c)
-IsCaseCause case before now CaseRefused = IfSome case SpellsNoCase
-IsCaseCause case before now OutOfMemory = Unit {0}
-IsCaseCause case before now _ = ⊥
+abbrev pub IsCaseCause : Told → Verdict → Type 0
+IsCaseCause told CaseUnread = HasFailed told
+IsCaseCause told CaseTooLong = IfSome told.text IsLongCase
+IsCaseCause told (CaseRefused fault) = IfSome told.text (IsRefusedFor fault)
+IsCaseCause told OutOfMemory = Unit {0}
+IsCaseCause told _ = ⊥
 
 -- why no proof was read
-abbrev pub IsProofCause : Option (List ℕ) → ℕ → ℕ → Verdict → Type 0
-IsProofCause proof before now ProofFault = Rose before now
-IsProofCause proof before now ProofTooLong = IfSome proof (λ p. most_proof_bytes < length p)
-IsProofCause proof before now OutOfMemory = Unit {0}
-IsProofCause proof before now _ = ⊥
+abbrev pub IsProofCause : Told → Verdict → Type 0
+IsProofCause told ProofUnread = HasFailed told
+IsProofCause told ProofTooLong = IfSome told.text IsLongProof
+IsProofCause told OutOfMemory = Unit {0}
+IsProofCause told _ = ⊥
 
--- what the bytes of a proof show of a case
-abbrev pub ShowsOf : FirstCase → List ℕ → Verdict → Type 0
-ShowsOf c bytes Proved = Accepted c.width (query_term c.schema c.left) (query_term c.schema c.right) bytes
-ShowsOf c bytes (StepFails line) = StepFailsIn line c.width (query_term c.schema c.left) (query_term c.schema c.right) bytes
-ShowsOf c bytes EndDiffers = EndDiffersIn c.width (query_term c.schema c.left) (query_term c.schema c.right) bytes
-ShowsOf c bytes ProofRefused = IsNoProofText c.width (query_term c.schema c.left) (query_term c.schema c.right) bytes
-ShowsOf c bytes OutOfMemory = Unit {0}
-ShowsOf c bytes _ = ⊥
+-- what the bytes of a proof show of two terms with so many names
+abbrev pub ShowsOf : ℕ → U → U → List ℕ → Verdict → Type 0
+ShowsOf outs left right bytes Proved = Accepted outs left right bytes
+ShowsOf outs left right bytes (StepFails line) = StepFailsIn line outs left right bytes
+ShowsOf outs left right bytes EndDiffers = EndDiffersIn outs left right bytes
+ShowsOf outs left right bytes ProofRefused = IsNoProofText outs left right bytes
+ShowsOf outs left right bytes OutOfMemory = Unit {0}
+ShowsOf outs left right bytes _ = ⊥
+
+-- a proof was read from the text, where that is told, and this is what it shows
+pub record IsProofRead (outs : ℕ) (left right : U) (proof : Option (List ℕ)) (verdict : Verdict) : Type 0 where
+  pub text : List ℕ
+  pub told : IfSome proof (λ t. text ≡ t)
+  pub within : length text ≤ most_proof_bytes
+  pub shows : ShowsOf outs left right text verdict
+
+-- what is found of a proof: why it was not read, or what it shows
+pub data IsProofVerdict (outs : ℕ) (left right : U) (told : Told) (verdict : Verdict) : Type 0 where
+  not_read : IsProofCause told verdict → IsProofVerdict outs left right told verdict
+  was_read : IsProofRead outs left right told.text verdict → IsProofVerdict outs left right told verdict

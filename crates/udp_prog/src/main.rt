@@ -7,11 +7,11 @@ mod checker;
 mod fault;
 mod laws;
 mod lines;
+mod output;
 mod step;
 #[cfg(test)]
 mod tests;
 mod top;
-mod translation;
 
 use std::process::ExitCode;
 use std::{env, io};
@@ -36,7 +36,7 @@ fn main(rt: HostRuntime) -> ExitCode {
         Ok(words) => {
             let mut store = FileStore::new(&rt);
             let mut out = StdSink::new(io::writer(&rt));
-            ExitCode::from(top::run(rt.alloc(), &words, &mut store, &mut out) as u8)
+            ExitCode::from(top::run(rt.alloc(), &words, &mut store, &mut out).code())
         }
         Err(error) if error.kind() == io::ErrorKind::OutOfMemory => ExitCode::from(8),
         Err(_) => ExitCode::from(9),

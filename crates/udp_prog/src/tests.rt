@@ -13,6 +13,9 @@ use udp_io::{MemSink, MemStore};
 const SWAP_CASE: &str =
     "CREATE TABLE r (a INT);CREATE TABLE s (a INT);SELECT * FROM r UNION ALL SELECT * FROM s;SELECT * FROM s UNION ALL SELECT * FROM r;";
 
+// No step, of queries of one column.
+const NO_STEP: &str = "udp-proof 1\nouts 1\nend\n";
+
 const SWAP_PROOF: &str =
     "udp-proof 1\nouts 1\n/ > add_ac +(S(*(R0(b0),=(b0,f0))),S(*(R1(b0),=(b0,f0)))) +(S(*(R1(b0),=(b0,f0))),S(*(R0(b0),=(b0,f0))))\nend\n";
 
@@ -59,4 +62,21 @@ fn other_words_are_no_form(rt: HostRuntime) -> Result<(), Fail> {
     are_no_form(&rt, &[])?;
     are_no_form(&rt, &["check", "a"])?;
     are_no_form(&rt, &["prove", "a", "b"])
+}
+
+#[test]
+fn each_status_has_its_number(rt: HostRuntime) {
+    for (status, number) in [
+        (Status::Done, 0),
+        (Status::NotProved, 1),
+        (Status::CaseRefused, 2),
+        (Status::ProofRefused, 3),
+        (Status::Usage, 4),
+        (Status::ReadFault, 5),
+        (Status::WriteFault, 6),
+        (Status::Limit, 7),
+        (Status::NoMemory, 8),
+    ] {
+        assert_eq!(rt; status.code(), number);
+    }
 }

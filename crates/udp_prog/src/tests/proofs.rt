@@ -1,4 +1,4 @@
-use super::{SWAP_CASE, SWAP_PROOF, checks};
+use super::{NO_STEP, SWAP_CASE, SWAP_PROOF, checks};
 use crate::answer::Status;
 use std::alloc::{AllocError, Global};
 use std::test::Fail;
@@ -11,8 +11,6 @@ const STILL_PROOF: &str =
 
 const BACK_PROOF: &str =
     "udp-proof 1\nouts 1\n/ < add_ac +(S(*(R1(b0),=(b0,f0))),S(*(R0(b0),=(b0,f0)))) +(S(*(R0(b0),=(b0,f0))),S(*(R1(b0),=(b0,f0))))\nend\n";
-
-const NO_STEP: &str = "udp-proof 1\nouts 1\nend\n";
 
 // The term of `SELECT * FROM r UNION ALL SELECT * FROM s`, and of the same in the other order.
 const FIRST: &str = "+(S(*(R0(b0),=(b0,f0))),S(*(R1(b0),=(b0,f0))))";
