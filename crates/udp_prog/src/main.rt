@@ -13,6 +13,11 @@ mod step;
 mod tests;
 mod top;
 
+ghost use Rattle.std.specs.Prelude.{◌≡◌};
+ghost use Rattle.std.specs.Process.{exit_status};
+ghost use Rattle.udp_prog.specs.Answer.{code_of};
+
+use crate::answer::Status;
 use std::process::ExitCode;
 use std::{env, io};
 use udp_io::{FileStore, StdSink};
@@ -29,6 +34,13 @@ fn words(rt: &HostRuntime) -> io::Result<Vec<String>> {
     Ok(words)
 }
 
+// How the process ends where the run ended so.
+fn exit_code(status: Status) -> ExitCode
+    ensures { exit_status result ≡ code_of status }
+{
+    ExitCode::from(status.code())
+}
+
 /// Runs over the files of the system and standard output, and ends with the run's status. Where the words cannot be read it
 /// writes nothing and ends with 8 for want of memory, and else with 9.
 fn main(rt: HostRuntime) -> ExitCode {
@@ -36,7 +48,7 @@ fn main(rt: HostRuntime) -> ExitCode {
         Ok(words) => {
             let mut store = FileStore::new(&rt);
             let mut out = StdSink::new(io::writer(&rt));
-            ExitCode::from(top::run(rt.alloc(), &words, &mut store, &mut out).code())
+            exit_code(top::run(rt.alloc(), &words, &mut store, &mut out))
         }
         Err(error) if error.kind() == io::ErrorKind::OutOfMemory => ExitCode::from(8),
         Err(_) => ExitCode::from(9),

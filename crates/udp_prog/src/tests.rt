@@ -1,5 +1,6 @@
 mod cases;
 mod faults;
+mod limits;
 mod proofs;
 
 use crate::answer::Status;
@@ -8,6 +9,8 @@ use std::alloc::{AllocError, Global};
 use std::process::Abort;
 use std::test::Fail;
 use udp_io::{MemSink, MemStore};
+
+const TABLE_R: &str = "CREATE TABLE r (a INT);";
 
 // Two tables, and two queries that add their rows in opposite order.
 const SWAP_CASE: &str =
@@ -27,6 +30,24 @@ fn words(alloc: Global, words: &[&str]) -> Result<Vec<String>, AllocError> {
     Ok(owned)
 }
 
+fn push_all(text: &mut String, pieces: &[&str]) -> Result<(), AllocError> {
+    for piece in pieces {
+        text.push_str(piece)?;
+    }
+    Ok(())
+}
+
+// The text of pieces that come so often.
+fn repeated(alloc: Global, pieces: &[(&[&str], u32)]) -> Result<String, AllocError> {
+    let mut text = String::new(alloc);
+    for (piece, count) in pieces {
+        for _ in 0..*count {
+            push_all(&mut text, piece)?;
+        }
+    }
+    Ok(text)
+}
+
 // Checks a proof of a case, both in memory: the answer, and the line that is written.
 fn checks(
     rt: &(impl Abort + AllocGlobal),
@@ -41,8 +62,8 @@ fn checks(
     store.add("proof", proof.as_bytes())?;
     let mut sink = MemSink::new(alloc, 65_536, 100)?;
     let words = words(alloc, &["check", "case", "proof"])?;
-    assert_eq!(rt; run(alloc, &words, &mut store, &mut sink), status);
-    assert_eq!(rt; sink.bytes(), line.as_bytes());
+    assert_eq!(rt; run(alloc, &words, &mut store, &mut sink), status, "{line}");
+    assert_eq!(rt; sink.bytes(), line.as_bytes(), "{line}");
     Ok(())
 }
 

@@ -45,27 +45,9 @@ fn a_failed_call_of_the_store_is_told_of_its_text(rt: HostRuntime) -> Result<(),
     for call in of_case..of_both {
         checks_with_fault(&rt, 1, call, Status::ReadFault, b"read fault: proof\n")?;
     }
-    checks_with_fault(&rt, 1, of_both, Status::Done, b"proved\n")
-}
-
-#[test]
-fn the_second_take_of_a_proof_may_fail(rt: HostRuntime) -> Result<(), Fail> {
+    checks_with_fault(&rt, 1, of_both, Status::Done, b"proved\n")?;
+    // The second take of the proof.
     checks_with_fault(&rt, 65_536, 5, Status::ReadFault, b"read fault: proof\n")
-}
-
-#[test]
-fn an_absent_case_is_a_read_fault(rt: HostRuntime) -> Result<(), Fail> {
-    let alloc = rt.alloc();
-    let mut store = MemStore::new(alloc, 65_536)?;
-    store.add("proof", SWAP_PROOF.as_bytes())?;
-    let mut sink = MemSink::new(alloc, 3, 100)?;
-    let words = words(alloc, &["check", "case", "proof"])?;
-    assert_eq!(rt;
-        run(alloc, &words, &mut store, &mut sink),
-        Status::ReadFault
-    );
-    assert_eq!(rt; sink.bytes(), b"read fault: case\n".as_slice());
-    Ok(())
 }
 
 #[test]

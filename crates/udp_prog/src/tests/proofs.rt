@@ -1,155 +1,151 @@
-use super::{NO_STEP, SWAP_CASE, SWAP_PROOF, checks};
+use super::{NO_STEP, SWAP_CASE, SWAP_PROOF, checks, repeated};
 use crate::answer::Status;
-use std::alloc::{AllocError, Global};
 use std::test::Fail;
 
-const SAME_CASE: &str =
-    "CREATE TABLE r (a INT);CREATE TABLE s (a INT);SELECT * FROM r UNION ALL SELECT * FROM s;SELECT * FROM r UNION ALL SELECT * FROM s;";
+const HEADING: &str = "udp-proof 1\nouts 1\n";
 
-const STILL_PROOF: &str =
-    "udp-proof 1\nouts 1\n/ > add_ac +(S(*(R0(b0),=(b0,f0))),S(*(R1(b0),=(b0,f0)))) +(S(*(R0(b0),=(b0,f0))),S(*(R1(b0),=(b0,f0))))\nend\n";
+const END: &str = "end\n";
 
-const BACK_PROOF: &str =
-    "udp-proof 1\nouts 1\n/ < add_ac +(S(*(R1(b0),=(b0,f0))),S(*(R0(b0),=(b0,f0)))) +(S(*(R0(b0),=(b0,f0))),S(*(R1(b0),=(b0,f0))))\nend\n";
+// The two queries of the swap case have the terms on the left and on the right of these steps, or the other way round.
+const FORTH: &str =
+    "/ > add_ac +(S(*(R0(b0),=(b0,f0))),S(*(R1(b0),=(b0,f0)))) +(S(*(R1(b0),=(b0,f0))),S(*(R0(b0),=(b0,f0))))\n";
 
-// The term of `SELECT * FROM r UNION ALL SELECT * FROM s`, and of the same in the other order.
-const FIRST: &str = "+(S(*(R0(b0),=(b0,f0))),S(*(R1(b0),=(b0,f0))))";
+const FORTH_BY_BACKWARD: &str =
+    "/ < add_ac +(S(*(R1(b0),=(b0,f0))),S(*(R0(b0),=(b0,f0)))) +(S(*(R0(b0),=(b0,f0))),S(*(R1(b0),=(b0,f0))))\n";
 
-const SECOND: &str = "+(S(*(R1(b0),=(b0,f0))),S(*(R0(b0),=(b0,f0))))";
+const BACK: &str =
+    "/ < add_ac +(S(*(R0(b0),=(b0,f0))),S(*(R1(b0),=(b0,f0)))) +(S(*(R1(b0),=(b0,f0))),S(*(R0(b0),=(b0,f0))))\n";
 
-fn push_step(
-    text: &mut String,
-    direction: &str,
-    left: &str,
-    right: &str,
-) -> Result<(), AllocError> {
-    for part in ["/ ", direction, " add_ac ", left, " ", right, "\n"] {
-        text.push_str(part)?;
-    }
-    Ok(())
-}
+const STILL: &str =
+    "/ > add_ac +(S(*(R0(b0),=(b0,f0))),S(*(R1(b0),=(b0,f0)))) +(S(*(R0(b0),=(b0,f0))),S(*(R1(b0),=(b0,f0))))\n";
 
-// The swap case's heading, and one step whose sides are this argument.
-fn proof_of(alloc: Global, argument: &str) -> Result<String, AllocError> {
-    let mut text = String::from_str(alloc, "udp-proof 1\nouts 1\n")?;
-    push_step(&mut text, ">", argument, argument)?;
-    text.push_str("end\n")?;
-    Ok(text)
-}
+const STEP: &str = "/ > add_ac ";
 
-// So many copies of a piece between a front and a back.
-fn repeated(
-    alloc: Global,
-    front: &str,
-    piece: &str,
-    count: u32,
-    back: &str,
-) -> Result<String, AllocError> {
-    let mut text = String::from_str(alloc, front)?;
-    for _ in 0..count {
-        text.push_str(piece)?;
-    }
-    text.push_str(back)?;
-    Ok(text)
-}
+const REFUSED: &str = "proof refused: P1\n";
 
-#[test]
-fn the_swap_case_is_proved_either_way(rt: HostRuntime) -> Result<(), Fail> {
-    checks(&rt, SWAP_CASE, SWAP_PROOF, Status::Done, "proved\n")?;
-    checks(&rt, SWAP_CASE, BACK_PROOF, Status::Done, "proved\n")
-}
-
-#[test]
-fn equal_queries_need_no_step(rt: HostRuntime) -> Result<(), Fail> {
-    checks(&rt, SAME_CASE, NO_STEP, Status::Done, "proved\n")
-}
-
-#[test]
-fn an_end_that_differs_is_not_proved(rt: HostRuntime) -> Result<(), Fail> {
-    checks(&rt, SWAP_CASE, NO_STEP, Status::NotProved, "end differs\n")?;
-    checks(
-        &rt,
-        SWAP_CASE,
-        STILL_PROOF,
+/// The pieces of proofs of the swap case with how often they come, and what becomes of them.
+const PROOFS: [(&[(&[&str], u32)], Status, &str); 20] = [
+    (
+        &[(&[HEADING, FORTH_BY_BACKWARD, END], 1)],
+        Status::Done,
+        "proved\n",
+    ),
+    (&[(&[NO_STEP], 1)], Status::NotProved, "end differs\n"),
+    (
+        &[(&[HEADING, STILL, END], 1)],
         Status::NotProved,
         "end differs\n",
-    )
-}
-
-#[test]
-fn other_proof_texts_are_refused(rt: HostRuntime) -> Result<(), Fail> {
-    for proof in [
-        "",
-        "udp-proof 1\nouts 2\nend\n",
-        "udp-proof 2\nouts 1\nend\n",
-        "udp-proof 1\nouts 1\nend",
-        "udp-proof 1\nouts 1\nend\n\n",
-        "udp-proof 1\nouts 1\n/ > add_ac 0\nend\n",
-        "udp-proof 1\nouts 1\n/ > add_ac R00() 0\nend\n",
-        "udp-proof 1\nouts 1\n/ > add_ac R4294967296() 0\nend\n",
-        "udp-proof 1\nouts 1\n/ > add_ac #(0) 0\nend\n",
-        // A fault in the last line decides over a step that fails before it.
-        "udp-proof 1\nouts 1\n/ > add_ac 0 0\nending\n",
-    ] {
-        checks(
-            &rt,
-            SWAP_CASE,
-            proof,
-            Status::ProofRefused,
-            "proof refused: P1\n",
-        )?;
-    }
-    Ok(())
-}
-
-#[test]
-fn the_first_step_without_a_result_is_named(rt: HostRuntime) -> Result<(), Fail> {
-    let mut text = String::from_str(rt.alloc(), "udp-proof 1\nouts 1\n")?;
-    for _ in 0..100 {
-        push_step(&mut text, ">", FIRST, SECOND)?;
-        push_step(&mut text, "<", FIRST, SECOND)?;
-    }
-    let mut whole = text.clone()?;
-    push_step(&mut whole, ">", FIRST, SECOND)?;
-    whole.push_str("end\n")?;
-    checks(&rt, SWAP_CASE, whole.as_str(), Status::Done, "proved\n")?;
-    push_step(&mut text, "<", FIRST, SECOND)?;
-    push_step(&mut text, ">", FIRST, SECOND)?;
-    text.push_str("end\n")?;
-    checks(
-        &rt,
-        SWAP_CASE,
-        text.as_str(),
+    ),
+    // The steps lead from the first term to the second, and not back.
+    (
+        &[(&[HEADING, BACK, END], 1)],
+        Status::NotProved,
+        "step fails at line 3\n",
+    ),
+    // The first step without a result is named.
+    (
+        &[(&[HEADING], 1), (&[FORTH, BACK], 100), (&[FORTH, END], 1)],
+        Status::Done,
+        "proved\n",
+    ),
+    (
+        &[
+            (&[HEADING], 1),
+            (&[FORTH, BACK], 100),
+            (&[BACK, FORTH, END], 1),
+        ],
         Status::NotProved,
         "step fails at line 203\n",
-    )
-}
+    ),
+    // Other texts are refused.
+    (&[], Status::ProofRefused, REFUSED),
+    (
+        &[(&["udp-proof 1\nouts 2\n", END], 1)],
+        Status::ProofRefused,
+        REFUSED,
+    ),
+    (
+        &[(&["udp-proof 2\nouts 1\n", END], 1)],
+        Status::ProofRefused,
+        REFUSED,
+    ),
+    (&[(&[HEADING, "end"], 1)], Status::ProofRefused, REFUSED),
+    (&[(&[HEADING, END, "\n"], 1)], Status::ProofRefused, REFUSED),
+    (
+        &[(&[HEADING, STEP, "0\n", END], 1)],
+        Status::ProofRefused,
+        REFUSED,
+    ),
+    (
+        &[(&[HEADING, STEP, "R00() 0\n", END], 1)],
+        Status::ProofRefused,
+        REFUSED,
+    ),
+    (
+        &[(&[HEADING, STEP, "R4294967296() 0\n", END], 1)],
+        Status::ProofRefused,
+        REFUSED,
+    ),
+    (
+        &[(&[HEADING, STEP, "#(0) 0\n", END], 1)],
+        Status::ProofRefused,
+        REFUSED,
+    ),
+    // A fault in the last line decides over a step that fails before it.
+    (
+        &[(&[HEADING, STEP, "0 0\n", "ending\n"], 1)],
+        Status::ProofRefused,
+        REFUSED,
+    ),
+    // An argument has at most 200,000 nodes, and a depth of at most 2,048.
+    (
+        &[
+            (&[HEADING, STEP, "R0("], 1),
+            (&["b0,"], 199_998),
+            (&["b0) 0\n", END], 1),
+        ],
+        Status::NotProved,
+        "step fails at line 3\n",
+    ),
+    (
+        &[
+            (&[HEADING, STEP, "R0("], 1),
+            (&["b0,"], 199_999),
+            (&["b0) 0\n", END], 1),
+        ],
+        Status::ProofRefused,
+        REFUSED,
+    ),
+    (
+        &[
+            (&[HEADING, STEP], 1),
+            (&["S("], 2_047),
+            (&["1"], 1),
+            (&[")"], 2_047),
+            (&[" 0\n", END], 1),
+        ],
+        Status::NotProved,
+        "step fails at line 3\n",
+    ),
+    (
+        &[
+            (&[HEADING, STEP], 1),
+            (&["S("], 2_048),
+            (&["1"], 1),
+            (&[")"], 2_048),
+            (&[" 0\n", END], 1),
+        ],
+        Status::ProofRefused,
+        REFUSED,
+    ),
+];
 
 #[test]
-fn arguments_are_limited_in_nodes_and_depth(rt: HostRuntime) -> Result<(), Fail> {
-    let alloc = rt.alloc();
-    let within = (Status::NotProved, "step fails at line 3\n");
-    let past = (Status::ProofRefused, "proof refused: P1\n");
-    for (count, (status, line)) in [(199_998, within), (199_999, past)] {
-        let argument = repeated(alloc, "R0(", "b0,", count, "b0)")?;
-        checks(
-            &rt,
-            SWAP_CASE,
-            proof_of(alloc, argument.as_str())?.as_str(),
-            status,
-            line,
-        )?;
-    }
-    for (count, (status, line)) in [(2_047, within), (2_048, past)] {
-        let front = repeated(alloc, "", "S(", count, "1")?;
-        let argument = repeated(alloc, front.as_str(), ")", count, "")?;
-        checks(
-            &rt,
-            SWAP_CASE,
-            proof_of(alloc, argument.as_str())?.as_str(),
-            status,
-            line,
-        )?;
+fn proofs_are_answered(rt: HostRuntime) -> Result<(), Fail> {
+    checks(&rt, SWAP_CASE, SWAP_PROOF, Status::Done, "proved\n")?;
+    for (pieces, status, line) in PROOFS {
+        let proof = repeated(rt.alloc(), pieces)?;
+        checks(&rt, SWAP_CASE, proof.as_str(), status, line)?;
     }
     Ok(())
 }
