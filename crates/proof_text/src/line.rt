@@ -58,8 +58,8 @@ fn fault(stop: Stop, passed: u64) -> LineFault
     }
 }
 
-/// What the line says whose bytes these are; `ended` says that a line feed follows them. Each byte is looked at once, and nothing is
-/// built of an argument behind the byte at which it passes a limit.
+/// What the line says whose bytes these are; `ended` says that a line feed follows them. No byte is gone back to: each is looked at
+/// a fixed number of times at most. Nothing is built of an argument behind the byte at which it passes a limit.
 pub fn read_step(alloc: Global, line: &[u8], ended: bool) -> Result<LineStep, LineFault>
     ensures answer { IsAnswer (fed line.now ended) result }
     ensures text { IfOk result (λ says. (fed line.now ended ≡ text_of says) × Says says) }

@@ -88,8 +88,8 @@ fn y(alloc: Global) -> Result<Boxed<U>, NoMemory> {
     row(alloc, 1, [Val::Free(1)])
 }
 
-/// The arguments under these letters. Those under small letters are closed; under capital ones places dangle that have no sum of the
-/// rule.
+/// The arguments under these letters. Under small letters no places dangle but those that the rule has sums for; under capital ones
+/// others do.
 pub fn arguments(alloc: Global, letters: &str) -> Result<Vec<Arg>, NoMemory> {
     let mut all = Vec::new(alloc);
     for letter in letters.as_bytes() {

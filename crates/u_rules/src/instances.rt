@@ -35,7 +35,7 @@ pub fn instance(
 }
 
 /// One side of the instance that the rule has for these arguments: the left or, turned, the right one. The other one is not written, and
-/// nothing is tested again.
+/// neither closedness nor leaves are tested again.
 pub fn side(
     alloc: Global,
     facts: &Facts,

@@ -24,7 +24,8 @@ pub fn leaves<'a>(alloc: Global, u: &'a U, product: bool) -> Result<List<&'a U>,
 }
 
 /// Whether two sums or, for products, two products have the same leaves, each as often. Leaves in one order are compared in one pass. Of
-/// others each is written once as a list of numbers, and both lists of these are sorted: n leaves cost n log n, whatever they are.
+/// others each is written once as a list of numbers, and both lists of these are sorted: m nodes in n leaves cost m log n at most,
+/// whatever they are.
 pub fn same_leaves(alloc: Global, left: &U, right: &U, product: bool) -> Result<bool, AllocError>
     ensures { IfOk result (λ same. TellsSame same (spec.leaves product left.now) (spec.leaves product right.now)) }
 {
