@@ -17,5 +17,6 @@ pub mod TopAnswers
 pub mod Forms
 pub mod OneReplay
 pub mod Unrefused
+pub mod OneRefusal
 pub mod OneVerdict
 pub mod Exact

@@ -25,8 +25,9 @@ use Rattle.udp_prog.specs.declared.answer.Status.TheVariants as status
 use Rattle.udp_prog.specs.Cases.{AreComparable, HasCase, Spells, size_fault, term_of}
 use Rattle.udp_prog.specs.ProofText.{IsProofText}
 use Rattle.udp_prog.specs.Checking.{StepsShow, IsShown, Accepted, StepFailsIn, EndDiffersIn, IsNoProofText}
-use Rattle.udp_prog.specs.Answer.{BothTold, HasTerms, IsCause, IsJust, IsLongCase, IsRefusedAlone, IsRefusedFor, TellsBoth, status_of}
+use Rattle.udp_prog.specs.Answer.{AreCounts, BothTold, HasTerms, IsCause, IsJust, IsLongCase, IsRefusedAlone, IsRefusedFor, TellsBoth, status_of}
 use Rattle.udp_prog.proofs.ReadProofs.{proof_at-some}
+use Rattle.udp_prog.proofs.OneRefusal.{one_refusal}
 use Rattle.udp_prog.proofs.OneReplay.{shows-one}
 use Rattle.udp_prog.proofs.Unrefused.{Relations, memory_alone, same_case, width_over}
 
@@ -138,11 +139,11 @@ terms-one t None v w (inr (none, a)) (inr (also, b)) = absurd b
 terms-one t (Some proof) v w (inr (none, a)) (inr (also, b)) = proof-one t proof v w a b
 
 refused-one : (text : List ℕ) (v w : Verdict) (a : RefusedOne text v) (b : RefusedOne text w) → IsRefusedAlone b.fault text → v ≡ w
-refused-one text v w a b alone = by (alone.alone a.fault a.refused.1)
+refused-one text v w a b alone = by (one_refusal text b.fault a.fault b.memory a.memory b.refused.1 a.refused.1)
   where
-    by : (a.fault ≡ case_refusal.NoMemory) ⊎ (a.fault ≡ b.fault) → v ≡ w
-    by (inl none) = absurd (a.memory none)
-    by (inr same) = a.is ∙ (ap CaseRefused same ∙ sym b.is)
+    by : (b.fault ≡ a.fault) ⊎ AreCounts b.fault a.fault → v ≡ w
+    by (inl same) = a.is ∙ (ap CaseRefused (sym same) ∙ sym b.is)
+    by (inr counts) = a.is ∙ (ap CaseRefused (alone.one_count a.fault a.refused.1 counts) ∙ sym b.is)
 
 case-one : (text : List ℕ) (proof : Option (List ℕ)) (v w : Verdict) → CaseDecides (IfSome proof) text v → CaseDecides (IsSomeAnd proof) text w → IsAlone text w → v ≡ w
 case-one text proof v w (is_long l e) (is_long k f) alone = e ∙ sym f

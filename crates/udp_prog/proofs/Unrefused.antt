@@ -34,7 +34,7 @@ use Rattle.scope_core.proofs.NoFault.{query_fault-none, schema_fault-none}
 use Rattle.case_core.specs.declared.fault.CaseFault.{CaseFault}
 use Rattle.case_core.specs.declared.fault.CaseFault.TheVariants.{Read, Schema, Scope, QueriesDiffer, NotTwoQueries, NoMemory}
 use Rattle.case_core.specs.declared.text.CaseText.{CaseText}
-use Rattle.case_core.specs.Answer.{HasSchema, HasTwoWidths, IsOutOfScope, IsRefused, IsSchemaFault, width_of}
+use Rattle.case_core.specs.Answer.{BreaksRule, HasSchema, HasTwoWidths, IsOutOfScope, IsRefused, IsSchemaFault, IsWellFormed, width_of}
 use Rattle.case_core.specs.CaseGrammar as g
 use Rattle.case_core.specs.Cases.{IsRead, cases, within}
 use Rattle.case_core.specs.Refusals.{HasNotTwoQueries, IsNoCase, PassesCopies, PassesCount, Says}
@@ -47,7 +47,7 @@ use Rattle.udp_prog.specs.Cases.{AreComparable}
 ended_known : Known kind_of (gl g.ended_query) (lookahead table g.ended_query)
 ended_known = known g.ended_query refl None
 
-has_tokens : (ts : List Lexeme) (query : Built Query) → (gl g.ended_query).spells ts query → ts ≡ [] → ⊥
+pub has_tokens : (ts : List Lexeme) (query : Built Query) → (gl g.ended_query).spells ts query → ts ≡ [] → ⊥
 has_tokens [] query s e = let n : false ≡ true = ended_known.ahead.nullable query s in cc
 has_tokens (t ∷ ts) query s e = cc
 
@@ -156,7 +156,7 @@ module _ (text : List ℕ) (written : CaseText) (numbers : Numbers) (read : IsRe
   says_memory (NotTwoQueries count at) u = absurd (two_there count at u.counted)
   says_memory NoMemory u = refl
 
-  no_case_memory : (fault : CaseFault) → IsNoCase text fault → fault ≡ NoMemory
+  pub no_case_memory : (fault : CaseFault) → IsNoCase text fault → fault ≡ NoMemory
   no_case_memory fault u =
       let same = same_tokens 0 text u.tokens tokens u.fault None u.lexed read.spells.lexed in
       says_memory fault (subst (λ z. Says 0 z None (length text) fault) same.0 (subst (λ z. Says 0 u.tokens z (length text) fault) same.1 u.says))
@@ -165,7 +165,7 @@ module _ (text : List ℕ) (written : CaseText) (numbers : Numbers) (read : IsRe
 abbrev pub Relations : Type 0
 Relations = List (Name × Relation)
 
-abbrev scope_fault_over : Relations → CaseText → Option ScopeFault
+abbrev pub scope_fault_over : Relations → CaseText → Option ScopeFault
 scope_fault_over relations w =
     option_or (relations_fault [] [] relations)
     (option_or (first_fault (sites w.left (known_relations [] [] relations) [])) (first_fault (sites w.right (known_relations [] [] relations) [])))
@@ -188,36 +188,38 @@ same_case {text = text} {written = written} {also = also} {numbers = numbers} {n
     let built : Builds also.statements schema = subst (λ (w : CaseText). Builds w.statements schema) e a.built in
     record { relations = built.relations ∙ sym b.built.relations; text = e }
 
-module _ (text : List ℕ) (schema : TheSchema) (written : CaseText) (numbers : Numbers) (h : HasSchema text written numbers schema) (c : AreComparable schema written) where
-  no_scope_fault : scope_fault_over schema.relations.entries written ≡ None
-  no_scope_fault =
-      let f = c.well_formed in
+module _ (text : List ℕ) (schema : TheSchema) (written : CaseText) (numbers : Numbers) (h : HasSchema text written numbers schema) where
+  pub no_rule_broken : (fault : SchemaFault) → BreaksRule text fault → ⊥
+  no_rule_broken fault u = of fault u.written (one_case text written u.written numbers u.numbers h.read.spells u.read.spells).0 u.first
+    where
+      of : (fault : SchemaFault) (also : CaseText) → written ≡ also → IsSchemaFault also fault → ⊥
+      of (schema_refusal.Refused code at) also e i = none-some _ (sym h.built.faultless ∙ (ap (λ (w : CaseText). schema_fault w.statements) e ∙ i))
+      of schema_refusal.NoMemory also e i = i
+
+  no_scope_fault : IsWellFormed schema written → scope_fault_over schema.relations.entries written ≡ None
+  no_scope_fault f =
       ap (λ z. option_or z (option_or (query_fault schema written.left) (query_fault schema written.right)))
       ((schema_fault-none schema).1 (f.views, f.views_within_width))
       ∙ (ap (λ z. option_or z (query_fault schema written.right)) ((query_fault-none schema written.left).1 (f.left, f.left_within_width))
       ∙ (query_fault-none schema written.right).1 (f.right, f.right_within_width))
 
-  no_rule_broken : (fault : SchemaFault) (also : CaseText) → written ≡ also → IsSchemaFault also fault → ⊥
-  no_rule_broken (schema_refusal.Refused code at) also e i =
-      none-some _ (sym h.built.faultless ∙ (ap (λ (w : CaseText). schema_fault w.statements) e ∙ i))
-  no_rule_broken schema_refusal.NoMemory also e i = i
-
-  in_scope : (fault : ScopeFault) → IsOutOfScope text fault → ⊥
-  in_scope fault u =
+  pub in_scope : IsWellFormed schema written → (fault : ScopeFault) → IsOutOfScope text fault → ⊥
+  in_scope f fault u =
       let s = same_case h u.has_schema in
-      none-some fault (sym no_scope_fault ∙ ((λ i. scope_fault_over (s.relations i) (s.text i)) ∙ u.first))
+      none-some fault (sym (no_scope_fault f) ∙ ((λ i. scope_fault_over (s.relations i) (s.text i)) ∙ u.first))
 
-  one_width : (left right : ℕ) → HasTwoWidths text left right → ⊥
-  one_width left right u =
-      let s = same_case h u.has_schema in
-      let l : width_of schema written.left ≡ width_of u.schema u.written.left = λ i. width_over (s.relations i) (s.text i).left in
-      let r : width_of schema written.right ≡ width_of u.schema u.written.right = λ i. width_over (s.relations i) (s.text i).right in
-      u.differ (u.left_width ∙ (sym l ∙ (c.one_width ∙ (r ∙ sym u.right_width))))
+  module _ (c : AreComparable schema written) where
+    one_width : (left right : ℕ) → HasTwoWidths text left right → ⊥
+    one_width left right u =
+        let s = same_case h u.has_schema in
+        let l : width_of schema written.left ≡ width_of u.schema u.written.left = λ i. width_over (s.relations i) (s.text i).left in
+        let r : width_of schema written.right ≡ width_of u.schema u.written.right = λ i. width_over (s.relations i) (s.text i).right in
+        u.differ (u.left_width ∙ (sym l ∙ (c.one_width ∙ (r ∙ sym u.right_width))))
 
-  pub memory_alone : (fault : CaseFault) → IsRefused text fault → fault ≡ NoMemory
-  memory_alone (Read fault) u = no_case_memory text written numbers h.read (Read fault) u
-  memory_alone (Schema fault) u = absurd (no_rule_broken fault u.written (one_case text written u.written numbers u.numbers h.read.spells u.read.spells).0 u.first)
-  memory_alone (Scope fault) u = absurd (in_scope fault u)
-  memory_alone (QueriesDiffer left right) u = absurd (one_width left right u)
-  memory_alone (NotTwoQueries count at) u = no_case_memory text written numbers h.read (NotTwoQueries count at) u
-  memory_alone NoMemory u = refl
+    pub memory_alone : (fault : CaseFault) → IsRefused text fault → fault ≡ NoMemory
+    memory_alone (Read fault) u = no_case_memory text written numbers h.read (Read fault) u
+    memory_alone (Schema fault) u = absurd (no_rule_broken fault u)
+    memory_alone (Scope fault) u = absurd (in_scope c.well_formed fault u)
+    memory_alone (QueriesDiffer left right) u = absurd (one_width left right u)
+    memory_alone (NotTwoQueries count at) u = no_case_memory text written numbers h.read (NotTwoQueries count at) u
+    memory_alone NoMemory u = refl

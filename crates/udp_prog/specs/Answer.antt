@@ -4,6 +4,8 @@ use Rattle.std.specs.Fmt.{decimal}
 use Rattle.std.specs.declared.alloc.Global.{Global}
 use Rattle.sql_model.specs.declared.schema.Schema.{Schema}
 use Rattle.sql_model.specs.Equivalent.{Equivalent}
+use Rattle.sql_read.specs.declared.fault.LimitKind.{LimitKind}
+use Rattle.sql_read.specs.declared.fault.ReadFault.TheVariants as read_refusal
 use Rattle.scope_core.specs.WellFormed.{SchemaWellFormed, WellFormed}
 use Rattle.u_terms.specs.declared.term.U.{U}
 use Rattle.sql_to_u.specs.Limits.{IsCause as IsSizeCause}
@@ -143,11 +145,16 @@ IsJust told CaseTooLong = IfSome told.case.text IsLongCase
 IsJust told ProofTooLong = IfSome told.proof.text IsLongProof × HasTerms told.case.text OfAny
 IsJust told OutOfMemory = Unit {0}
 
--- the text is refused for this fault and, want of memory left aside, for no other
+-- both are limits on what is counted; where a text passes both, it does so at one token
+abbrev pub AreCounts : CaseFault → CaseFault → Type 0
+AreCounts fault other =
+    (what : LimitKind) × (also : LimitKind) × (fault ≡ case_refusal.Read (read_refusal.Limit what)) × (other ≡ case_refusal.Read (read_refusal.Limit also))
+
+-- The text is refused for this fault, which is not want of memory. Where it is the limit of a count, no other count passes its own.
 pub record IsRefusedAlone (fault : CaseFault) (text : List ℕ) : Type 0 where
   pub refused : IsRefusedFor fault text
   pub memory : fault ≢ case_refusal.NoMemory
-  pub alone : (other : CaseFault) → IsRefused text other → (other ≡ case_refusal.NoMemory) ⊎ (other ≡ fault)
+  pub one_count : (other : CaseFault) → IsRefused text other → AreCounts fault other → other ≡ fault
 
 -- both texts are told, and are a case and a proof of which this holds
 abbrev pub TellsBoth : Option (List ℕ) → Option (List ℕ) → (ℕ → U → U → List ℕ → Type 0) → Type 0
