@@ -1,32 +1,14 @@
 //! `udp`: checks proofs that two SQL queries always return the same bag of rows.
 #![tactic(auto)]
 
-mod answer;
-mod argument;
-mod checker;
-mod fault;
-mod laws;
-mod lines;
-mod output;
-mod step;
-#[cfg(test)]
-mod tests;
-mod top;
-
 ghost use Rattle.std.specs.Prelude.{◌≡◌};
 ghost use Rattle.std.specs.Process.{exit_status};
-ghost use Rattle.udp_prog.specs.Answer.{code_of};
+ghost use Rattle.udp_run.specs.Answer.{code_of};
 
-use crate::answer::Status;
 use std::process::ExitCode;
 use std::{env, io};
 use udp_io::{FileStore, StdSink};
-
-/// The most bytes of a case.
-pub const CASE_LIMIT: usize = 1_048_576;
-
-/// The most bytes of a proof.
-pub const PROOF_LIMIT: usize = 1_073_741_824;
+use udp_run::{Status, run};
 
 // The words after the program's name.
 fn words(rt: &HostRuntime) -> io::Result<Vec<String>> {
@@ -48,7 +30,7 @@ fn main(rt: HostRuntime) -> ExitCode {
         Ok(words) => {
             let mut store = FileStore::new(&rt);
             let mut out = StdSink::new(io::writer(&rt));
-            exit_code(top::run(rt.alloc(), &words, &mut store, &mut out))
+            exit_code(run(rt.alloc(), &words, &mut store, &mut out))
         }
         Err(error) if error.kind() == io::ErrorKind::OutOfMemory => ExitCode::from(8),
         Err(_) => ExitCode::from(9),

@@ -1,7 +1,0 @@
-use Rattle.std.proofs.Common.{rules}
-use Rattle.udp_prog.specs.declared.answer.Verdict.TheVariants.{Proved}
-use Rattle.udp_prog.proofs.Exact.{answered_surely}
-use Rattle.udp_prog.proofs.laws.run_surely.Goals as goal
-
-pub returns-clause-complete : goal.returns-clause-complete
-returns-clause-complete c asks = answered_surely Proved _ _ c.run.result (search rules) (search rules) (c.run.ensures.complete asks)

@@ -1,0 +1,224 @@
+-- What the program answers, and when.
+use Rattle.std.specs.Prelude.{◌≡◌, ◌≢◌, ℕ, ◌<◌, ◌≤◌, ◌⊎◌, List, [], ◌∷◌, ◌++◌, length, map, codes, string_bytes, String, Option, Some, None, IfSome, IsSomeAnd}
+use Rattle.std.specs.Fmt.{decimal}
+use Rattle.std.specs.declared.alloc.Global.{Global}
+use Rattle.sql_model.specs.declared.schema.Schema.{Schema}
+use Rattle.sql_model.specs.Equivalent.{Equivalent}
+use Rattle.sql_read.specs.declared.fault.LimitKind.{LimitKind}
+use Rattle.sql_read.specs.declared.fault.ReadFault.TheVariants as read_refusal
+use Rattle.scope_core.specs.WellFormed.{SchemaWellFormed, WellFormed}
+use Rattle.u_terms.specs.declared.term.U.{U}
+use Rattle.sql_to_u.specs.Limits.{IsCause as IsSizeCause}
+use Rattle.case_core.specs.declared.fault.CaseFault.{CaseFault}
+use Rattle.case_core.specs.declared.fault.CaseFault.TheVariants as case_refusal
+use Rattle.case_core.specs.declared.text.CaseText.{CaseText}
+use Rattle.case_core.specs.Answer.{IsRefused, width_of}
+use Rattle.udp_io.specs.Faults.{Rose}
+use Rattle.udp_io.specs.Writing.{Grows, GrowsByPrefix}
+use Rattle.udp_run.specs.Limits.{most_case_bytes, most_proof_bytes}
+use Rattle.udp_run.specs.declared.answer.Status.{Status}
+use Rattle.udp_run.specs.declared.answer.Status.TheVariants as status
+use Rattle.udp_run.specs.declared.answer.Verdict.{Verdict}
+use Rattle.udp_run.specs.declared.answer.Verdict.TheVariants.{Proved, StepFails, EndDiffers, CaseRefused, TermRefused, ProofRefused, NoSuchForm, CaseUnread, ProofUnread, CaseTooLong, ProofTooLong, OutOfMemory}
+use Rattle.udp_run.specs.Cases.{HasCase, Spells, size_fault, term_of}
+use Rattle.udp_run.specs.Checking.{Accepted, StepFailsIn, EndDiffersIn, IsNoProofText}
+use Rattle.udp_run.specs.Output.{case_status, case_text, line, size_status, size_text}
+
+-- ---- the words
+-- the words are `check`, the name of a case and the name of a proof
+abbrev pub IsCheck : List (String Global) → List ℕ → List ℕ → Type 0
+IsCheck words case proof = map string_bytes words ≡ codes "check" ∷ case ∷ proof ∷ []
+
+-- the words ask for no check
+abbrev pub AsksNothing : List (String Global) → Type 0
+AsksNothing words = (case proof : List ℕ) → IsCheck words case proof → ⊥
+
+-- the words ask for a check, and this holds of the two names
+abbrev pub AsksCheck : List (String Global) → (List ℕ → List ℕ → Type 0) → Type 0
+AsksCheck words P = (case : List ℕ) × (proof : List ℕ) × IsCheck words case proof × P case proof
+
+-- ---- the lines, and the statuses
+abbrev pub text_of : Verdict → List ℕ
+text_of Proved = line (codes "proved")
+text_of (StepFails number) = codes "step fails at line " ++ (decimal number ++ 10 ∷ [])
+text_of EndDiffers = line (codes "end differs")
+text_of (CaseRefused fault) = case_text fault
+text_of (TermRefused fault) = size_text fault
+text_of ProofRefused = line (codes "proof refused: P1")
+text_of NoSuchForm = line (codes "usage: no such form of words")
+text_of CaseUnread = line (codes "read fault: case")
+text_of ProofUnread = line (codes "read fault: proof")
+text_of CaseTooLong = line (codes "limit case 1048576")
+text_of ProofTooLong = line (codes "limit proof 1073741824")
+text_of OutOfMemory = []
+
+abbrev pub status_of : Verdict → Status
+status_of Proved = status.Done
+status_of (StepFails number) = status.NotProved
+status_of EndDiffers = status.NotProved
+status_of (CaseRefused fault) = case_status fault
+status_of (TermRefused fault) = size_status fault
+status_of ProofRefused = status.ProofRefused
+status_of NoSuchForm = status.Usage
+status_of CaseUnread = status.ReadFault
+status_of ProofUnread = status.ReadFault
+status_of CaseTooLong = status.Limit
+status_of ProofTooLong = status.Limit
+status_of OutOfMemory = status.NoMemory
+
+-- the exit status of the program
+abbrev pub code_of : Status → ℕ
+code_of status.Done = 0
+code_of status.NotProved = 1
+code_of status.CaseRefused = 2
+code_of status.ProofRefused = 3
+code_of status.Usage = 4
+code_of status.ReadFault = 5
+code_of status.WriteFault = 6
+code_of status.Limit = 7
+code_of status.NoMemory = 8
+
+-- ---- what is told
+-- Of a text: its bytes, where the store tells them, and how many faults had come under its name before, and have come now.
+pub record Told : Type 0 where
+  pub text : Option (List ℕ)
+  pub before : ℕ
+  pub now : ℕ
+
+abbrev pub HasFailed : Told → Type 0
+HasFailed told = Rose told.before told.now
+
+pub record BothTold : Type 0 where
+  pub case : Told
+  pub proof : Told
+
+-- of the texts under two names, by the texts and counts of a store
+abbrev pub both_told : (List ℕ → Option (List ℕ)) → (List ℕ → ℕ) → (List ℕ → ℕ) → List ℕ → List ℕ → BothTold
+both_told text before now case proof = record {
+  case = record { text = text case; before = before case; now = now case };
+  proof = record { text = text proof; before = before proof; now = now proof };
+}
+
+-- ---- the causes
+-- the text, where it is told, spells a case whose terms are within the limits, and this holds of it
+abbrev pub HasTerms : Option (List ℕ) → (Schema → CaseText → Type 0) → Type 0
+HasTerms case P = HasCase case (λ schema written. (size_fault schema written ≡ None) × P schema written)
+
+abbrev pub OfAny : Schema → CaseText → Type 0
+OfAny schema written = Unit {0}
+
+abbrev pub AreEquivalent : Schema → CaseText → Type 0
+AreEquivalent schema written = Equivalent schema written.left written.right
+
+-- The text of the proof is within its length, and this holds of it, of the queries' width and of their terms.
+abbrev pub IsProofOf : (ℕ → U → U → List ℕ → Type 0) → Schema → CaseText → List ℕ → Type 0
+IsProofOf P schema written text =
+    (length text ≤ most_proof_bytes) × P (width_of schema written.left) (term_of schema written.left) (term_of schema written.right) text
+
+-- Both texts, where they are told, are a case and a proof of which this holds.
+abbrev pub HasBoth : Option (List ℕ) → Option (List ℕ) → (Schema → CaseText → Type 0) → (ℕ → U → U → List ℕ → Type 0) → Type 0
+HasBoth case proof Of P = HasTerms case (λ schema written. Of schema written × IfSome proof (IsProofOf P schema written))
+
+-- the text is within its length, and refused for this fault
+abbrev pub IsRefusedFor : CaseFault → List ℕ → Type 0
+IsRefusedFor fault text = (length text ≤ most_case_bytes) × IsRefused text fault
+
+abbrev pub IsLongCase : List ℕ → Type 0
+IsLongCase text = most_case_bytes < length text
+
+abbrev pub IsLongProof : List ℕ → Type 0
+IsLongProof text = most_proof_bytes < length text
+
+-- What a verdict of a check says of the two texts. The first cause in this order decides: the case can't be read, is too long, is refused, has
+-- too big a term; the proof can't be read, is too long, is no proof text; the first step without a result; the end.
+abbrev pub IsJust : BothTold → Verdict → Type 0
+IsJust told Proved = HasBoth told.case.text told.proof.text AreEquivalent Accepted
+IsJust told (StepFails number) = HasBoth told.case.text told.proof.text OfAny (StepFailsIn number)
+IsJust told EndDiffers = HasBoth told.case.text told.proof.text OfAny EndDiffersIn
+IsJust told (CaseRefused fault) = IfSome told.case.text (IsRefusedFor fault)
+IsJust told (TermRefused fault) = HasCase told.case.text (λ schema written. IsSizeCause fault (size_fault schema written))
+IsJust told ProofRefused = HasBoth told.case.text told.proof.text OfAny IsNoProofText
+IsJust told NoSuchForm = ⊥
+IsJust told CaseUnread = HasFailed told.case
+IsJust told ProofUnread = HasFailed told.proof × HasTerms told.case.text OfAny
+IsJust told CaseTooLong = IfSome told.case.text IsLongCase
+IsJust told ProofTooLong = IfSome told.proof.text IsLongProof × HasTerms told.case.text OfAny
+IsJust told OutOfMemory = Unit {0}
+
+-- both are limits on what is counted; where a text passes both, it does so at one token
+abbrev pub AreCounts : CaseFault → CaseFault → Type 0
+AreCounts fault other =
+    (what : LimitKind) × (also : LimitKind) × (fault ≡ case_refusal.Read (read_refusal.Limit what)) × (other ≡ case_refusal.Read (read_refusal.Limit also))
+
+-- The text is refused for this fault, which is not want of memory. Where it is the limit of a count, no other count passes its own.
+pub record IsRefusedAlone (fault : CaseFault) (text : List ℕ) : Type 0 where
+  pub refused : IsRefusedFor fault text
+  pub memory : fault ≢ case_refusal.NoMemory
+  pub one_count : (other : CaseFault) → IsRefused text other → AreCounts fault other → other ≡ fault
+
+-- both texts are told, and are a case and a proof of which this holds
+abbrev pub TellsBoth : Option (List ℕ) → Option (List ℕ) → (ℕ → U → U → List ℕ → Type 0) → Type 0
+TellsBoth case proof P = IsSomeAnd case (λ c. IsSomeAnd proof (λ p. HasBoth (Some c) (Some p) OfAny P))
+
+-- The texts that a verdict speaks of are told, and they give cause for it. The causes exclude each other. A fault and want of memory have no cause
+-- in the texts, nor have words that are no form.
+abbrev pub IsCause : Verdict → Option (List ℕ) → Option (List ℕ) → Type 0
+IsCause Proved case proof = TellsBoth case proof Accepted
+IsCause (StepFails number) case proof = TellsBoth case proof (StepFailsIn number)
+IsCause EndDiffers case proof = TellsBoth case proof EndDiffersIn
+IsCause (CaseRefused fault) case proof = IsSomeAnd case (IsRefusedAlone fault)
+IsCause (TermRefused fault) case proof = IsSomeAnd case (λ c. HasCase (Some c) (λ schema written. size_fault schema written ≡ Some fault))
+IsCause ProofRefused case proof = TellsBoth case proof IsNoProofText
+IsCause CaseTooLong case proof = IsSomeAnd case IsLongCase
+IsCause ProofTooLong case proof = IsSomeAnd case (λ c. HasTerms (Some c) OfAny) × IsSomeAnd proof IsLongProof
+IsCause _ case proof = ⊥
+
+-- The headline. The case's text, where it is told, is within its length and spells statements that build this schema, and two queries. They are
+-- well formed over it and of one width, and they are equivalent. The proof's text, where it is told, is within its length and accepted for their
+-- terms.
+pub record IsProved (case proof : Option (List ℕ)) : Type 0 where
+  pub schema : Schema
+  pub written : CaseText
+  pub spelled : IfSome case (λ text. Spells text schema written)
+  pub views_well_formed : SchemaWellFormed schema
+  pub left_well_formed : WellFormed schema written.left
+  pub right_well_formed : WellFormed schema written.right
+  pub one_width : width_of schema written.left ≡ width_of schema written.right
+  pub equivalent : Equivalent schema written.left written.right
+  pub accepted : IfSome proof (IsProofOf Accepted schema written)
+
+-- what a verdict says of the words, and by them of the texts and counts of a store
+abbrev pub IsFound : List (String Global) → (List ℕ → List ℕ → BothTold) → Verdict → Type 0
+IsFound words told verdict =
+    AsksCheck words (λ case proof. IsJust (told case proof) verdict) ⊎ ((verdict ≡ NoSuchForm) × AsksNothing words)
+
+-- ---- faults and limits
+-- The store failed at the name of the case, or at that of the proof, and then the case is in order.
+abbrev pub HasReadFault : BothTold → Type 0
+HasReadFault told = HasFailed told.case ⊎ (HasFailed told.proof × HasTerms told.case.text OfAny)
+
+-- A limit is passed: by the length of the case, by what it spells, by one of its terms, or by the length of the proof, and then the case is in
+-- order.
+abbrev pub PassesLimit : Option (List ℕ) → Option (List ℕ) → Type 0
+PassesLimit case proof =
+    IfSome case IsLongCase
+    ⊎ (((fault : CaseFault) × (case_status fault ≡ status.Limit) × IfSome case (IsRefusedFor fault))
+    ⊎ (HasCase case (λ schema written. size_fault schema written ≢ None)
+    ⊎ (IfSome proof IsLongProof × HasTerms case OfAny)))
+
+-- ---- the output
+-- The text of a verdict was written and its status answered; or a write failed after a part of it; or there was no memory for the line, and
+-- nothing was written.
+abbrev pub IsSaid : Verdict → Option (List ℕ) → Option (List ℕ) → ℕ → ℕ → Status → Type 0
+IsSaid verdict old new before now answer =
+    ((answer ≡ status_of verdict) × Grows old new (text_of verdict))
+    ⊎ (((answer ≡ status.WriteFault) × Rose before now × GrowsByPrefix old new (text_of verdict))
+    ⊎ ((answer ≡ status.NoMemory) × (new ≡ old)))
+
+-- the store or the sink failed, or there was no memory
+abbrev pub IsFaultOrNoMemory : Status → Type 0
+IsFaultOrNoMemory answer = (answer ≡ status.ReadFault) ⊎ ((answer ≡ status.WriteFault) ⊎ (answer ≡ status.NoMemory))
+
+-- The status of a verdict was answered and exactly its text written, unless the store or the sink failed or there was no memory.
+abbrev pub IsAnswer : Verdict → Option (List ℕ) → Option (List ℕ) → Status → Type 0
+IsAnswer verdict old new answer = ((answer ≡ status_of verdict) × Grows old new (text_of verdict)) ⊎ IsFaultOrNoMemory answer

@@ -1,0 +1,23 @@
+//! Everything that the program does, over any store and any sink.
+#![tactic(auto)]
+
+mod answer;
+mod argument;
+mod checker;
+mod fault;
+pub mod laws;
+mod lines;
+mod output;
+mod step;
+#[cfg(test)]
+mod tests;
+mod top;
+
+pub use answer::Status;
+pub use top::run;
+
+/// The most bytes of a case.
+pub const CASE_LIMIT: usize = 1_048_576;
+
+/// The most bytes of a proof.
+pub const PROOF_LIMIT: usize = 1_073_741_824;

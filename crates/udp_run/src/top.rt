@@ -1,0 +1,176 @@
+//! The top call: everything that the program does, over any store and any sink.
+ghost use Rattle.std.specs.Prelude.{◌≡◌, ◌≤◌, List, [], ℕ, length, codes, IfSome, IfOk, IfErr};
+ghost use Rattle.u_terms.specs.declared.term.U.{U as TheU};
+ghost use Rattle.udp_io.specs.Faults.{Rose};
+ghost use Rattle.udp_io.specs.Writing.{Grows};
+ghost use Rattle.udp_run.specs.Checking.{Accepted};
+ghost use Rattle.udp_run.specs.Answer.{AsksCheck, AsksNothing, HasReadFault, IsAnswer, IsCause, IsCheck, IsFound, IsJust, IsProved, IsSaid, PassesLimit, TellsBoth, both_told};
+ghost use Rattle.udp_run.specs.Output.{line};
+ghost use Rattle.udp_run.specs.Runs.{IsCaseCause, IsCaseRead, IsProofCause, IsProofVerdict, ShowsOf};
+ghost use Rattle.udp_run.specs.declared.answer.Verdict.{Verdict as TheVerdict};
+
+use crate::answer::{Status, Verdict};
+use crate::checker::{Shown, check};
+use crate::fault::ProofFault;
+use crate::{CASE_LIMIT, PROOF_LIMIT};
+use case_core::{Case, terms};
+use std::alloc::Global;
+use u_terms::U;
+use udp_io::{ReadAllFault, Sink, Store, read_all, write_all};
+
+// Reads the case, or finds why there is none.
+fn read_case<S: Store>(alloc: Global, name: &str, store: &mut S) -> Result<Case, Verdict>
+    ensures read { IfOk result (IsCaseRead (S.text store.old name.now)) }
+    ensures fault { IfErr result (IsCaseCause (record { text = S.text store.old name.now; before = S.faults store.old name.now; now = S.faults store.new name.now })) }
+    ensures same_texts { (other : List ℕ) → S.text store.new other ≡ S.text store.old other }
+    ensures later { (other : List ℕ) → S.faults store.old other ≤ S.faults store.new other }
+{
+    let text = match read_all(alloc, store, name, CASE_LIMIT) {
+        Ok(text) => text,
+        Err(ReadAllFault::ReadFault) => return Err(Verdict::CaseUnread),
+        Err(ReadAllFault::TooLong) => return Err(Verdict::CaseTooLong),
+        Err(ReadAllFault::NoMemory) => return Err(Verdict::OutOfMemory),
+    };
+    match case_core::read_case(alloc, text.as_slice()) {
+        Ok(case) => Ok(case),
+        Err(fault) => Err(Verdict::CaseRefused(fault)),
+    }
+}
+
+// Reads the proof, or finds why there is none.
+fn read_proof<S: Store>(alloc: Global, name: &str, store: &mut S) -> Result<Vec<u8>, Verdict>
+    ensures told { IfOk result (λ bytes. IfSome (S.text store.old name.now) (λ text. bytes.items ≡ text)) }
+    ensures within { IfOk result (λ bytes. length bytes.items ≤ PROOF_LIMIT) }
+    ensures fault { IfErr result (IsProofCause (record { text = S.text store.old name.now; before = S.faults store.old name.now; now = S.faults store.new name.now })) }
+    ensures later { (other : List ℕ) → S.faults store.old other ≤ S.faults store.new other }
+{
+    match read_all(alloc, store, name, PROOF_LIMIT) {
+        Ok(text) => Ok(text),
+        Err(ReadAllFault::ReadFault) => Err(Verdict::ProofUnread),
+        Err(ReadAllFault::TooLong) => Err(Verdict::ProofTooLong),
+        Err(ReadAllFault::NoMemory) => Err(Verdict::OutOfMemory),
+    }
+}
+
+// What the bytes of a proof show of two terms.
+fn check_bytes(alloc: Global, outs: u32, left: &U, right: &U, proof: &[u8]) -> Verdict
+    ensures { ShowsOf outs left.now right.now proof.now result }
+{
+    match check(alloc, outs, left, right, proof) {
+        Ok(Shown::Proved) => Verdict::Proved,
+        Ok(Shown::StepFails { line }) => Verdict::StepFails { line },
+        Ok(Shown::EndDiffers) => Verdict::EndDiffers,
+        Err(ProofFault::Malformed) => Verdict::ProofRefused,
+        Err(ProofFault::NoMemory) => Verdict::OutOfMemory,
+    }
+}
+
+// Checks the proof under the name against two terms.
+fn check_proof<S: Store>(
+    alloc: Global,
+    outs: u32,
+    left: &U,
+    right: &U,
+    name: &str,
+    store: &mut S,
+) -> Verdict
+    ensures found { IsProofVerdict outs left.now right.now
+        (record { text = S.text store.old name.now; before = S.faults store.old name.now; now = S.faults store.new name.now }) result }
+    ensures later { (other : List ℕ) → S.faults store.old other ≤ S.faults store.new other }
+{
+    match read_proof(alloc, name, store) {
+        Ok(bytes) => check_bytes(alloc, outs, left, right, bytes.as_slice()),
+        Err(verdict) => verdict,
+    }
+}
+
+// Checks the proof under the one name against the case under the other.
+fn check_texts<S: Store>(alloc: Global, case: &str, proof: &str, store: &mut S) -> Verdict
+    ensures { IsJust (both_told (S.text store.old) (S.faults store.old) (S.faults store.new) case.now proof.now) result }
+{
+    let case = match read_case(alloc, case, store) {
+        Ok(case) => case,
+        Err(verdict) => return verdict,
+    };
+    match terms(alloc, &case) {
+        Ok((left, right)) => check_proof(alloc, case.outs(), &left, &right, proof, store),
+        Err(fault) => Verdict::TermRefused(fault),
+    }
+}
+
+// What the words ask for, found from the texts of the store.
+fn find_verdict<S: Store>(alloc: Global, words: &[String], store: &mut S) -> Verdict
+    ensures { IsFound words.now (both_told (S.text store.old) (S.faults store.old) (S.faults store.new)) result }
+{
+    match words {
+        [verb, case, proof] if verb.as_str() == "check" => check_texts(
+            alloc,
+            case.as_str(),
+            proof.as_str(),
+            store,
+        ),
+        _ => Verdict::NoSuchForm,
+    }
+}
+
+// Writes the line of what was found, and answers how the run ended.
+fn say<K: Sink>(alloc: Global, verdict: &Verdict, out: &mut K) -> Status
+    ensures { IsSaid verdict.now (K.written out.old) (K.written out.new) (K.faults out.old) (K.faults out.new) result }
+{
+    let Ok(line) = verdict.line(alloc) else {
+        return Status::NoMemory;
+    };
+    match write_all(out, line.as_slice()) {
+        Ok(()) => verdict.status(),
+        Err(_) => Status::WriteFault,
+    }
+}
+
+/// Does what the words ask, and answers how it ended.
+///
+/// The words are those after the program's name: `check CASE PROOF`, where the store has the two texts under the names. One
+/// line is written. Where the store or the sink tells no content, the clauses say nothing of it.
+pub fn run<S: Store, K: Sink>(alloc: Global, words: &[String], store: &mut S, out: &mut K) -> Status
+    // What is answered and written is one verdict's, and that verdict is just.
+    ensures answer { (verdict : TheVerdict)
+        × IsFound words.now (both_told (S.text store.old) (S.faults store.old) (S.faults store.new)) verdict
+        × IsSaid verdict (K.written out.old) (K.written out.new) (K.faults out.old) (K.faults out.new) result }
+
+    // The headline. Where it ends with `Done` on a check, the case spells a schema and two queries that are well formed over it and of one
+    // width, every row occurs in both answers equally often on every database that meets the schema, the proof is accepted for their terms, and
+    // exactly `proved` and a line feed were written.
+    ensures done { result ≡ Status.Done → (case proof : List ℕ) → IsCheck words.now case proof →
+        IsProved (S.text store.old case) (S.text store.old proof)
+        × Grows (K.written out.old) (K.written out.new) (line (codes "proved")) }
+
+    // Completeness. Where both texts are told and within their lengths, the case is spelled, well formed, of one width and within the limits, and
+    // the proof is accepted for its terms, the answer is `proved`, unless the store or the sink fails or memory runs out.
+    ensures complete { AsksCheck words.now (λ case proof. TellsBoth (S.text store.old case) (S.text store.old proof) Accepted) →
+        IsAnswer Verdict.Proved (K.written out.old) (K.written out.new) result }
+
+    // So with every verdict: where the texts give cause for it, it is the answer, with the same exceptions.
+    ensures exact { (verdict : TheVerdict) →
+        AsksCheck words.now (λ case proof. IsCause verdict (S.text store.old case) (S.text store.old proof)) →
+        IsAnswer verdict (K.written out.old) (K.written out.new) result }
+
+    // `Usage` is answered exactly where the words are no form.
+    ensures usage { result ≡ Status.Usage → AsksNothing words.now }
+    ensures no_form { AsksNothing words.now →
+        IsSaid Verdict.NoSuchForm (K.written out.old) (K.written out.new) (K.faults out.old) (K.faults out.new) result }
+
+    // A read fault comes only where the store failed at the name of the case, or at that of the proof, and then the case is in order.
+    ensures read_fault { result ≡ Status.ReadFault → AsksCheck words.now (λ case proof.
+        HasReadFault (both_told (S.text store.old) (S.faults store.old) (S.faults store.new) case proof)) }
+
+    // A write fault comes only where the sink failed.
+    ensures write_fault { result ≡ Status.WriteFault → Rose (K.faults out.old) (K.faults out.new) }
+
+    // A limit is answered only where the case or the proof passes one.
+    ensures limits { result ≡ Status.Limit → AsksCheck words.now (λ case proof. PassesLimit (S.text store.old case) (S.text store.old proof)) }
+
+    // Without memory nothing was written.
+    ensures memory { result ≡ Status.NoMemory → Grows (K.written out.old) (K.written out.new) [] }
+{
+    let verdict = find_verdict(alloc, words, store);
+    say(alloc, &verdict, out)
+}
