@@ -1,0 +1,149 @@
+//! A row, and how one is read.
+
+use crate::fault::RowFault;
+use crate::field::{Field, FieldKind};
+use crate::outcome::Outcome;
+use std::alloc::{AllocError, Global};
+
+/// A text under a name.
+#[derive(Drop)]
+pub struct Text {
+    pub name: String,
+    pub bytes: Vec<u8>,
+}
+
+/// What is run, and what is to come of it.
+#[derive(Drop)]
+pub struct Row {
+    pub name: String,
+    pub words: Vec<String>,
+    pub texts: Vec<Text>,
+    pub expected: Outcome,
+}
+
+impl Row {
+    fn set_text(&mut self, name: String, bytes: Vec<u8>) -> Result<(), RowFault> {
+        self.texts
+            .retain(|text| text.name.as_str() != name.as_str());
+        self.texts.push(Text { name, bytes })?;
+        Ok(())
+    }
+}
+
+fn words(alloc: Global, text: &str) -> Result<Vec<String>, AllocError> {
+    text.split_whitespace()
+        .map(|word| String::from_str(alloc, word))
+        .try_collect(alloc)
+}
+
+/// Reads rows line by line. What a row does not say stays as it was said before it, but for the output.
+#[derive(Drop)]
+pub struct RowReader {
+    alloc: Global,
+    row: Row,
+    /// Whether a row has begun.
+    has_row: bool,
+    /// Whether it has an output.
+    has_output: bool,
+    /// The field that indented lines belong to.
+    field: Option<Field>,
+}
+
+impl RowReader {
+    pub fn new(alloc: Global) -> RowReader {
+        RowReader {
+            alloc,
+            row: Row {
+                name: String::new(alloc),
+                words: Vec::new(alloc),
+                texts: Vec::new(alloc),
+                expected: Outcome {
+                    status: 0,
+                    written: Vec::new(alloc),
+                },
+            },
+            has_row: false,
+            has_output: false,
+            field: None,
+        }
+    }
+
+    /// Reads the next line, which begins no row where one is not whole.
+    pub fn read_line(&mut self, line: &str) -> Result<(), RowFault> {
+        if let Some(part) = line.strip_prefix("  ") {
+            return match self.field.as_mut() {
+                Some(field) => field.read_line(part),
+                None => Err(RowFault::NoField),
+            };
+        }
+        if line.is_empty() || line.starts_with('#') {
+            return Ok(());
+        }
+        self.end_field()?;
+        let (word, rest) = line.split_once(' ').unwrap_or((line, ""));
+        self.begin_field(word, rest)
+    }
+
+    /// The row that is read, if one has begun.
+    pub fn row(&mut self) -> Result<Option<&Row>, RowFault> {
+        self.end_field()?;
+        if !self.has_row {
+            return Ok(None);
+        }
+        if !self.has_output {
+            return Err(RowFault::NoOutput);
+        }
+        Ok(Some(&self.row))
+    }
+
+    fn begin_field(&mut self, word: &str, rest: &str) -> Result<(), RowFault> {
+        match word {
+            "row" => {
+                self.row.name = String::from_str(self.alloc, rest)?;
+                self.has_row = true;
+                self.has_output = false;
+            }
+            "words" => self.row.words = words(self.alloc, rest)?,
+            "status" => {
+                self.row.expected.status = rest.parse().map_err(|_| RowFault::BadStatus)?;
+            }
+            "text" => {
+                let name = String::from_str(self.alloc, rest)?;
+                self.field = Some(Field::new(self.alloc, FieldKind::Text(name)));
+            }
+            "lines" => {
+                let name = String::from_str(self.alloc, rest)?;
+                self.field = Some(Field::new(self.alloc, FieldKind::Lines(name)));
+            }
+            "output" => return self.begin_output(rest),
+            _ => return Err(RowFault::NoSuchField),
+        }
+        Ok(())
+    }
+
+    // An output may have its first line beside the word.
+    fn begin_output(&mut self, first: &str) -> Result<(), RowFault> {
+        let mut field = Field::new(self.alloc, FieldKind::Output);
+        if !first.is_empty() {
+            field.read_line(first)?;
+        }
+        self.field = Some(field);
+        Ok(())
+    }
+
+    // Ends the field that is read, where there is one.
+    fn end_field(&mut self) -> Result<(), RowFault> {
+        let Some(field) = self.field.take() else {
+            return Ok(());
+        };
+        let bytes = field.template.finish()?;
+        match field.kind {
+            FieldKind::Text(name) | FieldKind::Lines(name) => self.row.set_text(name, bytes),
+            FieldKind::Output => {
+                self.row.expected.written = bytes;
+                self.has_output = true;
+                Ok(())
+            }
+        }
+    }
+}

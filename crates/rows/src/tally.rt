@@ -1,0 +1,37 @@
+//! How many rows there are, and how many of them came out otherwise than expected.
+ghost use Rattle.std.specs.Prelude.{◌≡◌, ◌↔◌, IsTrue};
+
+use std::fmt;
+
+#[derive(Clone, Copy, Debug, Default)]
+pub struct Tally {
+    pub rows: u64,
+    pub differing: u64,
+}
+
+impl Tally {
+    /// Counts a row. The counts stop at the last value of a `u64`.
+    pub fn count(&mut self, is_as_expected: bool)
+        ensures { (self.new.differing ≡ 0) ↔ (self.old.differing ≡ 0) × IsTrue is_as_expected }
+    {
+        self.rows = self.rows.saturating_add(1);
+        if !is_as_expected {
+            self.differing = self.differing.saturating_add(1);
+        }
+    }
+
+    /// The status of the program.
+    pub fn code(self) -> u8
+        ensures { (result ≡ 0) ↔ (self.differing ≡ 0) }
+    {
+        if self.differing == 0 { 0 } else { 1 }
+    }
+}
+
+impl fmt::Display for Tally {
+    fn fmt<W: fmt::Write>(&self, f: &mut fmt::Formatter<W>) -> fmt::Result {
+        let rows = self.rows;
+        let as_expected = rows.saturating_sub(self.differing);
+        write!(f, "{as_expected} of {rows} rows as expected")
+    }
+}
