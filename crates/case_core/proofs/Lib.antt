@@ -7,3 +7,4 @@ pub mod CaseSteps
 pub mod WholeCases
 pub mod Texts
 pub mod CaseTerms
+pub mod LimitsOnce

@@ -4,10 +4,12 @@ ghost use Rattle.grammar.specs.Form.{Room};
 ghost use Rattle.grammar.specs.Language.{HasFronts, Includes, IsUnambiguous};
 ghost use Rattle.sql_lex.specs.Lexemes.{Lexeme};
 ghost use Rattle.sql_grammar.specs.Numbering.{Built, Numbers};
+ghost use Rattle.sql_read.specs.declared.fault.LimitKind.{LimitKind as What};
 ghost use Rattle.schema_read.specs.Statements.{of_form};
 ghost use Rattle.case_core.specs.declared.text.CaseText.{CaseText as Written};
 ghost use Rattle.case_core.specs.CaseGrammar as g;
 ghost use Rattle.case_core.specs.Cases.{BeginsCase, SpellsCase, cases, shallow_cases};
+ghost use Rattle.case_core.specs.Refusals.{PassesCopies, PassesCount, PassesDepth};
 
 /// No text spells two cases, and no list of tokens two values of one.
 pub fn one_case()
@@ -28,4 +30,15 @@ pub fn fronts()
 /// What is spelled within the limits is spelled, and a front within them is a front.
 pub fn limits()
     ensures { Includes cases shallow_cases }
+{}
+
+/// Each limit is passed at no more than one token of a text.
+pub fn passed_once()
+    ensures depth { (copied : ℕ) (tokens : List Lexeme) (at place : ℕ) (one : PassesDepth copied tokens at) (other : PassesDepth copied tokens place) →
+        (one.taken ≡ other.taken) × (one.token ≡ other.token) }
+    ensures places { (copied : ℕ) (tokens : List Lexeme) (at place : ℕ) → PassesDepth copied tokens at → PassesDepth copied tokens place → at ≡ place }
+    ensures counts { (copied : ℕ) (tokens : List Lexeme) (what : What) (one other : PassesCount copied tokens what) →
+        (one.taken ≡ other.taken) × (one.token ≡ other.token) }
+    ensures copies { (copied : ℕ) (tokens : List Lexeme) (one other : PassesCopies copied tokens) →
+        (one.taken ≡ other.taken) × (one.token ≡ other.token) }
 {}
