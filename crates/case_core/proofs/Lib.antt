@@ -8,3 +8,4 @@ pub mod WholeCases
 pub mod Texts
 pub mod CaseTerms
 pub mod LimitsOnce
+pub mod OneCount

@@ -42,3 +42,8 @@ pub fn passed_once()
     ensures copies { (copied : ℕ) (tokens : List Lexeme) (one other : PassesCopies copied tokens) →
         (one.taken ≡ other.taken) × (one.token ≡ other.token) }
 {}
+
+/// No two of the limits on columns, entries and relations are passed in one text.
+pub fn one_count()
+    ensures { (copied : ℕ) (tokens : List Lexeme) (what other : What) → PassesCount copied tokens what → PassesCount copied tokens other → what ≡ other }
+{}

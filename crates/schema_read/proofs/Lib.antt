@@ -39,3 +39,4 @@ pub mod CopiedLists
 pub mod CountParts
 pub mod StatedCounts
 pub mod WholeStatements
+pub mod CountsApart

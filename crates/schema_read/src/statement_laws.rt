@@ -43,6 +43,13 @@ pub fn passed_once()
         IsEntryTooMany x t → IsEntryTooMany y u → x ++ t ∷ more ≡ y ++ u ∷ others → (x ≡ y) × (t ≡ u) }
 {}
 
+/// No token is one too many for two of the limits on columns, entries and relations.
+pub fn one_limit()
+    ensures columns_or_entries { (x : List Lexeme) (t : Lexeme) → IsColumnTooMany x t → IsEntryTooMany x t → ⊥ }
+    ensures relations_or_columns { (x : List Lexeme) (t : Lexeme) → IsRelationTooMany x t → IsColumnTooMany x t → ⊥ }
+    ensures relations_or_entries { (x : List Lexeme) (t : Lexeme) → IsRelationTooMany x t → IsEntryTooMany x t → ⊥ }
+{}
+
 /// No list of tokens spells two lists of statements, nor two values of them within the limits.
 pub fn one_list()
     ensures lists { (before after other : Numbers) (ts : List Lexeme) (p q : List Statement) →
