@@ -9,3 +9,4 @@ pub mod Texts
 pub mod CaseTerms
 pub mod LimitsOnce
 pub mod OneCount
+pub mod FewInCases

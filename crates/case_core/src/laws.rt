@@ -1,14 +1,16 @@
 //! Laws of the definitions, each the contract of a function that does nothing.
 ghost use Rattle.std.specs.Prelude.{◌≡◌, ◌++◌, List, [], ℕ};
+ghost use Rattle.data_model.specs.Lists.{Each};
 ghost use Rattle.grammar.specs.Form.{Room};
 ghost use Rattle.grammar.specs.Language.{HasFronts, Includes, IsUnambiguous};
 ghost use Rattle.sql_lex.specs.Lexemes.{Lexeme};
 ghost use Rattle.sql_grammar.specs.Numbering.{Built, Numbers};
 ghost use Rattle.sql_read.specs.declared.fault.LimitKind.{LimitKind as What};
+ghost use Rattle.schema_read.specs.FewEntries.{HasFewEntries, ViewHasFew};
 ghost use Rattle.schema_read.specs.Statements.{of_form};
 ghost use Rattle.case_core.specs.declared.text.CaseText.{CaseText as Written};
 ghost use Rattle.case_core.specs.CaseGrammar as g;
-ghost use Rattle.case_core.specs.Cases.{BeginsCase, SpellsCase, cases, shallow_cases};
+ghost use Rattle.case_core.specs.Cases.{BeginsCase, IsRead, SpellsCase, cases, shallow_cases};
 ghost use Rattle.case_core.specs.Refusals.{PassesCopies, PassesCount, PassesDepth};
 
 /// No text spells two cases, and no list of tokens two values of one.
@@ -46,4 +48,11 @@ pub fn passed_once()
 /// No two of the limits on columns, entries and relations are passed in one text.
 pub fn one_count()
     ensures { (copied : ℕ) (tokens : List Lexeme) (what other : What) → PassesCount copied tokens what → PassesCount copied tokens other → what ≡ other }
+{}
+
+/// No block of a case that is read has more than 32 entries: of its queries, of its views, or of a subquery of these.
+pub fn few_in_each_block()
+    ensures views { (text : List ℕ) (written : Written) (numbers : Numbers) → IsRead text written numbers → Each (ViewHasFew 32) written.statements }
+    ensures left { (text : List ℕ) (written : Written) (numbers : Numbers) → IsRead text written numbers → HasFewEntries 32 written.left }
+    ensures right { (text : List ℕ) (written : Written) (numbers : Numbers) → IsRead text written numbers → HasFewEntries 32 written.right }
 {}

@@ -40,3 +40,5 @@ pub mod CountParts
 pub mod StatedCounts
 pub mod WholeStatements
 pub mod CountsApart
+pub mod FewTrees
+pub mod FewQueries

@@ -1,15 +1,18 @@
 //! Laws of the grammar of statements, each the contract of a function that does nothing.
-ghost use Rattle.std.specs.Prelude.{◌≡◌, ◌≤◌, ◌+◌, ℕ, suc, ◌++◌, ◌∷◌, List, [], length};
+ghost use Rattle.std.specs.Prelude.{◌≡◌, ◌≤◌, ◌+◌, ℕ, suc, ◌++◌, ◌∷◌, List, [], length, None};
 ghost use Rattle.data_model.specs.Lists.{Each};
-ghost use Rattle.grammar.specs.Form.{Room};
+ghost use Rattle.grammar.specs.Form.{Room, language};
 ghost use Rattle.grammar.specs.Language.{HasFronts, Includes, IsUnambiguous};
 ghost use Rattle.grammar.specs.Lookahead.{HasLookahead};
 ghost use Rattle.sql_lex.specs.Lexemes.{Lexeme};
 ghost use Rattle.sql_model.specs.declared.statement.Statement.{Statement};
+ghost use Rattle.sql_model.specs.declared.tree.Query.{Query as Tree};
 ghost use Rattle.sql_grammar.specs.Kinds.{kind_of};
 ghost use Rattle.sql_grammar.specs.Numbering.{Built, Numbers};
 ghost use Rattle.sql_grammar.specs.QueryCopies.{most_copies};
-ghost use Rattle.sql_grammar.specs.QueryEntries.{most_further};
+ghost use Rattle.sql_grammar.specs.QueryEntries.{few_rules, most_further};
+ghost use Rattle.sql_grammar.specs.QueryGrammar.{query};
+ghost use Rattle.schema_read.specs.FewEntries.{HasFewEntries, ViewHasFew};
 ghost use Rattle.schema_read.specs.StatementGrammar as g;
 ghost use Rattle.schema_read.specs.StatementLimits.{CopiesFew, IsColumnTooMany, IsCopyTooMany, IsEntryTooMany, IsRelationTooMany, column_count, few_entry_statements, few_statements, narrow_statements, rule_count};
 ghost use Rattle.schema_read.specs.StatementLookahead.{of_statements};
@@ -94,6 +97,14 @@ pub fn few_rules()
 pub fn few_entries()
     ensures { (most : ℕ) (before after : Numbers) (ts : List Lexeme) (list : List Statement) →
         length ts ≤ most → Spells before ts list after → SpellsIn (few_entry_statements most) before ts list after }
+{}
+
+/// What is spelled with so many further entries in each block is a tree in which no block has more, at any depth.
+pub fn few_in_each_block()
+    ensures queries { (most : ℕ) (before after : Numbers) (ts : List Lexeme) (tree : Tree) (read : Built Tree) →
+        (language kind_of (few_rules most) None query).spells ts read → read.build before ≡ (tree, after) → HasFewEntries (suc most) tree }
+    ensures views { (most : ℕ) (before after : Numbers) (ts : List Lexeme) (list : List Statement) →
+        SpellsIn (few_entry_statements most) before ts list after → Each (ViewHasFew (suc most)) list }
 {}
 
 /// The limit on what views copy is passed at no more than one token of a text, and at none of statements that are within it.
