@@ -58,7 +58,7 @@ always_perhaps : {X : Type 0} {P : X → Type 0} (b : Option (Built X)) → Perh
 always_perhaps None f = record { holds = λ numbers. tt }
 always_perhaps (Some b) f = record { holds = λ numbers. f.holds numbers }
 
-each_length : {X : Type 0} (bs : List (Built X)) (numbers : Numbers) → length ((each bs).build numbers).0 ≡ length bs
+pub each_length : {X : Type 0} (bs : List (Built X)) (numbers : Numbers) → length ((each bs).build numbers).0 ≡ length bs
 each_length [] numbers = refl
 each_length (b ∷ bs) numbers = omega (arith, each_length bs (b.build numbers).1)
 
@@ -68,8 +68,11 @@ each_of all [] ts s = tt
 each_of all (v ∷ vs) ts (x, y, e, s, r) = (all x v s, each_of all vs y r)
 
 -- the parts of a block
-abbrev Parts : Type 0
+abbrev pub Parts : Type 0
 Parts = Option Lexeme × ((Built Item × List (Built Item)) × (grammar.Froms × (Option (Built Expr) × (Option (Expr × List Expr) × Option (Built Expr)))))
+
+abbrev pub block_from : Parts → Built Query
+block_from p = t.block_of p.0 p.1.0 p.1.1.0 p.1.1.1.0 p.1.1.1.1.0 p.1.1.1.1.1
 
 -- ---- parts
 
@@ -290,9 +293,6 @@ module _ (m : ℕ) where
         (group_good x5 p.1.1.1.1.1.0 gs)
         (perhaps_in (skip_then (grammar.a k.Having) (ref expr)) BuiltExpr (behind (grammar.a k.Having) (ref expr) BuiltExpr (names expr)) y5 p.1.1.1.1.1.1 hs))
       where
-        block_from : Parts → Built Query
-        block_from p = t.block_of p.0 p.1.0 p.1.1.0 p.1.1.1.0 p.1.1.1.1.0 p.1.1.1.1.1
-
         of_parts : (d : Option Lexeme) (items : Built Item × List (Built Item)) (froms : grammar.Froms) (cond : Option (Built Expr)) (groups : Option (Expr × List Expr)) (having : Option (Built Expr))
             → Always (OfItem (suc m)) items.0 × Each (λ b. Always (OfItem (suc m)) b) items.1 → Always AreFew (each (t.all_of froms)) → Perhaps BuiltExpr cond → Perhaps (Each (OfExpr (suc m))) (t.columns_of groups)
             → Perhaps BuiltExpr having → BuiltQuery (t.block_of d items froms cond groups having)

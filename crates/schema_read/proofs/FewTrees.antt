@@ -274,3 +274,194 @@ module _ (most : ℕ) where
   compared_few k.Minus x y f g = (g, (f, tt))
   compared_few k.Slash x y f g = (g, (f, tt))
   compared_few k.Concat x y f g = (g, (f, tt))
+
+  -- ---- and back
+
+  exprs_back : (xs : List Expr) → few.ExprsHaveFew most (row_of xs) → Each OfExpr xs
+  unfolding everything few.HasFewEntries
+  exprs_back [] f = tt
+  exprs_back (x ∷ xs) f = (f.0, exprs_back xs f.1)
+
+  items_back : (xs : List Item) → few.ItemsHaveFew most (items_row xs) → Each OfItem xs
+  unfolding everything few.HasFewEntries
+  items_back [] f = tt
+  items_back (x ∷ xs) f = (f.0, items_back xs f.1)
+
+  entry_rolled_back : (s : Source) (alias : n.Name) (at : ℕ) (joined : Bool) (on : Option Expr) (es : List Entry)
+      → few.EntriesHaveFew most (entries_row (roll-Entry (record { source = s; alias = alias; at = at; joined = joined; on = on }) ∷ es))
+      → OfEntry (roll-Entry (record { source = s; alias = alias; at = at; joined = joined; on = on })) × few.EntriesHaveFew most (entries_row es)
+  unfolding everything few.HasFewEntries
+  entry_rolled_back s alias at joined None es f = ((f.0, f.1, tt), f.2)
+  entry_rolled_back s alias at joined (Some x) es f = ((f.0, f.1, tt), f.2)
+
+  entry_then_back : (e : Entry) (es : List Entry) → few.EntriesHaveFew most (entries_row (e ∷ es)) → OfEntry e × few.EntriesHaveFew most (entries_row es)
+  entry_then_back e es =
+      let E = out-Entry e in
+      subst (λ x. few.EntriesHaveFew most (entries_row (x ∷ es)) → OfEntry x × few.EntriesHaveFew most (entries_row es)) (roll-out-Entry e) (entry_rolled_back E.source E.alias E.at E.joined E.on es)
+
+  entries_back : (es : List Entry) → few.EntriesHaveFew most (entries_row es) → Each OfEntry es
+  entries_back [] f = tt
+  entries_back (e ∷ es) f = let g = entry_then_back e es f in (g.0, entries_back es g.1)
+
+  pub entry_of_back : (joined : Bool) (on : Option Expr) (listed : Listed) → OfEntry (t.entry_of joined on listed) → OfSource listed.source × Perhaps OfExpr on
+  unfolding everything few.HasFewEntries
+  entry_of_back joined None listed f = (f.0, tt)
+  entry_of_back joined (Some x) listed f = (f.0, f.1)
+
+  -- what a block holds
+  pub record BlockHas (items : List Item) (entries : List Entry) (c h : Option Expr) : Type 0 where
+    pub items_few : Each OfItem items
+    pub count : length entries ≤ most
+    pub entries_few : Each OfEntry entries
+    pub cond : Perhaps OfExpr c
+    pub having : Perhaps OfExpr h
+
+  module _ (d : Bool) (items : List Item) (entries : List Entry) where
+    block_has : {c h : Option Expr} → entry_count (entries_row entries) ≤ most → few.EntriesHaveFew most (entries_row entries) → Perhaps OfExpr c → few.ItemsHaveFew most (items_row items) → Perhaps OfExpr h
+        → BlockHas items entries c h
+    block_has l e c i h = record { items_few = items_back items i; count = omega (arith, l, entries_counted entries); entries_few = entries_back entries e; cond = c; having = h }
+
+    pub block_back : (c : Option Expr) (g : Option (List Expr)) (h : Option Expr) → few.HasFewEntries most (t.block_node d items entries c g h) → BlockHas items entries c h
+    unfolding everything few.HasFewEntries
+    block_back None None None f = block_has f.0 f.1 tt f.4 tt
+    block_back None None (Some z) f = block_has f.0 f.1 tt f.4 f.5
+    block_back None (Some y) None f = block_has f.0 f.1 tt f.4 tt
+    block_back None (Some y) (Some z) f = block_has f.0 f.1 tt f.4 f.5
+    block_back (Some x) None None f = block_has f.0 f.1 f.2 f.4 tt
+    block_back (Some x) None (Some z) f = block_has f.0 f.1 f.2 f.4 f.5
+    block_back (Some x) (Some y) None f = block_has f.0 f.1 f.2 f.4 tt
+    block_back (Some x) (Some y) (Some z) f = block_has f.0 f.1 f.2 f.4 f.5
+
+  pub set_back : (o : n.SetOp) (left right : n.Query) (at : ℕ) → few.HasFewEntries most (query.Set o left right at) → few.HasFewEntries most left × few.HasFewEntries most right
+  unfolding everything few.HasFewEntries
+  set_back o left right at f = f
+
+  pub value_back : (x : Expr) (name : Option n.Name) → OfItem (item.Value x name) → OfExpr x
+  unfolding everything few.HasFewEntries
+  value_back x name f = f
+
+  pub derived_back : (q : n.Query) → OfSource (source.Query q) → few.HasFewEntries most q
+  unfolding everything few.HasFewEntries
+  derived_back q f = f
+
+  pub or_back : (xs : List Expr) (at : ℕ) → OfExpr (t.or_node xs at) → Each OfExpr xs
+  unfolding everything few.HasFewEntries
+  or_back xs at f = exprs_back xs f
+
+  pub and_back : (xs : List Expr) (at : ℕ) → OfExpr (t.and_node xs at) → Each OfExpr xs
+  unfolding everything few.HasFewEntries
+  and_back xs at f = exprs_back xs f
+
+  pub fun_back : (symbol : ℕ) (xs : List Expr) (at : ℕ) → OfExpr (expr.Fun symbol xs at) → Each OfExpr xs
+  unfolding everything few.HasFewEntries
+  fun_back symbol xs at f = exprs_back xs f
+
+  pub pred_back : (symbol : ℕ) (xs : List Expr) (at : ℕ) → OfExpr (expr.Pred symbol xs at) → Each OfExpr xs
+  unfolding everything few.HasFewEntries
+  pred_back symbol xs at f = exprs_back xs f
+
+  pub call_back : (symbol : ℕ) (xs : List Expr) (at : ℕ) → OfExpr (expr.Call symbol xs at) → Each OfExpr xs
+  unfolding everything few.HasFewEntries
+  call_back symbol xs at f = exprs_back xs f
+
+  pub negated_back : (word : Option Lexeme) (x : Expr) → OfExpr (t.negated word x) → OfExpr x
+  unfolding everything few.HasFewEntries
+  negated_back None x f = f
+  negated_back (Some word) x f = f
+
+  equals_back : (x : Expr) (ys : List Expr) → Each OfExpr (t.equals_each x ys) → Each OfExpr ys
+  unfolding everything few.HasFewEntries
+  equals_back x [] f = tt
+  equals_back x (y ∷ ys) f = (f.0.1, equals_back x ys f.1)
+
+  pub member_back : (x y : Expr) (ys : List Expr) → OfExpr (t.member x y ys) → OfExpr x × (OfExpr y × Each OfExpr ys)
+  unfolding everything few.HasFewEntries
+  member_back x y [] f = (f.0, (f.1, tt))
+  member_back x y (z ∷ zs) f = let g = exprs_back (t.equals_each x (y ∷ z ∷ zs)) f in (g.0.0, equals_back x (y ∷ z ∷ zs) g)
+
+  pub bounds_back : (x low high : Expr) → OfExpr (t.bounds x low high) → OfExpr x × (OfExpr low × OfExpr high)
+  unfolding everything few.HasFewEntries
+  bounds_back x low high f = (f.0.1.0, (f.0.0, f.1.0.1.0))
+
+  pub in_back : (x : Expr) (q : n.Query) (at in_at : ℕ) → OfExpr (expr.In x q at in_at) → OfExpr x × few.HasFewEntries most q
+  unfolding everything few.HasFewEntries
+  in_back x q at in_at f = f
+
+  pub not_back : (x : Expr) (at : ℕ) → OfExpr (expr.Not x at) → OfExpr x
+  unfolding everything few.HasFewEntries
+  not_back x at f = f
+
+  pub exists_back : (q : n.Query) (at : ℕ) → OfExpr (expr.Exists q at) → few.HasFewEntries most q
+  unfolding everything few.HasFewEntries
+  exists_back q at f = f
+
+  pub sub_back : (q : n.Query) (at : ℕ) → OfExpr (expr.Sub q at) → few.HasFewEntries most q
+  unfolding everything few.HasFewEntries
+  sub_back q at f = f
+
+  pub agg_back : (fun : n.AggFun) (is_distinct : Bool) (x : Expr) (at : ℕ) → OfExpr (expr.Agg fun is_distinct (Some x) at) → OfExpr x
+  unfolding everything few.HasFewEntries
+  agg_back fun is_distinct x at f = f
+
+  pub compared_back : (kind : Kind) (x y : Expr) → OfExpr (t.compared kind x y) → OfExpr x × OfExpr y
+  unfolding everything few.HasFewEntries
+  compared_back k.All x y f = (f.1.0, f.0)
+  compared_back k.And x y f = (f.1.0, f.0)
+  compared_back k.As x y f = (f.1.0, f.0)
+  compared_back k.Between x y f = (f.1.0, f.0)
+  compared_back k.By x y f = (f.1.0, f.0)
+  compared_back k.Constraint x y f = (f.1.0, f.0)
+  compared_back k.Create x y f = (f.1.0, f.0)
+  compared_back k.Cross x y f = (f.1.0, f.0)
+  compared_back k.Distinct x y f = (f.1.0, f.0)
+  compared_back k.Except x y f = (f.1.0, f.0)
+  compared_back k.Exists x y f = (f.1.0, f.0)
+  compared_back k.Foreign x y f = (f.1.0, f.0)
+  compared_back k.From x y f = (f.1.0, f.0)
+  compared_back k.Group x y f = (f.1.0, f.0)
+  compared_back k.Having x y f = (f.1.0, f.0)
+  compared_back k.In x y f = (f.1.0, f.0)
+  compared_back k.Inner x y f = (f.1.0, f.0)
+  compared_back k.Intersect x y f = (f.1.0, f.0)
+  compared_back k.Join x y f = (f.1.0, f.0)
+  compared_back k.Like x y f = (f.1.0, f.0)
+  compared_back k.Not x y f = (f.1.0, f.0)
+  compared_back k.Null x y f = (f.1.0, f.0)
+  compared_back k.On x y f = (f.1.0, f.0)
+  compared_back k.Or x y f = (f.1.0, f.0)
+  compared_back k.Primary x y f = (f.1.0, f.0)
+  compared_back k.References x y f = (f.1.0, f.0)
+  compared_back k.Select x y f = (f.1.0, f.0)
+  compared_back k.Table x y f = (f.1.0, f.0)
+  compared_back k.Union x y f = (f.1.0, f.0)
+  compared_back k.Unique x y f = (f.1.0, f.0)
+  compared_back k.Where x y f = (f.1.0, f.0)
+  compared_back k.Count x y f = (f.1.0, f.0)
+  compared_back k.Sum x y f = (f.1.0, f.0)
+  compared_back k.Avg x y f = (f.1.0, f.0)
+  compared_back k.Min x y f = (f.1.0, f.0)
+  compared_back k.Max x y f = (f.1.0, f.0)
+  compared_back k.Key x y f = (f.1.0, f.0)
+  compared_back k.View x y f = (f.1.0, f.0)
+  compared_back k.Index x y f = (f.1.0, f.0)
+  compared_back k.Word x y f = (f.1.0, f.0)
+  compared_back k.Quoted x y f = (f.1.0, f.0)
+  compared_back k.Number x y f = (f.1.0, f.0)
+  compared_back k.Text x y f = (f.1.0, f.0)
+  compared_back k.LeftOut x y f = (f.1.0, f.0)
+  compared_back k.Open x y f = (f.1.0, f.0)
+  compared_back k.Close x y f = (f.1.0, f.0)
+  compared_back k.Comma x y f = (f.1.0, f.0)
+  compared_back k.Semicolon x y f = (f.1.0, f.0)
+  compared_back k.Dot x y f = (f.1.0, f.0)
+  compared_back k.Star x y f = (f.1.0, f.0)
+  compared_back k.Equals x y f = f
+  compared_back k.Differs x y f = f
+  compared_back k.Less x y f = (f.0, f.1.0)
+  compared_back k.AtMost x y f = (f.0, f.1.0)
+  compared_back k.Greater x y f = (f.1.0, f.0)
+  compared_back k.AtLeast x y f = (f.1.0, f.0)
+  compared_back k.Plus x y f = (f.1.0, f.0)
+  compared_back k.Minus x y f = (f.1.0, f.0)
+  compared_back k.Slash x y f = (f.1.0, f.0)
+  compared_back k.Concat x y f = (f.1.0, f.0)

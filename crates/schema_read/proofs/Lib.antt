@@ -42,3 +42,4 @@ pub mod WholeStatements
 pub mod CountsApart
 pub mod FewTrees
 pub mod FewQueries
+pub mod FewSpelled

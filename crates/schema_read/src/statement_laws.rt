@@ -9,6 +9,7 @@ ghost use Rattle.sql_model.specs.declared.statement.Statement.{Statement};
 ghost use Rattle.sql_model.specs.declared.tree.Query.{Query as Tree};
 ghost use Rattle.sql_grammar.specs.Kinds.{kind_of};
 ghost use Rattle.sql_grammar.specs.Numbering.{Built, Numbers};
+ghost use Rattle.sql_grammar.specs.Queries.{queries};
 ghost use Rattle.sql_grammar.specs.QueryCopies.{most_copies};
 ghost use Rattle.sql_grammar.specs.QueryEntries.{few_rules, most_further};
 ghost use Rattle.sql_grammar.specs.QueryGrammar.{query};
@@ -99,12 +100,16 @@ pub fn few_entries()
         length ts ≤ most → Spells before ts list after → SpellsIn (few_entry_statements most) before ts list after }
 {}
 
-/// What is spelled with so many further entries in each block is a tree in which no block has more, at any depth.
+/// With so many further entries in each block exactly the trees are spelled in which no block has more, at any depth.
 pub fn few_in_each_block()
     ensures queries { (most : ℕ) (before after : Numbers) (ts : List Lexeme) (tree : Tree) (read : Built Tree) →
         (language kind_of (few_rules most) None query).spells ts read → read.build before ≡ (tree, after) → HasFewEntries (suc most) tree }
     ensures views { (most : ℕ) (before after : Numbers) (ts : List Lexeme) (list : List Statement) →
         SpellsIn (few_entry_statements most) before ts list after → Each (ViewHasFew (suc most)) list }
+    ensures other_queries { (most : ℕ) (before after : Numbers) (ts : List Lexeme) (tree : Tree) (read : Built Tree) →
+        queries.spells ts read → read.build before ≡ (tree, after) → HasFewEntries (suc most) tree → (language kind_of (few_rules most) None query).spells ts read }
+    ensures other_views { (most : ℕ) (before after : Numbers) (ts : List Lexeme) (list : List Statement) →
+        Spells before ts list after → Each (ViewHasFew (suc most)) list → SpellsIn (few_entry_statements most) before ts list after }
 {}
 
 /// The limit on what views copy is passed at no more than one token of a text, and at none of statements that are within it.
