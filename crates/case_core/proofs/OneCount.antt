@@ -31,6 +31,7 @@ use Rattle.case_core.specs.CaseGrammar as g
 use Rattle.case_core.specs.Cases.{IsOneTooMany, cases, within}
 use Rattle.case_core.specs.Refusals.{PassesCount}
 use Rattle.case_core.proofs.CaseCounts.{within_fronts}
+use Rattle.case_core.proofs.LimitsOnce.{Order, before, behind, one, order}
 
 abbrev Queries : Type 1
 Queries = Language Lexeme (Built Query × Built Query)
@@ -47,11 +48,11 @@ at_odds p q rest t read s f h =
     apart every_kind every_kind_is_there (lookahead table of_statements.statements).last (lookahead table g.two_queries).first refl (kind_of t)
     (statements_known.ahead.last p read t q s f) (queries_known.ahead.first t rest h)
 
-abbrev behind : OfStatements → Queries → Language Lexeme (Built CaseText)
-behind L Q = map_language g.case_of (seq_language L Q)
+abbrev with_queries : OfStatements → Queries → Language Lexeme (Built CaseText)
+with_queries L Q = map_language g.case_of (seq_language L Q)
 
 -- what is begun in statements of a case is begun within its limit on statements
-begun_first : (L : OfStatements) (Q : Queries) → Includes statements L → HasFronts L → Includes (gl g.two_queries) Q → (x more : List Lexeme) → statements.front (x ++ more) → (behind L Q).front x → L.front x
+begun_first : (L : OfStatements) (Q : Queries) → Includes statements L → HasFronts L → Includes (gl g.two_queries) Q → (x more : List Lexeme) → statements.front (x ++ more) → (with_queries L Q).front x → L.front x
 begun_first L Q i l j x more f (inl h) = h
 begun_first L Q i l j x more f (inr (p, [], read, e, s, h)) = subst L.front (sym (e ∙ append-nil p)) (l.spelled p read s)
 begun_first L Q i l j x more f (inr (p, t ∷ q, read, e, s, h)) =
@@ -61,9 +62,9 @@ begun_first L Q i l j x more f (inr (p, t ∷ q, read, e, s, h)) =
 module _ (L M : OfStatements) (Q : Queries) (i : Includes statements L) (j : Includes statements M) (q : Includes (gl g.two_queries) Q) (l : HasFronts L) (m : HasFronts M)
     (keeps : KeepsOne L M) (whole : (ts : List Lexeme) (read : Built (List Statement)) → L.front ts → statements.spells ts read → L.spells ts read) where
   abbrev Either : List Lexeme → Type 0
-  Either ts = (behind L (gl g.two_queries)).front ts ⊎ (behind M Q).front ts
+  Either ts = (with_queries L (gl g.two_queries)).front ts ⊎ (with_queries M Q).front ts
 
-  in_statements : (x : List Lexeme) (t : Lexeme) → statements.front (x ++ t ∷ []) → (behind L (gl g.two_queries)).front x → (behind M Q).front x → Either (x ++ t ∷ [])
+  in_statements : (x : List Lexeme) (t : Lexeme) → statements.front (x ++ t ∷ []) → (with_queries L (gl g.two_queries)).front x → (with_queries M Q).front x → Either (x ++ t ∷ [])
   in_statements x t f a b =
       by (keeps x t f (begun_first L (gl g.two_queries) i l (includes_itself (gl g.two_queries)) x (t ∷ []) f a) (begun_first M Q j m q x (t ∷ []) f b))
     where
@@ -71,17 +72,17 @@ module _ (L M : OfStatements) (Q : Queries) (i : Includes statements L) (j : Inc
       by (inl h) = inl (inl h)
       by (inr h) = inr (inl h)
 
-  first_fronts : HasFronts (behind L (gl g.two_queries))
+  first_fronts : HasFronts (with_queries L (gl g.two_queries))
   first_fronts = map_fronts g.case_of (seq_language L (gl g.two_queries)) (seq_fronts L (gl g.two_queries) l queries_known.fronts)
 
   -- behind whole statements
-  in_queries : (x p more : List Lexeme) (read : Built (List Statement)) → x ≡ p ++ more → statements.spells p read → (behind L (gl g.two_queries)).front x → L.spells p read
+  in_queries : (x p more : List Lexeme) (read : Built (List Statement)) → x ≡ p ++ more → statements.spells p read → (with_queries L (gl g.two_queries)).front x → L.spells p read
   in_queries x p more read e s a =
       whole p read
       (begun_first L (gl g.two_queries) i l (includes_itself (gl g.two_queries)) p [] (subst statements.front (sym (append-nil p)) (statements_known.fronts.spelled p read s))
-      (first_fronts.shorter p more (subst (behind L (gl g.two_queries)).front e a))) s
+      (first_fronts.shorter p more (subst (with_queries L (gl g.two_queries)).front e a))) s
 
-  pub either : (x : List Lexeme) (t : Lexeme) → cases.front (x ++ t ∷ []) → (behind L (gl g.two_queries)).front x → (behind M Q).front x → Either (x ++ t ∷ [])
+  pub either : (x : List Lexeme) (t : Lexeme) → cases.front (x ++ t ∷ []) → (with_queries L (gl g.two_queries)).front x → (with_queries M Q).front x → Either (x ++ t ∷ [])
   either x t (inl f) a b = in_statements x t f a b
   either x t (inr (p, r, read, e, s, f)) a b = go (cut x (t ∷ []) p r e)
     where
@@ -149,9 +150,9 @@ not_before : (what : LimitKind) (x y rest : List Lexeme) (t : Lexeme) → IsOneT
 not_before what x y rest t a f e = a.beyond ((within_fronts what).shorter (x ++ t ∷ []) rest (subst (within what).front (e ∙ sym (append_assoc x (t ∷ []) rest)) f))
 
 pub one_count : (copied : ℕ) (tokens : List Lexeme) (what other : LimitKind) → PassesCount copied tokens what → PassesCount copied tokens other → what ≡ other
-one_count copied tokens what other a b = go (cut a.taken (a.token ∷ a.rest) b.taken (b.token ∷ b.rest) (sym a.parts ∙ b.parts))
+one_count copied tokens what other a b = go (order tokens a.taken b.taken a.rest b.rest a.token b.token a.parts b.parts)
   where
-    go : Cut a.taken (a.token ∷ a.rest) b.taken (b.token ∷ b.rest) → what ≡ other
-    go (longer c k p q) = let e : c ≡ a.token = cc in absurd (not_before what a.taken b.taken k a.token a.too_many (b.few what) (p ∙ ap (λ z. a.taken ++ z ∷ k) e))
-    go (same p q) = let e : a.token ≡ b.token = cc in one_at what other b.taken b.token (subst (λ z. IsOneTooMany what z b.token) (sym p) (subst (λ z. IsOneTooMany what a.taken z) e a.too_many)) b.too_many
-    go (shorter c k p q) = let e : c ≡ b.token = cc in absurd (not_before other b.taken a.taken k b.token b.too_many (a.few other) (p ∙ ap (λ z. b.taken ++ z ∷ k) e))
+    go : Order a.taken b.taken a.token b.token → what ≡ other
+    go (before k e) = absurd (not_before what a.taken b.taken k a.token a.too_many (b.few what) e)
+    go (one e f) = one_at what other b.taken b.token (subst (λ z. IsOneTooMany what z b.token) e (subst (λ z. IsOneTooMany what a.taken z) f a.too_many)) b.too_many
+    go (behind k e) = absurd (not_before other b.taken a.taken k b.token b.too_many (a.few other) e)

@@ -45,9 +45,12 @@ pub fn passed_once()
         (one.taken ≡ other.taken) × (one.token ≡ other.token) }
 {}
 
-/// No two of the limits on columns, entries and relations are passed in one text.
-pub fn one_count()
-    ensures { (copied : ℕ) (tokens : List Lexeme) (what other : What) → PassesCount copied tokens what → PassesCount copied tokens other → what ≡ other }
+/// A text passes one limit at most: that on depth and length, that on columns, entries or relations, or that on copies.
+pub fn one_limit()
+    ensures counts { (copied : ℕ) (tokens : List Lexeme) (what other : What) → PassesCount copied tokens what → PassesCount copied tokens other → what ≡ other }
+    ensures depth_or_count { (copied : ℕ) (tokens : List Lexeme) (at : ℕ) (what : What) → PassesDepth copied tokens at → PassesCount copied tokens what → ⊥ }
+    ensures depth_or_copies { (copied : ℕ) (tokens : List Lexeme) (at : ℕ) → PassesDepth copied tokens at → PassesCopies copied tokens → ⊥ }
+    ensures count_or_copies { (copied : ℕ) (tokens : List Lexeme) (what : What) → PassesCount copied tokens what → PassesCopies copied tokens → ⊥ }
 {}
 
 /// No block of a case that is read has more than 32 entries: of its queries, of its views, or of a subquery of these.
