@@ -52,7 +52,7 @@ pub front_begins : (ts : List Lexeme) → (gl g.ended_query).front ts → Begins
 front_begins [] f = λ u k e. cc
 front_begins (c ∷ ts) f = begins_with c ts ts f
 
-token_begins : (q y : List Lexeme) (t : Lexeme) → (gl g.ended_query).front (q ++ t ∷ []) → BeginsQuery (q ++ t ∷ y)
+pub token_begins : (q y : List Lexeme) (t : Lexeme) → (gl g.ended_query).front (q ++ t ∷ []) → BeginsQuery (q ++ t ∷ y)
 token_begins [] y t f = begins_with t [] y f
 token_begins (c ∷ q) y t f = begins_with c (q ++ t ∷ []) (q ++ t ∷ y) f
 
@@ -61,7 +61,7 @@ whole_begins [] more read s = let e : false ≡ true = ended_known.ahead.nullabl
 whole_begins (c ∷ ts) more read s = begins_with c ts (ts ++ more) (ended_known.fronts.spelled (c ∷ ts) read s)
 
 -- the token goes on with the query
-goes_on : {n : ℕ} {q : List Lexeme} {t : Lexeme} → counts.IsCopyTooMany n q t → (gl g.ended_query).front (q ++ t ∷ [])
+pub goes_on : {n : ℕ} {q : List Lexeme} {t : Lexeme} → counts.IsCopyTooMany n q t → (gl g.ended_query).front (q ++ t ∷ [])
 goes_on {q = q} {t = t} m = inl (begins_of (q ++ t ∷ []) m.copies m.so_far_with)
 
 -- nothing goes on with a query behind its semicolon

@@ -7,3 +7,6 @@ pub mod CaseSteps
 pub mod WholeCases
 pub mod Texts
 pub mod CaseTerms
+pub mod LimitsOnce
+pub mod OneCount
+pub mod FewInCases

@@ -1,13 +1,17 @@
 //! Laws of the definitions, each the contract of a function that does nothing.
 ghost use Rattle.std.specs.Prelude.{◌≡◌, ◌++◌, List, [], ℕ};
+ghost use Rattle.data_model.specs.Lists.{Each};
 ghost use Rattle.grammar.specs.Form.{Room};
 ghost use Rattle.grammar.specs.Language.{HasFronts, Includes, IsUnambiguous};
 ghost use Rattle.sql_lex.specs.Lexemes.{Lexeme};
 ghost use Rattle.sql_grammar.specs.Numbering.{Built, Numbers};
+ghost use Rattle.sql_read.specs.declared.fault.LimitKind.{LimitKind as What};
+ghost use Rattle.schema_read.specs.FewEntries.{HasFewEntries, ViewHasFew};
 ghost use Rattle.schema_read.specs.Statements.{of_form};
 ghost use Rattle.case_core.specs.declared.text.CaseText.{CaseText as Written};
 ghost use Rattle.case_core.specs.CaseGrammar as g;
-ghost use Rattle.case_core.specs.Cases.{BeginsCase, SpellsCase, cases, shallow_cases};
+ghost use Rattle.case_core.specs.Cases.{BeginsCase, IsRead, SpellsCase, cases, shallow_cases};
+ghost use Rattle.case_core.specs.Refusals.{PassesCopies, PassesCount, PassesDepth};
 
 /// No text spells two cases, and no list of tokens two values of one.
 pub fn one_case()
@@ -28,4 +32,30 @@ pub fn fronts()
 /// What is spelled within the limits is spelled, and a front within them is a front.
 pub fn limits()
     ensures { Includes cases shallow_cases }
+{}
+
+/// Each limit is passed at no more than one token of a text.
+pub fn passed_once()
+    ensures depth { (copied : ℕ) (tokens : List Lexeme) (at place : ℕ) (one : PassesDepth copied tokens at) (other : PassesDepth copied tokens place) →
+        (one.taken ≡ other.taken) × (one.token ≡ other.token) }
+    ensures places { (copied : ℕ) (tokens : List Lexeme) (at place : ℕ) → PassesDepth copied tokens at → PassesDepth copied tokens place → at ≡ place }
+    ensures counts { (copied : ℕ) (tokens : List Lexeme) (what : What) (one other : PassesCount copied tokens what) →
+        (one.taken ≡ other.taken) × (one.token ≡ other.token) }
+    ensures copies { (copied : ℕ) (tokens : List Lexeme) (one other : PassesCopies copied tokens) →
+        (one.taken ≡ other.taken) × (one.token ≡ other.token) }
+{}
+
+/// A text passes one limit at most: that on depth and length, that on columns, entries or relations, or that on copies.
+pub fn one_limit()
+    ensures counts { (copied : ℕ) (tokens : List Lexeme) (what other : What) → PassesCount copied tokens what → PassesCount copied tokens other → what ≡ other }
+    ensures depth_or_count { (copied : ℕ) (tokens : List Lexeme) (at : ℕ) (what : What) → PassesDepth copied tokens at → PassesCount copied tokens what → ⊥ }
+    ensures depth_or_copies { (copied : ℕ) (tokens : List Lexeme) (at : ℕ) → PassesDepth copied tokens at → PassesCopies copied tokens → ⊥ }
+    ensures count_or_copies { (copied : ℕ) (tokens : List Lexeme) (what : What) → PassesCount copied tokens what → PassesCopies copied tokens → ⊥ }
+{}
+
+/// No block of a case that is read has more than 32 entries: of its queries, of its views, or of a subquery of these.
+pub fn few_in_each_block()
+    ensures views { (text : List ℕ) (written : Written) (numbers : Numbers) → IsRead text written numbers → Each (ViewHasFew 32) written.statements }
+    ensures left { (text : List ℕ) (written : Written) (numbers : Numbers) → IsRead text written numbers → HasFewEntries 32 written.left }
+    ensures right { (text : List ℕ) (written : Written) (numbers : Numbers) → IsRead text written numbers → HasFewEntries 32 written.right }
 {}

@@ -39,3 +39,7 @@ pub mod CopiedLists
 pub mod CountParts
 pub mod StatedCounts
 pub mod WholeStatements
+pub mod CountsApart
+pub mod FewTrees
+pub mod FewQueries
+pub mod FewSpelled

@@ -31,12 +31,12 @@ pub ended_alone : (ts k : List Lexeme) (read : Built Statement) (t : Lexeme) →
 ended_alone ts k read t s f = let e : false ≡ true = ended_known.ahead.last ts read t k s f in cc
 
 -- where two begin one text they are the same
-record SameEnded (x more y others : List Lexeme) (v w : Built Statement) : Type 0 where
-  tokens : x ≡ y
-  values : v ≡ w
-  behind : more ≡ others
+pub record SameEnded (x more y others : List Lexeme) (v w : Built Statement) : Type 0 where
+  pub tokens : x ≡ y
+  pub values : v ≡ w
+  pub behind : more ≡ others
 
-same_ended : (x more y others : List Lexeme) (v w : Built Statement) → (gl ended).spells x v → (gl ended).spells y w → x ++ more ≡ y ++ others → SameEnded x more y others v w
+pub same_ended : (x more y others : List Lexeme) (v w : Built Statement) → (gl ended).spells x v → (gl ended).spells y w → x ++ more ≡ y ++ others → SameEnded x more y others v w
 same_ended x more y others v w s r e = go (cut x more y others e)
   where
     fronts : (ts : List Lexeme) (read : Built Statement) → (gl ended).spells ts read → (gl ended).front ts

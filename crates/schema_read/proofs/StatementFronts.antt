@@ -2,7 +2,7 @@
 use Rattle.std.proofs.Common.{◌≡◌, ℕ, zero, suc, List, [], ◌∷◌, ◌++◌, inl, inr, refl, sym, ◌∙◌, ap, subst, append_assoc, Some, None, arith}
 use Rattle.std.proofs.lemmas.List.{append-nil}
 use Rattle.grammar.specs.Language.{Includes, HasFronts, upto_language, star_language}
-use Rattle.grammar.specs.Form.{Room, IsRoomier, alt, language, seq}
+use Rattle.grammar.specs.Form.{Room, IsRoomier, alt, form_language, language, seq}
 use Rattle.grammar.specs.Productions.{skip_then}
 use Rattle.grammar.proofs.Fronts.{map_fronts, upto_fronts}
 use Rattle.grammar.proofs.Forms.{includes_through, includes_itself, form_grows, form_fronts, star_includes_upto}
@@ -62,13 +62,17 @@ pub few_statements_included : (most : ℕ) → Includes statements (few_statemen
 few_statements_included most =
     let L = gl (g.ended_with g.elements) in map_in (upto_language most L) (star_language L) (star_includes_upto L L (includes_itself L) most) (λ read. each read)
 
-pub few_entries_included : Includes statements (few_entry_statements most_further)
-few_entries_included = form_grows kind_of (language kind_of (few_rules most_further)) of_production (name_fronts kind_of rules) names g.statements None None tt
+-- what has few entries is in the grammar
+pub few_form_included : {A : Type 0} (f : The A) → Includes (gl f) (form_language kind_of (language kind_of (few_rules most_further)) None f)
+few_form_included f = form_grows kind_of (language kind_of (few_rules most_further)) of_production (name_fronts kind_of rules) names f None None tt
   where
     names : (small large : Room) → IsRoomier small large → (p : Production) → Includes (of_production large p) (language kind_of (few_rules most_further) small p)
     names small large w p =
         includes_through (language kind_of (few_rules most_further) small p) (language kind_of (few_rules most_further) large p) (of_production large p)
         (name_grows kind_of (few_rules most_further) small large w p) (few_included most_further (omega arith) large p)
+
+pub few_entries_included : Includes statements (few_entry_statements most_further)
+few_entries_included = few_form_included g.statements
 
 -- ---- few columns
 

@@ -19,6 +19,7 @@ pub mod StatementGrammar
 pub mod Statements
 pub mod StatementLookahead
 pub mod StatementLimits
+pub mod FewEntries
 pub mod CopiedStatements
 pub mod Counting
 pub mod ReadingStatements

@@ -1,15 +1,19 @@
 //! Laws of the grammar of statements, each the contract of a function that does nothing.
-ghost use Rattle.std.specs.Prelude.{◌≡◌, ◌≤◌, ◌+◌, ℕ, suc, ◌++◌, ◌∷◌, List, [], length};
+ghost use Rattle.std.specs.Prelude.{◌≡◌, ◌≤◌, ◌+◌, ℕ, suc, ◌++◌, ◌∷◌, List, [], length, None};
 ghost use Rattle.data_model.specs.Lists.{Each};
-ghost use Rattle.grammar.specs.Form.{Room};
+ghost use Rattle.grammar.specs.Form.{Room, language};
 ghost use Rattle.grammar.specs.Language.{HasFronts, Includes, IsUnambiguous};
 ghost use Rattle.grammar.specs.Lookahead.{HasLookahead};
 ghost use Rattle.sql_lex.specs.Lexemes.{Lexeme};
 ghost use Rattle.sql_model.specs.declared.statement.Statement.{Statement};
+ghost use Rattle.sql_model.specs.declared.tree.Query.{Query as Tree};
 ghost use Rattle.sql_grammar.specs.Kinds.{kind_of};
 ghost use Rattle.sql_grammar.specs.Numbering.{Built, Numbers};
+ghost use Rattle.sql_grammar.specs.Queries.{queries};
 ghost use Rattle.sql_grammar.specs.QueryCopies.{most_copies};
-ghost use Rattle.sql_grammar.specs.QueryEntries.{most_further};
+ghost use Rattle.sql_grammar.specs.QueryEntries.{few_rules, most_further};
+ghost use Rattle.sql_grammar.specs.QueryGrammar.{query};
+ghost use Rattle.schema_read.specs.FewEntries.{HasFewEntries, ViewHasFew};
 ghost use Rattle.schema_read.specs.StatementGrammar as g;
 ghost use Rattle.schema_read.specs.StatementLimits.{CopiesFew, IsColumnTooMany, IsCopyTooMany, IsEntryTooMany, IsRelationTooMany, column_count, few_entry_statements, few_statements, narrow_statements, rule_count};
 ghost use Rattle.schema_read.specs.StatementLookahead.{of_statements};
@@ -41,6 +45,13 @@ pub fn passed_once()
         IsRelationTooMany x t → IsRelationTooMany y u → x ++ t ∷ more ≡ y ++ u ∷ others → (x ≡ y) × (t ≡ u) }
     ensures entries { (x more y others : List Lexeme) (t u : Lexeme) →
         IsEntryTooMany x t → IsEntryTooMany y u → x ++ t ∷ more ≡ y ++ u ∷ others → (x ≡ y) × (t ≡ u) }
+{}
+
+/// No token is one too many for two of the limits on columns, entries and relations.
+pub fn one_limit()
+    ensures columns_or_entries { (x : List Lexeme) (t : Lexeme) → IsColumnTooMany x t → IsEntryTooMany x t → ⊥ }
+    ensures relations_or_columns { (x : List Lexeme) (t : Lexeme) → IsRelationTooMany x t → IsColumnTooMany x t → ⊥ }
+    ensures relations_or_entries { (x : List Lexeme) (t : Lexeme) → IsRelationTooMany x t → IsEntryTooMany x t → ⊥ }
 {}
 
 /// No list of tokens spells two lists of statements, nor two values of them within the limits.
@@ -87,6 +98,18 @@ pub fn few_rules()
 pub fn few_entries()
     ensures { (most : ℕ) (before after : Numbers) (ts : List Lexeme) (list : List Statement) →
         length ts ≤ most → Spells before ts list after → SpellsIn (few_entry_statements most) before ts list after }
+{}
+
+/// With so many further entries in each block exactly the trees are spelled in which no block has more, at any depth.
+pub fn few_in_each_block()
+    ensures queries { (most : ℕ) (before after : Numbers) (ts : List Lexeme) (tree : Tree) (read : Built Tree) →
+        (language kind_of (few_rules most) None query).spells ts read → read.build before ≡ (tree, after) → HasFewEntries (suc most) tree }
+    ensures views { (most : ℕ) (before after : Numbers) (ts : List Lexeme) (list : List Statement) →
+        SpellsIn (few_entry_statements most) before ts list after → Each (ViewHasFew (suc most)) list }
+    ensures other_queries { (most : ℕ) (before after : Numbers) (ts : List Lexeme) (tree : Tree) (read : Built Tree) →
+        queries.spells ts read → read.build before ≡ (tree, after) → HasFewEntries (suc most) tree → (language kind_of (few_rules most) None query).spells ts read }
+    ensures other_views { (most : ℕ) (before after : Numbers) (ts : List Lexeme) (list : List Statement) →
+        Spells before ts list after → Each (ViewHasFew (suc most)) list → SpellsIn (few_entry_statements most) before ts list after }
 {}
 
 /// The limit on what views copy is passed at no more than one token of a text, and at none of statements that are within it.

@@ -1,0 +1,158 @@
+-- Of the counts of a case no two pass their limits.
+use Rattle.std.proofs.Common.{◌≡◌, ℕ, List, [], ◌∷◌, ◌++◌, ◌⊎◌, inl, inr, None, refl, sym, ◌∙◌, ap, subst, append_assoc}
+use Rattle.std.proofs.lemmas.List.{append-nil}
+use Rattle.grammar.specs.Language.{HasFronts, Includes, Language, map_language, seq_language}
+use Rattle.grammar.specs.Lookahead.{lookahead}
+use Rattle.grammar.proofs.Cut.{Cut, longer, same, shorter, cut, nil_right}
+use Rattle.grammar.proofs.Forms.{includes_itself}
+use Rattle.grammar.proofs.Fronts.{map_fronts, seq_fronts}
+use Rattle.grammar.proofs.Known.{Known}
+use Rattle.grammar.proofs.Sets.{apart}
+use Rattle.sql_lex.specs.Lexemes.{Lexeme}
+use Rattle.sql_model.specs.declared.statement.Statement.{Statement}
+use Rattle.sql_model.specs.declared.tree.Query.{Query}
+use Rattle.sql_read.specs.declared.fault.LimitKind.{LimitKind}
+use Rattle.sql_read.specs.declared.fault.LimitKind.TheVariants as limit
+use Rattle.sql_grammar.specs.Kinds.{every_kind, kind_of}
+use Rattle.sql_grammar.specs.Numbering.{Built}
+use Rattle.sql_grammar.specs.QueryEntries.{most_further}
+use Rattle.sql_grammar.specs.QueryLookahead.{table}
+use Rattle.sql_grammar.proofs.EveryKind.{every_kind_is_there}
+use Rattle.schema_read.specs.StatementGrammar as of_statements
+use Rattle.schema_read.specs.StatementLimits.{few_columns, few_entry_statements, few_statements, most_further_columns, most_relations, narrow_statements}
+use Rattle.schema_read.specs.Statements.{OfStatements, statements}
+use Rattle.schema_read.proofs.CountsApart.{KeepsOne, columns_or_entries, few_whole, narrow_whole, relations_or_columns, relations_or_entries}
+use Rattle.schema_read.proofs.StatementFronts.{few_entries_included, few_entry_fronts, few_form_included, few_statement_fronts, few_statements_included, form_has_fronts, narrow_included}
+use Rattle.schema_read.proofs.StatementKnown.{known}
+use Rattle.schema_read.proofs.Unlimited.{gl}
+use Rattle.schema_read.proofs.WholeStatements.{few_grammar}
+use Rattle.case_core.specs.declared.text.CaseText.{CaseText}
+use Rattle.case_core.specs.CaseGrammar as g
+use Rattle.case_core.specs.Cases.{IsOneTooMany, cases, within}
+use Rattle.case_core.specs.Refusals.{PassesCount}
+use Rattle.case_core.proofs.CaseCounts.{within_fronts}
+use Rattle.case_core.proofs.LimitsOnce.{Order, before, behind, one, order}
+
+abbrev Queries : Type 1
+Queries = Language Lexeme (Built Query × Built Query)
+
+statements_known : Known kind_of statements (lookahead table of_statements.statements)
+statements_known = known of_statements.statements refl None
+
+queries_known : Known kind_of (gl g.two_queries) (lookahead table g.two_queries)
+queries_known = known g.two_queries refl None
+
+-- behind whole statements no token both goes on with them and begins a query
+at_odds : (p q rest : List Lexeme) (t : Lexeme) (read : Built (List Statement)) → statements.spells p read → statements.front (p ++ t ∷ q) → (gl g.two_queries).front (t ∷ rest) → ⊥
+at_odds p q rest t read s f h =
+    apart every_kind every_kind_is_there (lookahead table of_statements.statements).last (lookahead table g.two_queries).first refl (kind_of t)
+    (statements_known.ahead.last p read t q s f) (queries_known.ahead.first t rest h)
+
+abbrev with_queries : OfStatements → Queries → Language Lexeme (Built CaseText)
+with_queries L Q = map_language g.case_of (seq_language L Q)
+
+-- what is begun in statements of a case is begun within its limit on statements
+begun_first : (L : OfStatements) (Q : Queries) → Includes statements L → HasFronts L → Includes (gl g.two_queries) Q → (x more : List Lexeme) → statements.front (x ++ more) → (with_queries L Q).front x → L.front x
+begun_first L Q i l j x more f (inl h) = h
+begun_first L Q i l j x more f (inr (p, [], read, e, s, h)) = subst L.front (sym (e ∙ append-nil p)) (l.spelled p read s)
+begun_first L Q i l j x more f (inr (p, t ∷ q, read, e, s, h)) =
+    absurd (at_odds p (q ++ more) q t read (i.spells p read s) (subst statements.front (ap (λ z. z ++ more) e ∙ append_assoc p (t ∷ q) more) f) (j.front (t ∷ q) h))
+
+-- L and M keep to two limits of statements, Q keeps to the second of queries
+module _ (L M : OfStatements) (Q : Queries) (i : Includes statements L) (j : Includes statements M) (q : Includes (gl g.two_queries) Q) (l : HasFronts L) (m : HasFronts M)
+    (keeps : KeepsOne L M) (whole : (ts : List Lexeme) (read : Built (List Statement)) → L.front ts → statements.spells ts read → L.spells ts read) where
+  abbrev Either : List Lexeme → Type 0
+  Either ts = (with_queries L (gl g.two_queries)).front ts ⊎ (with_queries M Q).front ts
+
+  in_statements : (x : List Lexeme) (t : Lexeme) → statements.front (x ++ t ∷ []) → (with_queries L (gl g.two_queries)).front x → (with_queries M Q).front x → Either (x ++ t ∷ [])
+  in_statements x t f a b =
+      by (keeps x t f (begun_first L (gl g.two_queries) i l (includes_itself (gl g.two_queries)) x (t ∷ []) f a) (begun_first M Q j m q x (t ∷ []) f b))
+    where
+      by : L.front (x ++ t ∷ []) ⊎ M.front (x ++ t ∷ []) → Either (x ++ t ∷ [])
+      by (inl h) = inl (inl h)
+      by (inr h) = inr (inl h)
+
+  first_fronts : HasFronts (with_queries L (gl g.two_queries))
+  first_fronts = map_fronts g.case_of (seq_language L (gl g.two_queries)) (seq_fronts L (gl g.two_queries) l queries_known.fronts)
+
+  -- behind whole statements
+  in_queries : (x p more : List Lexeme) (read : Built (List Statement)) → x ≡ p ++ more → statements.spells p read → (with_queries L (gl g.two_queries)).front x → L.spells p read
+  in_queries x p more read e s a =
+      whole p read
+      (begun_first L (gl g.two_queries) i l (includes_itself (gl g.two_queries)) p [] (subst statements.front (sym (append-nil p)) (statements_known.fronts.spelled p read s))
+      (first_fronts.shorter p more (subst (with_queries L (gl g.two_queries)).front e a))) s
+
+  pub either : (x : List Lexeme) (t : Lexeme) → cases.front (x ++ t ∷ []) → (with_queries L (gl g.two_queries)).front x → (with_queries M Q).front x → Either (x ++ t ∷ [])
+  either x t (inl f) a b = in_statements x t f a b
+  either x t (inr (p, r, read, e, s, f)) a b = go (cut x (t ∷ []) p r e)
+    where
+      go : Cut x (t ∷ []) p r → Either (x ++ t ∷ [])
+      go (longer c k u v) =
+          let n : k ++ r ≡ [] = cc in
+          let none : r ≡ [] = nil_right k r (sym n) in
+          in_statements x t (subst statements.front (sym (e ∙ (ap (λ z. p ++ z) none ∙ append-nil p))) (statements_known.fronts.spelled p read s)) a b
+      go (same u v) = inl (inr (p, r, read, e, in_queries x p [] read (sym u ∙ sym (append-nil p)) s a, f))
+      go (shorter c k u v) = inl (inr (p, r, read, e, in_queries x p (c ∷ k) read u s a, f))
+
+abbrev Within : LimitKind → LimitKind → Type 0
+Within what other = (x : List Lexeme) (t : Lexeme) → cases.front (x ++ t ∷ []) → (within what).front x → (within other).front x → (within what).front (x ++ t ∷ []) ⊎ (within other).front (x ++ t ∷ [])
+
+narrow_fronts : HasFronts (narrow_statements most_further_columns)
+narrow_fronts = form_has_fronts None (of_statements.statements_with (few_columns most_further_columns))
+
+columns_entries : Within limit.Columns limit.Entries
+columns_entries =
+    either (narrow_statements most_further_columns) (few_entry_statements most_further) (few_grammar g.two_queries) (narrow_included most_further_columns) few_entries_included (few_form_included g.two_queries)
+    narrow_fronts (few_entry_fronts most_further) columns_or_entries narrow_whole
+
+relations_columns : Within limit.Relations limit.Columns
+relations_columns =
+    either (few_statements most_relations) (narrow_statements most_further_columns) (gl g.two_queries) (few_statements_included most_relations) (narrow_included most_further_columns)
+    (includes_itself (gl g.two_queries)) (few_statement_fronts most_relations) narrow_fronts relations_or_columns few_whole
+
+relations_entries : Within limit.Relations limit.Entries
+relations_entries =
+    either (few_statements most_relations) (few_entry_statements most_further) (few_grammar g.two_queries) (few_statements_included most_relations) few_entries_included
+    (few_form_included g.two_queries) (few_statement_fronts most_relations) (few_entry_fronts most_further) relations_or_entries few_whole
+
+-- ---- one token
+
+-- the token passes one limit at most
+not_both : (what other : LimitKind) → Within what other → (x : List Lexeme) (t : Lexeme) → IsOneTooMany what x t → IsOneTooMany other x t → ⊥
+not_both what other w x t a b = by (w x t a.goes_on a.within b.within)
+  where
+    by : (within what).front (x ++ t ∷ []) ⊎ (within other).front (x ++ t ∷ []) → ⊥
+    by (inl f) = a.beyond f
+    by (inr f) = b.beyond f
+
+no_copies : (x : List Lexeme) (t : Lexeme) → IsOneTooMany limit.Copies x t → ⊥
+no_copies x t a = a.beyond a.goes_on
+
+pub one_at : (what other : LimitKind) (x : List Lexeme) (t : Lexeme) → IsOneTooMany what x t → IsOneTooMany other x t → what ≡ other
+one_at limit.Columns limit.Columns x t a b = refl
+one_at limit.Columns limit.Entries x t a b = absurd (not_both limit.Columns limit.Entries columns_entries x t a b)
+one_at limit.Columns limit.Relations x t a b = absurd (not_both limit.Relations limit.Columns relations_columns x t b a)
+one_at limit.Columns limit.Copies x t a b = absurd (no_copies x t b)
+one_at limit.Entries limit.Columns x t a b = absurd (not_both limit.Columns limit.Entries columns_entries x t b a)
+one_at limit.Entries limit.Entries x t a b = refl
+one_at limit.Entries limit.Relations x t a b = absurd (not_both limit.Relations limit.Entries relations_entries x t b a)
+one_at limit.Entries limit.Copies x t a b = absurd (no_copies x t b)
+one_at limit.Relations limit.Columns x t a b = absurd (not_both limit.Relations limit.Columns relations_columns x t a b)
+one_at limit.Relations limit.Entries x t a b = absurd (not_both limit.Relations limit.Entries relations_entries x t a b)
+one_at limit.Relations limit.Relations x t a b = refl
+one_at limit.Relations limit.Copies x t a b = absurd (no_copies x t b)
+one_at limit.Copies other x t a b = absurd (no_copies x t a)
+
+-- ---- one text
+
+-- before the token that passes one limit none passes another
+not_before : (what : LimitKind) (x y rest : List Lexeme) (t : Lexeme) → IsOneTooMany what x t → (within what).front y → y ≡ x ++ t ∷ rest → ⊥
+not_before what x y rest t a f e = a.beyond ((within_fronts what).shorter (x ++ t ∷ []) rest (subst (within what).front (e ∙ sym (append_assoc x (t ∷ []) rest)) f))
+
+pub one_count : (copied : ℕ) (tokens : List Lexeme) (what other : LimitKind) → PassesCount copied tokens what → PassesCount copied tokens other → what ≡ other
+one_count copied tokens what other a b = go (order tokens a.taken b.taken a.rest b.rest a.token b.token a.parts b.parts)
+  where
+    go : Order a.taken b.taken a.token b.token → what ≡ other
+    go (before k e) = absurd (not_before what a.taken b.taken k a.token a.too_many (b.few what) e)
+    go (one e f) = one_at what other b.taken b.token (subst (λ z. IsOneTooMany what z b.token) e (subst (λ z. IsOneTooMany what a.taken z) f a.too_many)) b.too_many
+    go (behind k e) = absurd (not_before other b.taken a.taken k b.token b.too_many (a.few other) e)
