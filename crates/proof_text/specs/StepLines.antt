@@ -1,5 +1,5 @@
 -- The lines of steps: the inner steps of a step of `sq_fix` stand between the line that opens them and a brace.
-use Rattle.std.specs.Prelude.{ℕ, ◌+◌, Bool, true, false, List, [], ◌∷◌, ◌++◌}
+use Rattle.std.specs.Prelude.{ℕ, ◌+◌, Bool, true, false, List, [], ◌∷◌, ◌++◌, map, codes}
 use Rattle.std.specs.List.{flat_map}
 use Rattle.u_rules.specs.declared.rule.Rule.{Rule}
 use Rattle.u_rules.specs.declared.rule.Arg.{Arg}
@@ -7,7 +7,9 @@ use Rattle.u_deriv.specs.declared.run.Run.{Run}
 use Rattle.u_deriv.specs.declared.step.Step as step
 use Rattle.proof_text.specs.declared.line.LineStep.{LineStep}
 use Rattle.proof_text.specs.declared.line.LineStep.TheVariants.{Whole, Opens, Closes, Ends}
+use Rattle.proof_text.specs.Heading.{numbered_line}
 use Rattle.proof_text.specs.RuleNames.{has_inner}
+use Rattle.proof_text.specs.Written.{text_of}
 
 -- the step without its inner steps, as its line says it
 abbrev pub bare_step : List Run → Bool → Rule → List Arg → step.Step
@@ -35,3 +37,7 @@ steps_in (Whole s ∷ lines) = steps_in lines + 1
 steps_in (Opens s ∷ lines) = steps_in lines + 1
 steps_in (Closes ∷ lines) = steps_in lines
 steps_in (Ends ∷ lines) = steps_in lines
+
+-- the lines of the text of a proof: a header, the width of the queries, the steps, and the end
+abbrev pub proof_lines : ℕ → List step.Step → List (List ℕ)
+proof_lines outs steps = numbered_line (codes "udp-proof ") 1 ∷ numbered_line (codes "outs ") outs ∷ map text_of (lines_of steps) ++ text_of Ends ∷ []
