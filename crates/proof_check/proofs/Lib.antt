@@ -1,1 +1,5 @@
-
+pub mod StepsTaken
+pub mod StepsKept
+pub mod OneState
+pub mod Meaning
+mod LimitSamples

@@ -2,6 +2,7 @@
 #![tactic(auto)]
 
 mod answers;
+pub mod laws;
 
 pub use answers::{ProofFault, Stop, Verdict};
 pub use proof_text::LimitKind;
