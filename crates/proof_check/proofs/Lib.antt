@@ -1,5 +1,6 @@
 pub mod StepsTaken
 pub mod StepsKept
 pub mod OneState
+pub mod StopsEarly
 pub mod Meaning
 mod LimitSamples

@@ -1,11 +1,9 @@
 -- A line comes to one thing, and so does a list of lines.
-use Rattle.std.proofs.Common.{◌≡◌, ℕ, ◌+◌, ◌^◌, ◌<◌, ◌≤◌, Bool, true, false, List, [], ◌∷◌, ◌++◌, length, Result, Ok, Err, refl, sym, ap, subst, ◌∙◌, arith, append_assoc, append-nil, inl, inr}
+use Rattle.std.proofs.Common.{◌≡◌, ℕ, ◌+◌, ◌^◌, ◌<◌, ◌≤◌, Bool, true, false, List, [], ◌∷◌, ◌++◌, length, Result, Ok, Err, refl, sym, ap, subst, ◌∙◌, arith, inl, inr}
 use Rattle.std.specs.Prelude.{◌≢◌, ◌⊎◌, codes}
 use Rattle.std.specs.Fmt.{decimal}
-use Rattle.std.specs.List.{concat}
 use Rattle.std.proofs.lemmas.Fmt.{decimal_injective}
 use Rattle.std.proofs.lemmas.List.{append_cancel_left, append_cancel_right}
-use Rattle.data_model.specs.Lists.{Each}
 use Rattle.u_terms.specs.Syntax.{U}
 use Rattle.u_terms.specs.Size.{nodes, depth}
 use Rattle.u_terms.specs.declared.term.U.TheVariants as u
@@ -27,10 +25,9 @@ use Rattle.proof_text.specs.declared.line.LineStep.{LineStep}
 use Rattle.proof_text.specs.declared.line.LineStep.TheVariants.{Whole, Opens, Closes, Ends}
 use Rattle.proof_text.specs.declared.line.LineFault.{LineFault}
 use Rattle.proof_text.specs.declared.line.LineFault.TheVariants as refusal
-use Rattle.proof_text.specs.LinesOfText.{AreLines}
 use Rattle.proof_text.specs.ReadingLines.{IsAnswer}
 use Rattle.proof_text.proofs.OneAnswer as reading
-use Rattle.proof_text.proofs.TextLines.{IsLine, one_lines, every_text, front_lines}
+use Rattle.proof_text.proofs.TextLines.{one_lines}
 use Rattle.proof_check.specs.declared.answers.ProofFault.{ProofFault}
 use Rattle.proof_check.specs.declared.answers.ProofFault.TheVariants.{BadHeader, BadVersion, BadOuts, BadLine, AfterEnd, Limit, NoMemory}
 use Rattle.proof_check.specs.declared.answers.Stop.{Stop}
@@ -459,22 +456,3 @@ module _ (facts : Facts) (outs : ℕ) (left : U) where
   one_answer right bytes a b n m s t =
       let same : s.state ≡ t.state = one_state s.lines t.lines s.state t.state (one_lines bytes bytes s.lines t.lines refl s.are_lines t.are_lines) (told_by right s.state a n s.finishes) (told_by right t.state b m t.finishes) s.stands t.stands in
       one_finish right t.state a b (subst (λ (z : State). Finishes right z a) same s.finishes) t.finishes
-
-  -- ---- where the first lines stop what is judged, no more need be read
-  stay : (fronts more : List (List ℕ)) (stop : Stop) → Stands facts outs left fronts (stopped stop) → Stands facts outs left (fronts ++ more) (stopped stop)
-  stay fronts [] stop s = subst (λ (ls : List (List ℕ)). Stands facts outs left ls (stopped stop)) (sym (append-nil fronts)) s
-  stay fronts (text ∷ more) stop s =
-      subst (λ (ls : List (List ℕ)). Stands facts outs left ls (stopped stop)) (append_assoc fronts (text ∷ []) more) (stay (fronts ++ text ∷ []) more stop (stays text s))
-
-  pub stops_early : (text rest : List ℕ) (fronts lines : List (List ℕ)) (stop : Stop) → text ≡ concat fronts ++ rest → Each IsLine fronts → AreLines text lines
-      → Stands facts outs left fronts (stopped stop) → Stands facts outs left lines (stopped stop)
-  stops_early text rest fronts lines stop e each are s =
-      let more = every_text rest in
-      let all : lines ≡ fronts ++ more.0 = one_lines text (concat fronts ++ rest) lines (fronts ++ more.0) e are (front_lines fronts rest more.0 each more.1) in
-      subst (λ (ls : List (List ℕ)). Stands facts outs left ls (stopped stop)) (sym all) (stay fronts more.0 stop s)
-
-  pub shown_early : (right : U) (text rest : List ℕ) (fronts : List (List ℕ)) (stop : Stop) (answer : Answer) → text ≡ concat fronts ++ rest → Each IsLine fronts
-      → Stands facts outs left fronts (stopped stop) → Finishes right (stopped stop) answer → Shows facts outs left right text answer
-  shown_early right text rest fronts stop answer e each s f =
-      let all = every_text text in
-      record { lines = all.0; are_lines = all.1; state = stopped stop; stands = stops_early text rest fronts all.0 stop e each all.1 s; finishes = f }
