@@ -4,3 +4,4 @@ pub mod OneState
 pub mod StopsEarly
 pub mod Meaning
 mod LimitSamples
+mod ProofSamples
