@@ -18,3 +18,6 @@ pub mod LinesSpelled
 pub mod OneAnswer
 pub mod OneText
 pub mod HeadingsRead
+pub mod StepLines
+pub mod TextLines
+mod LineSamples

@@ -260,7 +260,7 @@ step_read b d h =
     (read_told (line_text d.path d.forward d.rule d.args) (made d.path d.forward d.rule d.args) (record { nodes = r.left; text = [] }) i)
 
 -- a step without inner steps is made of its parts
-same_step : (s : Step) → (out-Step s).inner ≡ [] → roll-Step (record { path = (out-Step s).path; forward = (out-Step s).forward; rule = (out-Step s).rule; args = (out-Step s).args; inner = [] }) ≡ s
+pub same_step : (s : Step) → (out-Step s).inner ≡ [] → roll-Step (record { path = (out-Step s).path; forward = (out-Step s).forward; rule = (out-Step s).rule; args = (out-Step s).args; inner = [] }) ≡ s
 same_step s e =
     subst (λ (l : List Step). roll-Step (record { path = (out-Step s).path; forward = (out-Step s).forward; rule = (out-Step s).rule; args = (out-Step s).args; inner = l }) ≡ s) e (roll-out-Step s)
 

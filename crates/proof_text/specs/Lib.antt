@@ -12,5 +12,6 @@ pub mod Reading
 pub mod ReadingLines
 pub mod RuleNames
 pub mod Signs
+pub mod StepLines
 pub mod Words
 pub mod Written

@@ -1,11 +1,15 @@
 //! What holds of the lines of proofs, each the contract of a function that does nothing.
+ghost use Rattle.std.specs.List.{concat, flat_map};
 ghost use Rattle.std.specs.Prelude.{◌≡◌, List, ℕ, Result, Err};
 ghost use Rattle.proof_text.specs.declared.line.LineFault.{LineFault as TheFault};
 ghost use Rattle.proof_text.specs.declared.line.LineFault.TheVariants.{NoMemory as no_memory};
 ghost use Rattle.proof_text.specs.declared.line.LineStep.{LineStep as TheLine};
 ghost use Rattle.u_deriv.specs.declared.step.Step.{Step as TheStep};
+ghost use Rattle.proof_text.specs.LinesOfText.{AreLines};
 ghost use Rattle.proof_text.specs.ReadingLines.{IsAnswer, IsRead, lines};
+ghost use Rattle.proof_text.specs.StepLines.{lines_of, proof_lines};
 ghost use Rattle.proof_text.specs.Written.{ProofText, Says, text_of};
+ghost use Rattle.u_deriv.specs.StepText.{steps_text};
 
 /// A text has one answer, but for want of memory: the line that it is, or the first column at which none goes on, or the limit
 /// that an argument passes before.
@@ -33,4 +37,21 @@ pub fn lines_are_read_again()
 pub fn one_text()
     ensures { (bytes : List ℕ) (outs width : ℕ) (steps others : List TheStep) → ProofText bytes outs steps → ProofText bytes width others →
         (outs ≡ width) × (steps ≡ others) }
+{}
+
+/// The text of steps is that of their lines, one after the other.
+pub fn steps_have_the_text_of_their_lines()
+    ensures { (steps : List TheStep) → steps_text steps ≡ flat_map text_of (lines_of steps) }
+{}
+
+/// Each text has one list of lines, and is these lines one after the other.
+pub fn lines_of_a_text()
+    ensures some { (text : List ℕ) → (found : List (List ℕ)) × AreLines text found }
+    ensures one { (text : List ℕ) (found others : List (List ℕ)) → AreLines text found → AreLines text others → found ≡ others }
+    ensures whole { (text : List ℕ) (found : List (List ℕ)) → AreLines text found → text ≡ concat found }
+{}
+
+/// The lines of the text of a proof are its header, the width of the queries, the lines of its steps, and its end.
+pub fn lines_of_a_proof()
+    ensures { (bytes : List ℕ) (outs : ℕ) (steps : List TheStep) → ProofText bytes outs steps → AreLines bytes (proof_lines outs steps) }
 {}
