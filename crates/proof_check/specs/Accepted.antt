@@ -22,28 +22,28 @@ pub record KeepsLimits (facts : Facts) (step : Step) (after : U) : Type 0 where
 mutual
   -- the step makes the one term the other and passes no limit, where so many inner proofs are open
   pub data Fits (facts : Facts) : ℕ → ℕ → U → Step → U → Type 0 where
-    by_rule : {open outs : ℕ} {before : U} {step : Step} {after : U}
+    by_rule : {nesting outs : ℕ} {before : U} {step : Step} {after : U}
         → Exchanged facts outs before step after
         → ((out-Step step).rule ≡ rule.SqFix → ⊥)
         → (out-Step step).inner ≡ []
         → KeepsLimits facts step after
-        → Fits facts open outs before step after
-    by_proof : {open outs : ℕ} {before : U} {step : Step} {after : U} (x : U)
+        → Fits facts nesting outs before step after
+    by_proof : {nesting outs : ℕ} {before : U} {step : Step} {after : U} (x : U)
         → (exchanged : Exchanged facts outs before step after)
         → (out-Step step).rule ≡ rule.SqFix
         → (out-Step step).args ≡ Term x ∷ []
         → KeepsLimits facts step after
-        → open < most_nesting
-        → AllFit facts (open + 1) (outs + binders exchanged.replaced.context) (x ⊗ x) (out-Step step).inner x
-        → Fits facts open outs before step after
+        → nesting < most_nesting
+        → AllFit facts (nesting + 1) (outs + binders exchanged.replaced.context) (x ⊗ x) (out-Step step).inner x
+        → Fits facts nesting outs before step after
 
   -- so do the steps, one after the other
   pub data AllFit (facts : Facts) : ℕ → ℕ → U → List Step → U → Type 0 where
-    no_step : {open outs : ℕ} {before : U} → AllFit facts open outs before [] before
-    first_then : {open outs : ℕ} {before middle after : U} {step : Step} {rest : List Step}
-        → Fits facts open outs before step middle
-        → AllFit facts open outs middle rest after
-        → AllFit facts open outs before (step ∷ rest) after
+    no_step : {nesting outs : ℕ} {before : U} → AllFit facts nesting outs before [] before
+    first_then : {nesting outs : ℕ} {before middle after : U} {step : Step} {rest : List Step}
+        → Fits facts nesting outs before step middle
+        → AllFit facts nesting outs middle rest after
+        → AllFit facts nesting outs before (step ∷ rest) after
 
 -- the bytes are the text of steps that lead from the one term to the other, and no limit but that on bytes is passed
 pub record Accepted (facts : Facts) (outs : ℕ) (left right : U) (bytes : List ℕ) : Type 0 where

@@ -30,7 +30,7 @@ module _ (facts : Facts) (outs : ℕ) where
         → Stands left texts (on lines before) → Takes facts outs before text after → Stands left (texts ++ text ∷ []) (on (lines + 1) after)
     stops : {texts : List (List ℕ)} {lines : ℕ} {before : Progress} {text : List ℕ} {stop : Stop}
         → Stands left texts (on lines before) → Stops facts outs (lines + 1) before text stop → Stands left (texts ++ text ∷ []) (stopped stop)
-    stays : {texts : List (List ℕ)} {text : List ℕ} {stop : Stop} → Stands left texts (stopped stop) → Stands left (texts ++ text ∷ []) (stopped stop)
+    stays : {texts : List (List ℕ)} {stop : Stop} (text : List ℕ) → Stands left texts (stopped stop) → Stands left (texts ++ text ∷ []) (stopped stop)
     no_memory : {texts : List (List ℕ)} → Stands left texts (stopped (Fault NoMemory))
 
 -- how a text ends whose lines come to this

@@ -15,7 +15,6 @@ use Rattle.proof_text.specs.declared.line.LineStep.{LineStep}
 use Rattle.proof_text.specs.declared.line.LineStep.TheVariants.{Whole, Opens, Closes, Ends}
 use Rattle.proof_text.specs.Heading.{numbered_line}
 use Rattle.proof_text.specs.ReadingLines.{IsBad, IsLimit, IsRead}
-use Rattle.proof_check.specs.declared.answers.ProofFault.{ProofFault}
 use Rattle.proof_check.specs.declared.answers.ProofFault.TheVariants.{BadHeader, BadVersion, BadOuts, BadLine, AfterEnd, Limit}
 use Rattle.proof_check.specs.declared.answers.Stop.{Stop}
 use Rattle.proof_check.specs.declared.answers.Stop.TheVariants.{Fails, Fault}
@@ -54,13 +53,13 @@ step_line false step = Whole step
 
 -- so many steps and open inner proofs leave room for one more
 abbrev pub HasRoom : Bool → ℕ → ℕ → Type 0
-HasRoom true count open = (count < most_steps) × (open < most_nesting)
-HasRoom false count open = count < most_steps
+HasRoom true count nesting = (count < most_steps) × (nesting < most_nesting)
+HasRoom false count nesting = count < most_steps
 
 -- the line is that of a step, which passes no limit before it is made
-pub record IsAdmitted (facts : Facts) (opens : Bool) (text : List ℕ) (step : Step) (count open : ℕ) : Type 0 where
+pub record IsAdmitted (facts : Facts) (opens : Bool) (text : List ℕ) (step : Step) (count nesting : ℕ) : Type 0 where
   pub read : IsRead text (step_line opens step)
-  pub room : HasRoom opens count open
+  pub room : HasRoom opens count nesting
   pub sides : SidesAreSmall (sizes_for facts step)
 
 -- A step of `sq_fix` has a result but for its inner steps: these lead from the square of `x` to `x`, with names below `inner_outs`.
@@ -104,39 +103,39 @@ module _ (facts : Facts) (outs : ℕ) where
     other_width : {u : U} {text : List ℕ} → text ≢ width_line outs → Stops number (versioned u) text (Fault BadOuts)
     -- its reading
     bad : {level : Level} {waiting : List Waiting} {count : ℕ} {text : List ℕ} {column : ℕ}
-        → IsBad text column → Stops number (among level waiting count) text (Fault (BadLine { line = number; column = column }))
+        → IsBad text column → Stops number (among level waiting count) text (Fault (BadLine number column))
     argument_passes : {level : Level} {waiting : List Waiting} {count : ℕ} {text : List ℕ} {what : LimitKind} {passing : ℕ}
-        → IsLimit text what passing → Stops number (among level waiting count) text (Fault (Limit { what = what; count = passing }))
+        → IsLimit text what passing → Stops number (among level waiting count) text (Fault (Limit what passing))
     closes_nothing : {level : Level} {count : ℕ} {text : List ℕ}
-        → IsRead text Closes → Stops number (among level [] count) text (Fault (BadLine { line = number; column = 1 }))
+        → IsRead text Closes → Stops number (among level [] count) text (Fault (BadLine number 1))
     ends_within : {level : Level} {inner : Waiting} {waiting : List Waiting} {count : ℕ} {text : List ℕ}
-        → IsRead text Ends → Stops number (among level (inner ∷ waiting) count) text (Fault (BadLine { line = number; column = 1 }))
+        → IsRead text Ends → Stops number (among level (inner ∷ waiting) count) text (Fault (BadLine number 1))
     late : {u : U} {text : List ℕ} → Stops number (ended u) text (Fault AfterEnd)
     -- the line of a step
-    too_many : {level : Level} {waiting : List Waiting} {count : ℕ} {text : List ℕ} {step : Step} (opens : Bool)
+    too_many : {level : Level} {waiting : List Waiting} {count : ℕ} {text : List ℕ} (opens : Bool) (step : Step)
         → IsRead text (step_line opens step) → most_steps ≤ count
-        → Stops number (among level waiting count) text (Fault (Limit { what = limit.Steps; count = most_steps + 1 }))
+        → Stops number (among level waiting count) text (Fault (Limit limit.Steps (most_steps + 1)))
     too_nested : {level : Level} {waiting : List Waiting} {count : ℕ} {text : List ℕ} {step : Step}
         → IsRead text (Opens step) → count < most_steps → most_nesting ≤ length waiting
-        → Stops number (among level waiting count) text (Fault (Limit { what = limit.Nesting; count = most_nesting + 1 }))
-    side_passes : {level : Level} {waiting : List Waiting} {count : ℕ} {text : List ℕ} {step : Step} {what : LimitKind} {passing : ℕ} (opens : Bool)
+        → Stops number (among level waiting count) text (Fault (Limit limit.Nesting (most_nesting + 1)))
+    side_passes : {level : Level} {waiting : List Waiting} {count : ℕ} {text : List ℕ} {what : LimitKind} {passing : ℕ} (opens : Bool) (step : Step)
         → IsRead text (step_line opens step) → HasRoom opens count (length waiting) → SidesPass (sizes_for facts step) what passing
-        → Stops number (among level waiting count) text (Fault (Limit { what = what; count = passing }))
+        → Stops number (among level waiting count) text (Fault (Limit what passing))
     fails : {level : Level} {waiting : List Waiting} {count : ℕ} {text : List ℕ} {step : Step}
         → IsAdmitted facts false text step count (length waiting)
         → ((after : U) → Rewrites facts level.outs level.term step after → ⊥)
-        → Stops number (among level waiting count) text (Fails { line = number })
+        → Stops number (among level waiting count) text (Fails number)
     opens_nothing : {level : Level} {waiting : List Waiting} {count : ℕ} {text : List ℕ} {step : Step}
         → IsAdmitted facts true text step count (length waiting)
         → ((x after : U) (inner_outs : ℕ) → OpensProof facts level step x after inner_outs → ⊥)
-        → Stops number (among level waiting count) text (Fails { line = number })
+        → Stops number (among level waiting count) text (Fails number)
     passes : {level : Level} {waiting : List Waiting} {count : ℕ} {text : List ℕ} {step : Step} {after : U} {what : LimitKind} {passing : ℕ}
         → IsAdmitted facts false text step count (length waiting)
         → Rewrites facts level.outs level.term step after → TermPasses after what passing
-        → Stops number (among level waiting count) text (Fault (Limit { what = what; count = passing }))
+        → Stops number (among level waiting count) text (Fault (Limit what passing))
     -- the line that closes inner steps
     inner_end_differs : {level : Level} {inner : Waiting} {waiting : List Waiting} {count : ℕ} {text : List ℕ}
-        → IsRead text Closes → level.term ≢ inner.root → Stops number (among level (inner ∷ waiting) count) text (Fails { line = number })
+        → IsRead text Closes → level.term ≢ inner.root → Stops number (among level (inner ∷ waiting) count) text (Fails number)
     passes_behind : {level : Level} {inner : Waiting} {waiting : List Waiting} {count : ℕ} {text : List ℕ} {what : LimitKind} {passing : ℕ}
         → IsRead text Closes → level.term ≡ inner.root → TermPasses inner.behind.term what passing
-        → Stops number (among level (inner ∷ waiting) count) text (Fault (Limit { what = what; count = passing }))
+        → Stops number (among level (inner ∷ waiting) count) text (Fault (Limit what passing))

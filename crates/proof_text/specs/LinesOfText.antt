@@ -23,6 +23,6 @@ pub record IsNextLine (before : Unread) (bytes : List ℕ) (number : ℕ) (ended
 -- The lines of a text, in order, each with its line feed. The last one may have none, and is then not empty.
 pub data AreLines : List ℕ → List (List ℕ) → Type 0 where
   none : AreLines [] []
-  first : {bytes text : List ℕ} {lines : List (List ℕ)} → Each (λ byte. byte ≡ 10 → ⊥) bytes → AreLines text lines
+  first : (bytes : List ℕ) {text : List ℕ} {lines : List (List ℕ)} → Each (λ byte. byte ≡ 10 → ⊥) bytes → AreLines text lines
       → AreLines (fed bytes true ++ text) (fed bytes true ∷ lines)
   last : {bytes : List ℕ} → Each (λ byte. byte ≡ 10 → ⊥) bytes → (bytes ≡ [] → ⊥) → AreLines bytes (fed bytes false ∷ [])
