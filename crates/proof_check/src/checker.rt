@@ -6,6 +6,7 @@ ghost use Rattle.proof_check.specs.Checking.{Finishes, IsFed, Stands, on};
 ghost use Rattle.proof_check.specs.Judging.{begun};
 ghost use Rattle.proof_check.specs.Limits.{IsSmall};
 
+use crate::NoMemory;
 use crate::answers::{ProofFault, Stop, Verdict};
 use crate::level::Level;
 use crate::next::next_part;
@@ -13,7 +14,7 @@ use crate::part::Part;
 use crate::sized::SizedTerm;
 use crate::steps::Steps;
 use proof_text::Line;
-use std::alloc::{AllocError, Global};
+use std::alloc::Global;
 use std::marker::Model;
 use u_terms::{Facts, U, same};
 
@@ -58,7 +59,7 @@ impl<'f> Checker<'f> {
         facts: &'f Facts,
         outs: u32,
         left: &U,
-    ) -> Result<Checker<'f>, AllocError>
+    ) -> Result<Checker<'f>, NoMemory>
         requires small { IsSmall left.now }
         requires few { outs ≤ 2048 }
         ensures { IfOk result (λ checker. checker ≡ record { facts = facts.now; outs = outs; state = on 0 (begun left.now) }) }
