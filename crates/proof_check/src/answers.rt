@@ -1,6 +1,11 @@
 //! What a check of a proof answers.
+ghost use Rattle.std.specs.Prelude.{◌≡◌};
+ghost use Rattle.proof_check.specs.declared.answers.ProofFault.TheVariants as the_fault;
+ghost use Rattle.proof_check.specs.declared.answers.Stop.TheVariants as the_stop;
 
+use crate::limits::Passed;
 use proof_text::LimitKind;
+use std::alloc::AllocError;
 use thiserror::Error;
 
 /// What a proof shows of two terms.
@@ -48,4 +53,31 @@ pub enum Stop {
     /// The step on this line, counted from 1, has no result, or the inner steps that this line closes end elsewhere.
     Fails { line: u64 },
     Fault(ProofFault),
+}
+
+impl From<AllocError> for ProofFault {
+    ghost from_gives = { λ _ fault. fault ≡ the_fault.NoMemory };
+
+    fn from(_: AllocError) -> ProofFault {
+        ProofFault::NoMemory
+    }
+}
+
+impl From<AllocError> for Stop {
+    ghost from_gives = { λ _ stop. stop ≡ the_stop.Fault the_fault.NoMemory };
+
+    fn from(_: AllocError) -> Stop {
+        Stop::Fault(ProofFault::NoMemory)
+    }
+}
+
+impl From<Passed> for Stop {
+    ghost from_gives = { λ passed stop. stop ≡ the_stop.Fault (the_fault.Limit passed.what passed.count) };
+
+    fn from(passed: Passed) -> Stop {
+        Stop::Fault(ProofFault::Limit {
+            what: passed.what,
+            count: passed.count,
+        })
+    }
 }
