@@ -18,3 +18,4 @@ pub mod LinesSpelled
 pub mod OneAnswer
 pub mod OneText
 pub mod HeadingsRead
+pub mod LongTexts

@@ -138,7 +138,7 @@ line_once p p' f f' q q' xs bs x y l m h =
 
 -- ---- steps
 -- the inner steps and the line that ends them
-abbrev inner_text : Bool → List ℕ → List ℕ
+abbrev pub inner_text : Bool → List ℕ → List ℕ
 inner_text true inner = inner ++ (codes "}" ++ newline)
 inner_text false inner = []
 
@@ -161,7 +161,7 @@ unfolding IsWritable step_constructors
 rows_none [] w = refl
 rows_none (s ∷ l) w = absurd w
 
-abbrev line_of_step : Step-F Step → List ℕ
+abbrev pub line_of_step : Step-F Step → List ℕ
 line_of_step d = line_text d.path d.forward d.rule d.args
 
 form_text : (d : Step-F Step) → step_text (roll-Step d) ≡ line_of_step d ++ inner_text (has_inner d.rule) (steps_text d.inner)
@@ -184,10 +184,10 @@ form_parts d w = record {
   inner = rows_writable d.inner w.2;
 }
 
-text_parts : (s : Step) → step_text s ≡ line_of_step (out-Step s) ++ inner_text (has_inner (out-Step s).rule) (steps_text (out-Step s).inner)
+pub text_parts : (s : Step) → step_text s ≡ line_of_step (out-Step s) ++ inner_text (has_inner (out-Step s).rule) (steps_text (out-Step s).inner)
 text_parts s = subst (λ z. step_text z ≡ line_of_step (out-Step s) ++ inner_text (has_inner (out-Step s).rule) (steps_text (out-Step s).inner)) (roll-out-Step s) (form_text (out-Step s))
 
-parts_of : (s : Step) → IsWritable s → Parts (out-Step s)
+pub parts_of : (s : Step) → IsWritable s → Parts (out-Step s)
 parts_of s w = form_parts (out-Step s) (subst IsWritable (sym (roll-out-Step s)) w)
 
 -- what stands in front is no step
