@@ -19,3 +19,5 @@ pub mod OneAnswer
 pub mod OneText
 pub mod HeadingsRead
 pub mod LongTexts
+pub mod Sending
+pub mod TextsAt

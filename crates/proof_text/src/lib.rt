@@ -13,13 +13,18 @@ mod lines;
 mod names;
 mod number;
 mod path;
+mod pending;
+mod proof_writer;
 mod rule_name;
 mod sign;
 mod step;
+mod step_writer;
 mod term;
+mod term_writer;
 
 pub use heading::{read_outs, read_version};
 pub use lengths::proof_bytes;
 pub use limits::LimitKind;
 pub use line::{LineFault, LineStep, read_step};
 pub use lines::{Line, Lines};
+pub use proof_writer::write_proof;
