@@ -16,9 +16,9 @@ use Rattle.u_deriv.specs.declared.run.Run.{Run}
 use Rattle.u_deriv.specs.declared.step.Step.{Step, out-Step}
 use Rattle.u_deriv.specs.StepText.{term_text, value_text, first_text, run_text, direction_text, rule_text, argument_text, arguments_text, head_text, step_text, steps_text, lines_length}
 use Rattle.proof_text.specs.RuleNames.{has_inner}
-use Rattle.proof_text.specs.Written.{end_text, line_text, proof_text}
+use Rattle.proof_text.specs.Written.{end_text, proof_text}
 use Rattle.proof_text.proofs.TermsAgain.{more_text, first_text-list}
-use Rattle.proof_text.proofs.OneText.{inner_text, line_of_step, text_parts}
+use Rattle.proof_text.proofs.OneText.{inner_text, text_parts}
 
 -- ---- terms and values
 one_long : (x : List ℕ) → length (x ++ codes ")") ≡ 1 + length x

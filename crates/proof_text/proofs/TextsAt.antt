@@ -8,8 +8,7 @@ use denote.Hole.Carrier.{roll}
 use Rattle.data_model.specs.Lists.{Each}
 use Rattle.u_terms.specs.declared.term.U.TheVariants as u
 use Rattle.u_terms.specs.declared.term.Val.TheVariants as v
-use Rattle.u_terms.specs.Syntax.{U, Val, row_of, constructors}
-use Rattle.u_rules.specs.declared.rule.Rule.{Rule}
+use Rattle.u_terms.specs.Syntax.{U, Val, constructors}
 use Rattle.u_rules.specs.declared.rule.Arg.{Arg}
 use Rattle.u_deriv.specs.declared.run.Run.{Run}
 use Rattle.u_rules.specs.declared.rule.Arg.TheVariants.{Values}
@@ -23,7 +22,7 @@ use Rattle.proof_text.specs.RuleNames.{kinds_of, has_inner}
 use Rattle.proof_text.specs.Words.{HasWords, ValueHasWords}
 use Rattle.proof_text.specs.Written.{AreOf, HasLine, SaysStep, HasInner, IsWritable, AreWritable, FitsRule, FitRules, end_text}
 use Rattle.proof_text.proofs.TermsAgain.{more_text, first_text-list, words-list}
-use Rattle.proof_text.proofs.OneText.{inner_text, line_of_step, text_parts}
+use Rattle.proof_text.proofs.OneText.{inner_text, text_parts}
 
 -- ---- lists
 -- one more

@@ -1,5 +1,5 @@
 //! The text of a proof, written.
-ghost use Rattle.std.specs.Prelude.{IfOk, OnErr, OnOk};
+ghost use Rattle.std.specs.Prelude.{OnErr, OnOk};
 ghost use Rattle.data_model.specs.Lists.{Each};
 ghost use Rattle.udp_io.specs.Faults.{HasCause};
 ghost use Rattle.udp_io.specs.Writing.{Grows, GrowsByPrefix};

@@ -1,4 +1,4 @@
-use Rattle.std.proofs.Common.{arith, rules}
+use Rattle.std.proofs.Common.{arith}
 use Rattle.proof_text.proofs.LongTexts.{capped_more, values-some}
 use Rattle.proof_text.proofs.lengths.+term_length.Goals as goal
 

@@ -1,4 +1,4 @@
-use Rattle.std.proofs.Common.{List, ℕ, [], ◌++◌, ap, rules}
+use Rattle.std.proofs.Common.{List, [], ◌++◌, ap, rules}
 use Rattle.u_deriv.specs.declared.step.Step.{Step}
 use Rattle.proof_text.specs.Written.{proof_text}
 use Rattle.proof_text.proofs.Sending.{sent-all, sent-some, writes-as, writes-then}

@@ -1,4 +1,3 @@
-use Rattle.std.proofs.Common.{refl, ap}
 use Rattle.proof_text.specs.Words.{ArgumentHasWords}
 use Rattle.proof_text.proofs.Sending.{writes-as, writes-then}
 use Rattle.proof_text.proofs.TextsAt.{behind_space, flat_map-next, each-next}

@@ -1,4 +1,3 @@
-use Rattle.std.proofs.Common.{List, ℕ, ap, rules}
 use Rattle.proof_text.proofs.Sending.{writes-as, writes-then}
 use Rattle.proof_text.proofs.TextsAt.{head-parts}
 use Rattle.proof_text.proofs.step_writer.put_head.Goals as goal

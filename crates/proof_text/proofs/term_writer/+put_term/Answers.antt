@@ -1,4 +1,4 @@
-use Rattle.std.proofs.Common.{arith, rules}
+use Rattle.std.proofs.Common.{arith}
 use Rattle.proof_text.specs.Words.{ValueHasWords}
 use Rattle.proof_text.proofs.Sending.{writes-as, writes-then}
 use Rattle.proof_text.proofs.TextsAt.{all-values, each-next, front-next, no_values, opened-next, text-Zero, text-One, text-Add, text-Mul, text-Squash, text-Not, text-Sum, text-Rel, text-Eq, text-Pred, text-Bound, text-Free, text-Lit, text-Fun, text-Agg, words-Zero, words-One, words-Add, words-Mul, words-Squash, words-Not, words-Sum, words-Rel, words-Eq, words-Pred, words-Bound, words-Free, words-Lit, words-Fun, words-Agg}
