@@ -18,6 +18,7 @@ use Rattle.u_deriv.specs.StepText.{term_text, value_text, first_text, run_text, 
 use Rattle.proof_text.specs.RuleNames.{has_inner}
 use Rattle.proof_text.specs.Written.{end_text, proof_text}
 use Rattle.proof_text.proofs.TermsAgain.{more_text, first_text-list}
+use Rattle.proof_text.proofs.TextsAt.{head_of}
 use Rattle.proof_text.proofs.OneText.{inner_text, text_parts}
 
 -- ---- terms and values
@@ -144,9 +145,6 @@ length-head path forward q args =
       direction_long forward,
       length-append (rule_text q) (arguments_text args),
     )
-
-abbrev pub head_of : Step → List ℕ
-head_of s = head_text (out-Step s).path (out-Step s).forward (out-Step s).rule (out-Step s).args
 
 line_end : (b : Bool) (inner : List ℕ) → b ≡ true → length (end_text b ++ inner_text b inner) ≡ 5 + length inner
 line_end true inner e = omega (arith, length-append inner (codes "}\n"))

@@ -17,12 +17,12 @@ use Rattle.u_deriv.specs.declared.step.Step.TheViews.{roll-out-Step}
 use Rattle.u_deriv.specs.declared.step.Step.TheBlock.{hidden-the_row-Step-0}
 use Rattle.u_deriv.specs.declared.step.Step.TheOpen.{Step-F}
 use Rattle.u_deriv.specs.StepHeight.{step_constructors}
-use Rattle.u_deriv.specs.StepText.{term_text, value_text, argument_text, arguments_text, counted, direction_text, head_text, rule_text, run_text, newline, step_text, steps_text}
+use Rattle.u_deriv.specs.StepText.{term_text, value_text, argument_text, arguments_text, direction_text, head_text, rule_text, run_text, newline, step_text, steps_text}
 use Rattle.proof_text.specs.RuleNames.{kinds_of, has_inner}
 use Rattle.proof_text.specs.Words.{HasWords, ValueHasWords}
 use Rattle.proof_text.specs.Written.{AreOf, HasLine, SaysStep, HasInner, IsWritable, AreWritable, FitsRule, FitRules, end_text}
 use Rattle.proof_text.proofs.TermsAgain.{more_text, first_text-list, words-list}
-use Rattle.proof_text.proofs.OneText.{inner_text, text_parts}
+use Rattle.proof_text.proofs.OneText.{inner_text, rows_none, text_parts}
 
 -- ---- lists
 -- one more
@@ -45,11 +45,6 @@ each-then P (y ∷ ys) (suc i) j d x k e h s p =
 
 pub each-next : {A : Type 0} (P : A → Type 0) (xs : List A) (i : ℕ) (d x : A) → x ≡ get_or xs i d → i < length xs → Each P (take i xs) → P x → Each P (take (i + 1) xs)
 each-next P xs i d x e h s p = each-then P xs i (i + 1) d x refl e h s p
-
-pub each-at : {A : Type 0} (P : A → Type 0) (xs : List A) (i : ℕ) (d x : A) → x ≡ get_or xs i d → i < length xs → Each P xs → P x
-each-at P [] i d x e h s = absurd (omega (arith, h))
-each-at P (y ∷ ys) zero d x e h s = subst P (sym e) s.0
-each-at P (y ∷ ys) (suc i) d x e h s = each-at P ys i d x e (omega (arith, h)) s.1
 
 -- ---- values
 abbrev pub behind_comma : Val → List ℕ
@@ -232,11 +227,6 @@ abbrev pub behind_space : Arg → List ℕ
 behind_space argument = codes " " ++ argument_text argument
 
 -- ---- steps
-pub counted-many : (count : ℕ) → (count ≡ 1 → ⊥) → counted count ≡ decimal count
-counted-many zero h = refl
-counted-many (suc zero) h = absurd (h refl)
-counted-many (suc (suc count)) h = refl
-
 abbrev pub head_of : Step → List ℕ
 head_of s = head_text (out-Step s).path (out-Step s).forward (out-Step s).rule (out-Step s).args
 
@@ -272,11 +262,6 @@ pub record Fits (d : Step-F Step) : Type 0 where
   pub kinds : AreOf (kinds_of d.rule) d.args
   pub none : has_inner d.rule ≡ false → d.inner ≡ []
   pub inner : Each FitsRule d.inner
-
-rows_none : (l : List Step) → HasInner false (hidden-the_row-Step-0 l) → l ≡ []
-unfolding IsWritable step_constructors
-rows_none [] w = refl
-rows_none (s ∷ l) w = absurd w
 
 rows_fit : (l : List Step) → FitRules (hidden-the_row-Step-0 l) → Each FitsRule l
 unfolding FitsRule step_constructors
