@@ -47,9 +47,9 @@ ROWS = [
 ]
 
 
-def read_crates():
-    """The crates of the repository, each with those that it stands on."""
-    lines = (line.split("#")[0] for line in (ROOT / "crates.txt").read_text().splitlines())
+def read_crates(root):
+    """The crates of a repository, each with those that it stands on."""
+    lines = (line.split("#")[0] for line in (root / "crates.txt").read_text().splitlines())
     return {name.strip(): words.split() for name, words in (line.split(":") for line in lines if line.strip())}
 
 
@@ -62,25 +62,35 @@ def below(crates, names):
     return found
 
 
-def build(room):
-    """Proves and builds the program over copies of the libraries, and answers where it is."""
-    crates = read_crates()
-    libraries = below(crates, USED)
+def libraries_in(room, root, names):
+    """Copies these libraries and those below them from one folder to another, and answers the crates that a program over them stands on."""
+    crates = read_crates(root)
+    libraries = below(crates, names)
     for name in libraries:
-        shutil.copytree(ROOT / "crates" / name, room / "crates" / name, ignore=shutil.ignore_patterns("out", "must-fail"))
-    crates = {name: crates[name] for name in libraries}
-    crates[PROGRAM] = libraries + sorted({it for words in crates.values() for it in words} - set(libraries))
-    (room / "crates.txt").write_text("".join(f"{name}: {' '.join(words)}\n" for name, words in crates.items()))
-    crate = room / "crates" / PROGRAM
+        shutil.copytree(root / "crates" / name, room / "crates" / name, ignore=shutil.ignore_patterns("out", "must-fail"))
+    (room / "crates.txt").write_text("".join(f"{name}: {' '.join(crates[name])}\n" for name in libraries))
+    return libraries + sorted({it for name in libraries for it in crates[name]} - set(libraries))
+
+
+def program_in(room, name, main, used):
+    """Puts a program of one file over these crates."""
+    with open(room / "crates.txt", "a", encoding="ascii") as crates:
+        crates.write(f"{name}: {' '.join(used)}\n")
+    crate = room / "crates" / name
     for part in ("src", "specs", "proofs"):
         (crate / part).mkdir(parents=True)
-    shutil.copy(TEMPLATE, crate / "src" / "main.rt")
+    shutil.copy(main, crate / "src" / "main.rt")
     for part in ("specs", "proofs"):
         (crate / part / "Lib.antt").touch()
-    ran = subprocess.run(["rt", "run", "--", "0", "0", "0"], cwd=crate, stdin=subprocess.DEVNULL, capture_output=True, text=True)
+    return crate
+
+
+def built(crate, words):
+    """Has a program proved and built, and run once on these words. Answers where it is."""
+    ran = subprocess.run(["rt", "run", "--", *words], cwd=crate, stdin=subprocess.DEVNULL, capture_output=True, text=True)
     if ran.returncode != 0:
         sys.exit(f"the build failed:\n{ran.stdout}{ran.stderr}")
-    return crate / "out" / PROGRAM
+    return crate / "out" / crate.name
 
 
 def seconds(program, row, steps):
@@ -102,7 +112,8 @@ def main():
     load = ", ".join(f"{it:.1f}" for it in os.getloadavg())
     print(f"{os.cpu_count()} processors, load {load}\n")
     with tempfile.TemporaryDirectory(prefix="udp-steps-") as room:
-        program = build(Path(room))
+        used = libraries_in(Path(room), ROOT, USED)
+        program = built(program_in(Path(room), PROGRAM, TEMPLATE, used), ["0", "0", "0"])
         print(f"{'':12}{'nodes':>10}{'turns':>8}{f'{FEW:,}':>10}{f'{MANY:,}':>10}{'growth':>8}{'us/step':>10}")
         for row in ROWS:
             measure(program, row)

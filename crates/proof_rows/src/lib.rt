@@ -1,8 +1,13 @@
-//! Tests of the lines of proofs: each form of a line cut and changed at each byte, numbers and limits.
+//! Tests of the lines of proofs: each form of a line cut and changed at each byte, numbers and limits, what is read of each rule, and
+//! that it is written again.
 #![tactic(auto)]
 
 pub mod answer;
+pub mod contents;
 pub mod fronts;
+pub mod proofs;
 pub mod spelled;
 #[cfg(test)]
 mod tests;
+pub mod wanted;
+pub mod written;

@@ -1,22 +1,29 @@
-use crate::answer::{Answer, answered, column};
+use crate::answer::{Answer, answer_of};
+use crate::contents::RULES;
 use crate::fronts::column_among_spelled;
+use crate::proofs::PROOFS;
 use crate::spelled::{CHANGED, OTHERS, SPELLED};
-use proof_text::{Lines, read_outs, read_step, read_version};
+use crate::wanted::is_said;
+use crate::written::{push_proof, push_text};
+use proof_text::{Lines, proof_bytes, read_outs, read_step, read_version, write_proof};
 use std::alloc::Global;
 use std::test::Fail;
+use u_terms::List;
+use udp_io::{MemSink, SinkFault};
 
 #[test]
-fn lines_cut_after_each_byte(rt: HostRuntime) {
+fn lines_cut_after_each_byte(rt: HostRuntime) -> Result<(), Fail> {
     for line in SPELLED.split(|byte| *byte == b'\n') {
-        assert_eq!(rt; column(read_step(rt.alloc(), line, true)), None);
+        assert!(rt; answer_of(rt.alloc(), line, true)?.is_line());
         for place in 0..=line.len() {
             let cut = line.get(..place).unwrap_or(line);
             assert_eq!(rt;
-                column(read_step(rt.alloc(), cut, false)),
-                Some(place as u64 + 1)
+                answer_of(rt.alloc(), cut, false)?,
+                Answer::Bad(place as u64 + 1)
             );
         }
     }
+    Ok(())
 }
 
 #[test]
@@ -28,11 +35,15 @@ fn lines_with_each_byte_changed(rt: HostRuntime) -> Result<(), Fail> {
                 if let Some(byte) = changed.get_mut(place) {
                     *byte = *other;
                 }
-                assert_eq!(rt;
-                    column(read_step(rt.alloc(), changed.as_slice(), true)),
-                    column_among_spelled(changed.as_slice()),
-                    "byte {other} at {place}"
-                );
+                let answer = answer_of(rt.alloc(), changed.as_slice(), true)?;
+                match column_among_spelled(changed.as_slice()) {
+                    Some(column) => {
+                        assert_eq!(rt; answer, Answer::Bad(column), "byte {other} at {place}");
+                    }
+                    None => {
+                        assert!(rt; answer.is_line(), "byte {other} at {place}");
+                    }
+                }
             }
         }
     }
@@ -91,9 +102,17 @@ const LINES: [(&[u8], Answer); 44] = [
 ];
 
 #[test]
-fn lines_with_their_line_feed(rt: HostRuntime) {
+fn lines_with_their_line_feed(rt: HostRuntime) -> Result<(), Fail> {
     for (line, wanted) in LINES {
-        assert_eq!(rt; answered(read_step(rt.alloc(), line, true)), wanted);
+        assert_eq!(rt; answer_of(rt.alloc(), line, true)?, wanted);
+    }
+    Ok(())
+}
+
+#[test]
+fn what_is_read_of_each_rule(rt: HostRuntime) {
+    for (line, wanted) in RULES {
+        assert!(rt; is_said(&read_step(rt.alloc(), line, true), &wanted));
     }
 }
 
@@ -109,7 +128,7 @@ fn repeated(alloc: Global, parts: &[(&[u8], usize)]) -> Result<Vec<u8>, Fail> {
 }
 
 /// Lines whose arguments are as large as they may be, or larger by a node, and a long path.
-const LARGE: [(&[(&[u8], usize)], Answer); 9] = [
+const LARGE: [(&[(&[u8], usize)], Answer); 13] = [
     (
         &[(b"/ > sq_one R0(f0", 1), (b",f0", 199_998), (b")", 1)],
         Answer::Whole,
@@ -149,6 +168,42 @@ const LARGE: [(&[(&[u8], usize)], Answer); 9] = [
         ],
         Answer::TooDeep,
     ),
+    (
+        &[
+            (b"/ > eq_refl ", 1),
+            (b"F8(", 2_047),
+            (b"f0", 1),
+            (b")", 2_047),
+        ],
+        Answer::Whole,
+    ),
+    (
+        &[
+            (b"/ > eq_refl ", 1),
+            (b"F8(", 2_048),
+            (b"f0", 1),
+            (b")", 2_048),
+        ],
+        Answer::TooDeep,
+    ),
+    (
+        &[
+            (b"/ > fkey 0 (c1,", 1),
+            (b"F8(", 2_047),
+            (b"f0", 1),
+            (b")", 2_048),
+        ],
+        Answer::Whole,
+    ),
+    (
+        &[
+            (b"/ > fkey 0 (c1,", 1),
+            (b"F8(", 2_048),
+            (b"f0", 1),
+            (b")", 2_049),
+        ],
+        Answer::TooDeep,
+    ),
     // The last node is one too many, and too deep as well.
     (
         &[
@@ -170,10 +225,7 @@ const LARGE: [(&[(&[u8], usize)], Answer); 9] = [
 fn large_arguments_and_a_long_path(rt: HostRuntime) -> Result<(), Fail> {
     for (parts, wanted) in LARGE {
         let line = repeated(rt.alloc(), parts)?;
-        assert_eq!(rt;
-            answered(read_step(rt.alloc(), line.as_slice(), true)),
-            wanted
-        );
+        assert_eq!(rt; answer_of(rt.alloc(), line.as_slice(), true)?, wanted);
     }
     Ok(())
 }
@@ -219,4 +271,25 @@ fn lines_of_heading(rt: HostRuntime) {
         assert_eq!(rt; read_version(line, ended), version);
         assert_eq!(rt; read_outs(line, ended), outs);
     }
+}
+
+#[test]
+fn what_is_read_is_written_again(rt: HostRuntime) -> Result<(), Fail> {
+    let alloc = rt.alloc();
+    for proof in PROOFS {
+        let mut text = Vec::new(alloc);
+        push_text(&mut text, &proof)?;
+        let mut steps = List::new(alloc);
+        push_proof(alloc, &mut steps, &proof)?;
+        assert_eq!(rt; proof_bytes(proof.outs, &steps), text.len() as u64);
+        let mut sink = MemSink::new(alloc, 7, text.len())?;
+        assert_eq!(rt; write_proof(&mut sink, proof.outs, &steps), Ok(()));
+        assert_eq!(rt; sink.bytes(), text.as_slice());
+        for room in 0..text.len() {
+            let mut sink = MemSink::new(alloc, 7, room)?;
+            assert_eq!(rt; write_proof(&mut sink, proof.outs, &steps), Err(SinkFault));
+            assert_eq!(rt; Some(sink.bytes()), text.get(..room));
+        }
+    }
+    Ok(())
 }

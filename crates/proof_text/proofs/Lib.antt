@@ -21,3 +21,7 @@ pub mod HeadingsRead
 pub mod StepLines
 pub mod TextLines
 mod LineSamples
+pub mod EndedLines
+pub mod LongTexts
+pub mod Sending
+pub mod TextsAt

@@ -11,6 +11,7 @@ pub mod Paths
 pub mod Reading
 pub mod ReadingLines
 pub mod RuleNames
+pub mod Sent
 pub mod Signs
 pub mod StepLines
 pub mod Words

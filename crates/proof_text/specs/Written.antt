@@ -92,6 +92,16 @@ unfoldable mutual
   HasInner false step.end_of-Step = Unit {0}
   HasInner false (step.more_of-Step first rest) = ⊥
 
+-- Each step, inner ones too, has as many arguments as its rule, each of the kind that the rule has there, and only one of `sq_fix` has inner
+-- steps. This is all that a step with a text needs, where its path and its numbers are those of a program.
+unfoldable mutual
+  pub FitsRule : step.Step → Type 0
+  FitsRule (step.Step' path forward q args shape inner) = AreOf (kinds_of q) args × HasInner (has_inner q) inner × FitRules inner
+
+  pub FitRules : {n : _} → step.Row_of-Step n → Type 0
+  FitRules step.end_of-Step = Unit {0}
+  FitRules (step.more_of-Step first rest) = FitsRule first × FitRules rest
+
 -- a header, the steps, and the last line; `outs` is the width of the queries
 abbrev pub proof_text : ℕ → List step.Step → List ℕ
 proof_text outs steps =

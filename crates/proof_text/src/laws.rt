@@ -33,6 +33,11 @@ pub fn lines_are_read_again()
     ensures { (says : TheLine) → Says says → IsRead (text_of says) says }
 {}
 
+/// No list of steps has two texts for one width.
+pub fn one_spelling()
+    ensures { (bytes others : List ℕ) (outs : ℕ) (steps : List TheStep) → ProofText bytes outs steps → ProofText others outs steps → bytes ≡ others }
+{}
+
 /// No bytes are the text of two lists of steps or of two widths, whatever the size of their arguments.
 pub fn one_text()
     ensures { (bytes : List ℕ) (outs width : ℕ) (steps others : List TheStep) → ProofText bytes outs steps → ProofText bytes width others →

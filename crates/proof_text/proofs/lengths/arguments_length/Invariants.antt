@@ -1,0 +1,7 @@
+use Rattle.std.proofs.Common.{◌≡◌, ◌-◌, ◌^◌, min, take}
+use Rattle.std.specs.Prelude.{sum_by}
+use Rattle.proof_text.proofs.LongTexts.{argument_length}
+use Rattle.proof_text.proofs.lengths.arguments_length.Given as goal
+
+abbrev pub invariant-loop-argument : goal.invariant-loop-argument
+invariant-loop-argument l = l.sum ≡ min (sum_by argument_length (take l.argument-index l.arguments)) (2 ^ 64 - 1)
