@@ -382,7 +382,7 @@ module _ (facts : Facts) (outs : ℕ) (left : U) where
       one_coming facts outs (n + 1) q other o o'
       (subst (λ (l : ℕ). Comes facts outs (l + 1) q other o) i (subst (λ (r : Progress). Comes facts outs (m + 1) r other o) k (subst (λ (x : List ℕ). Comes facts outs (m + 1) p x o) t a))) b
 
-  one_state : (xs ys : List (List ℕ)) (s s' : State) → xs ≡ ys → Told s → Told s' → Stands facts outs left xs s → Stands facts outs left ys s' → s ≡ s'
+  pub one_state : (xs ys : List (List ℕ)) (s s' : State) → xs ≡ ys → Told s → Told s' → Stands facts outs left xs s → Stands facts outs left ys s' → s ≡ s'
   one_state _ _ _ _ e n m none none = refl
   one_state _ _ _ _ e n m none (takes {texts = ys} {text = y} b k) = absurd (nothing-more ys y e)
   one_state _ _ _ _ e n m none (stops {texts = ys} {text = y} b k) = absurd (nothing-more ys y e)

@@ -3,6 +3,7 @@ pub mod Judging
 pub mod Accepted
 pub mod Checking
 pub mod Check
-pub mod TermSize
-pub mod Refusing
+pub mod Pieces
 pub mod Kept
+pub mod Refusing
+pub mod TermSize

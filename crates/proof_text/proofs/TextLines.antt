@@ -207,7 +207,7 @@ lines_whole _ _ none = refl
 lines_whole _ _ (first bytes {text = text} {lines = lines} u more) = ap (λ (z : List ℕ). fed bytes true ++ z) (lines_whole text lines more)
 lines_whole _ _ (last {bytes = bytes} u some) = sym (append-nil bytes)
 
-behind_feed : (x y r s : List ℕ) → Unbroken x → Unbroken y → x ++ 10 ∷ r ≡ y ++ 10 ∷ s → (x ≡ y) × (r ≡ s)
+pub behind_feed : (x y r s : List ℕ) → Unbroken x → Unbroken y → x ++ 10 ∷ r ≡ y ++ 10 ∷ s → (x ≡ y) × (r ≡ s)
 behind_feed [] [] r s u v e = (refl, cc)
 behind_feed [] (b ∷ y) r s u v e = let i : b ≡ 10 = cc in absurd (v.0 i)
 behind_feed (a ∷ x) [] r s u v e = let i : a ≡ 10 = cc in absurd (u.0 i)
@@ -217,7 +217,7 @@ behind_feed (a ∷ x) (b ∷ y) r s u v e =
     let k = behind_feed x y r s u.1 v.1 j in
     (ap (λ (c : ℕ). c ∷ x) i ∙ ap (λ (z : List ℕ). b ∷ z) k.0, k.1)
 
-without_feed : (x y r : List ℕ) → Unbroken x → x ≡ y ++ 10 ∷ r → ⊥
+pub without_feed : (x y r : List ℕ) → Unbroken x → x ≡ y ++ 10 ∷ r → ⊥
 without_feed [] [] r u e = cc e
 without_feed [] (b ∷ y) r u e = cc e
 without_feed (a ∷ x) [] r u e = let i : a ≡ 10 = cc in u.0 i

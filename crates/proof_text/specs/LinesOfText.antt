@@ -26,3 +26,9 @@ pub data AreLines : List ℕ → List (List ℕ) → Type 0 where
   first : (bytes : List ℕ) {text : List ℕ} {lines : List (List ℕ)} → Each (λ byte. byte ≡ 10 → ⊥) bytes → AreLines text lines
       → AreLines (fed bytes true ++ text) (fed bytes true ∷ lines)
   last : {bytes : List ℕ} → Each (λ byte. byte ≡ 10 → ⊥) bytes → (bytes ≡ [] → ⊥) → AreLines bytes (fed bytes false ∷ [])
+
+-- the lines of a text that end in it, in order, and the bytes behind the last of them
+pub data AreEnded : List ℕ → List (List ℕ) → List ℕ → Type 0 where
+  nothing : {rest : List ℕ} → AreEnded rest [] rest
+  line : (bytes : List ℕ) {text : List ℕ} {lines : List (List ℕ)} {rest : List ℕ} → Each (λ byte. byte ≡ 10 → ⊥) bytes → AreEnded text lines rest
+      → AreEnded (fed bytes true ++ text) (fed bytes true ∷ lines) rest
