@@ -6,8 +6,6 @@ mod facts;
 mod fault;
 pub mod laws;
 mod read;
-#[cfg(test)]
-mod tests;
 mod text;
 mod translated;
 

@@ -13,8 +13,6 @@ mod reading;
 mod relations;
 mod sets;
 pub mod statement_laws;
-#[cfg(test)]
-mod tests;
 
 pub use fault::{SchemaCode, SchemaFault};
 pub use read::read_schema;

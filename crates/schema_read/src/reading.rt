@@ -19,8 +19,6 @@ mod index;
 mod names;
 mod rules;
 mod statement;
-#[cfg(test)]
-mod tests;
 
 use plain_data::List;
 use sql_model::Statement;

@@ -18,8 +18,6 @@ mod resolution;
 mod resolved;
 mod shape;
 mod star;
-#[cfg(test)]
-mod tests;
 pub mod tree;
 mod views;
 

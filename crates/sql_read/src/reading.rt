@@ -15,8 +15,6 @@ mod item;
 mod primary;
 mod query;
 mod test;
-#[cfg(test)]
-mod tests;
 
 use crate::fault::ReadFault;
 use crate::tokens::Tokens;

@@ -14,8 +14,6 @@ use std::marker::Model;
 
 mod counting;
 mod eating;
-#[cfg(test)]
-mod tests;
 
 pub(crate) use counting::Mark;
 pub use eating::place;

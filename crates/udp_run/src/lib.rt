@@ -9,8 +9,6 @@ pub mod laws;
 mod lines;
 mod output;
 mod step;
-#[cfg(test)]
-mod tests;
 mod top;
 
 pub use answer::Status;
