@@ -187,7 +187,7 @@ form_parts d w = record {
 pub text_parts : (s : Step) → step_text s ≡ line_of_step (out-Step s) ++ inner_text (has_inner (out-Step s).rule) (steps_text (out-Step s).inner)
 text_parts s = subst (λ z. step_text z ≡ line_of_step (out-Step s) ++ inner_text (has_inner (out-Step s).rule) (steps_text (out-Step s).inner)) (roll-out-Step s) (form_text (out-Step s))
 
-parts_of : (s : Step) → IsWritable s → Parts (out-Step s)
+pub parts_of : (s : Step) → IsWritable s → Parts (out-Step s)
 parts_of s w = form_parts (out-Step s) (subst IsWritable (sym (roll-out-Step s)) w)
 
 -- what stands in front is no step
