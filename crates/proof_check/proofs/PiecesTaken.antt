@@ -1,5 +1,5 @@
 -- What pieces of a text do, one line after the other.
-use Rattle.std.proofs.Common.{◌≡◌, ℕ, ◌+◌, Bool, true, false, List, [], ◌∷◌, ◌++◌, refl, sym, ap, subst, ◌∙◌, append_assoc, append-nil, inl, inr, Result, Ok, Err}
+use Rattle.std.proofs.Common.{◌≡◌, ℕ, ◌+◌, Bool, true, false, List, [], ◌∷◌, ◌++◌, None, Some, refl, sym, ap, subst, ◌∙◌, append_assoc, append-nil, inl, inr, Result, Ok, Err}
 use Rattle.std.specs.Prelude.{◌⊎◌}
 use Rattle.u_terms.specs.declared.facts.Facts.{Facts}
 use Rattle.data_model.specs.Lists.{Each}
@@ -8,9 +8,9 @@ use Rattle.proof_text.proofs.EndedLines.{ended-before, ended-pieces}
 use Rattle.proof_check.specs.declared.answers.ProofFault.TheVariants.{NoMemory}
 use Rattle.proof_check.specs.declared.answers.Stop.{Stop}
 use Rattle.proof_check.specs.declared.answers.Stop.TheVariants.{Fault}
-use Rattle.proof_check.specs.Check.{Check, Tells}
+use Rattle.proof_check.specs.Check.{Check, HasStopped, Tells, stop_of}
 use Rattle.proof_check.specs.Checking.{State, on, stopped, IsFed}
-use Rattle.proof_check.specs.Pieces.{EndsLine, Feeds, GoesOn, IsFedBy, IsLastFed, IsOn, IsStoppedIn, IsTaken, IsTakenSoFar, IsUnbroken, KeepsLine, Partial, StopsBy, first, no_memory, none}
+use Rattle.proof_check.specs.Pieces.{EndsLine, Feeds, GoesOn, IsFedBy, IsLastFed, IsOn, IsStoppedIn, IsTaken, IsTakenSoFar, IsUnbroken, KeepsLine, Partial, StopsBy, Takes, first, no_memory, none}
 
 -- ---- one line
 told-on : (state : State) → Tells state (Ok tt) → IsOn state
@@ -26,10 +26,37 @@ pub fed-by : (before after : Check) (text : List ℕ) (answer : Result (Unit {0}
 fed-by before after text (Ok _) f o h t = record { facts = f; outs = o; feeds = first h none; on = λ _. told-on after.state t }
 fed-by before after text (Err stop) f o h t =
     let e : after.state ≡ stopped stop = told-stop after.state stop t in
-    (subst (λ s. Feeds before.facts before.outs before.state (text ∷ []) s) e (first h none), inl e)
+    (subst (λ s. Feeds before.facts before.outs before.state (text ∷ []) s) e (first h none), record { facts = f; outs = o; state = e })
 
-pub no_memory-by : (before after : Check) (text : List ℕ) → IsFedBy before text after (Err (Fault NoMemory))
-no_memory-by before after text = (no_memory, inr refl)
+-- where memory runs out, no line is looked at
+pub ran_out : (before after : Check) (text : List ℕ) (stop : Stop) → stop ≡ Fault NoMemory → HasStopped before (Fault NoMemory) after → IsFedBy before text after (Err stop)
+ran_out before after text stop e h = subst (λ s. IsFedBy before text after (Err s)) (sym e) (no_memory, h)
+
+pub keep-ends : (before : Partial) (bytes : List ℕ) (after : Partial) (stop : Stop) → KeepsLine before bytes after (Err stop) → EndsLine before bytes after (Err stop)
+keep-ends before bytes after stop (e, h) = (subst (StopsBy before.check (fed (before.bytes ++ bytes) true ∷ [])) (sym e) no_memory, h)
+
+-- ---- whether the lines have stopped
+pub goes_on_unless : (state : State) → None ≡ stop_of state → IsOn state
+goes_on_unless (on lines progress) e = tt
+goes_on_unless (stopped stop) e = absurd (cc e)
+
+pub tells_on : (state : State) → IsOn state → Tells state (Ok tt)
+tells_on (on lines progress) o = refl
+tells_on (stopped stop) o = absurd o
+
+pub tells_stopped : (state : State) (stop : Stop) → state ≡ stopped stop → Tells state (Err stop)
+tells_stopped state stop e = subst (λ s. Tells s (Err stop)) (sym e) refl
+
+pub not_stopped : (state : State) (stop : Stop) → None ≡ stop_of state → state ≡ stopped stop → ⊥
+not_stopped state stop e i = absurd (let n : None ≡ Some stop = e ∙ ap stop_of i in cc)
+
+stopped_by : (state : State) (stop : Stop) → stop_of state ≡ Some stop → state ≡ stopped stop
+stopped_by (on lines progress) stop e = absurd (cc e)
+stopped_by (stopped other) stop e = let i : other ≡ stop = cc in ap stopped i
+
+-- what stops a line behind others stops them all
+halted : (before now after : Check) (lines : List (List ℕ)) (stop : Stop) → GoesOn before lines now → HasStopped now stop after → HasStopped before stop after
+halted before now after lines stop g h = record { facts = h.facts ∙ g.facts; outs = h.outs ∙ g.outs; state = h.state }
 
 -- ---- several
 -- behind want of memory all lines stay
@@ -70,6 +97,15 @@ unbroken-append [] y u v = v
 unbroken-append (byte ∷ x) y u v = (u.0, unbroken-append x y u.1 v)
 
 module _ (before : Partial) (piece : List ℕ) where
+  pub still-stopped : (stop : Stop) → stop_of before.check.state ≡ Some stop → Takes before piece before (Err stop)
+  still-stopped stop e = (
+    record { lines = []; rest = before.bytes ++ piece; ended = nothing; stops = subst (λ s. Feeds before.check.facts before.check.outs before.check.state [] s) is none },
+    record { facts = refl; outs = refl; state = is },
+  )
+    where
+      is : before.check.state ≡ stopped stop
+      is = stopped_by before.check.state stop e
+
   pub nothing-taken : (rest : List ℕ) → rest ≡ piece → IsTakenSoFar before piece rest before
   nothing-taken rest e = record {
     front = [];
@@ -107,15 +143,25 @@ module _ (before : Partial) (piece : List ℕ) where
     }
 
     pub line-stops : (bytes more : List ℕ) (after : Partial) (stop : Stop) → rest ≡ bytes ++ 10 ∷ more → IsUnbroken now.bytes → IsUnbroken bytes → EndsLine now bytes after (Err stop)
-        → IsStoppedIn before piece stop
-    line-stops bytes more after stop e u v s = record {
-      lines = t.lines ++ fed (now.bytes ++ bytes) true ∷ [];
-      rest = more;
-      ended = subst (λ b. AreEnded (before.bytes ++ b) (t.lines ++ fed (now.bytes ++ bytes) true ∷ []) more) (sym (parts-with bytes more e))
-          (subst (λ b. AreEnded b (t.lines ++ fed (now.bytes ++ bytes) true ∷ []) more) (append_assoc before.bytes (t.front ++ (bytes ++ 10 ∷ [])) more)
-          (ended-before (before.bytes ++ (t.front ++ (bytes ++ 10 ∷ []))) (t.lines ++ fed (now.bytes ++ bytes) true ∷ []) [] more (ended-with bytes u v)));
-      stops = stops-append before.check now.check t.lines (fed (now.bytes ++ bytes) true ∷ []) stop t.goes_on s;
-    }
+        → Takes before piece after (Err stop)
+    line-stops bytes more after stop e u v (s, h) = (
+      record {
+        lines = t.lines ++ fed (now.bytes ++ bytes) true ∷ [];
+        rest = more;
+        ended = subst (λ b. AreEnded (before.bytes ++ b) (t.lines ++ fed (now.bytes ++ bytes) true ∷ []) more) (sym (parts-with bytes more e))
+            (subst (λ b. AreEnded b (t.lines ++ fed (now.bytes ++ bytes) true ∷ []) more) (append_assoc before.bytes (t.front ++ (bytes ++ 10 ∷ [])) more)
+            (ended-before (before.bytes ++ (t.front ++ (bytes ++ 10 ∷ []))) (t.lines ++ fed (now.bytes ++ bytes) true ∷ []) [] more (ended-with bytes u v)));
+        stops = stops-append before.check now.check t.lines (fed (now.bytes ++ bytes) true ∷ []) stop t.goes_on s;
+      },
+      halted before.check now.check after.check t.lines stop t.goes_on h,
+    )
+
+    -- memory ran out where bytes were to be kept
+    pub keep-stops : (after : Partial) (stop : Stop) → (stop ≡ Fault NoMemory) × HasStopped now.check stop after.check → Takes before piece after (Err stop)
+    keep-stops after stop (e, h) = (
+      subst (IsStoppedIn before piece) (sym e) (record { lines = []; rest = before.bytes ++ piece; ended = nothing; stops = no_memory }),
+      halted before.check now.check after.check t.lines stop t.goes_on h,
+    )
 
     -- bytes of a line that goes on
     pub rest-kept : (bytes more : List ℕ) (after : Partial) → rest ≡ bytes ++ more → IsUnbroken bytes → (after.check ≡ now.check) × (after.bytes ≡ now.bytes ++ bytes)
@@ -148,21 +194,17 @@ module _ (before : Partial) (piece : List ℕ) where
     pub next-taken : ended ≡ true → (after : Partial) → IsUnbroken now.bytes → EndsLine now bytes after (Ok tt) → IsTakenSoFar before piece behind.text after
     next-taken e after u f = line-taken lines.text now t bytes behind.text after (rest-is e) u h.unbroken f
 
-    pub next-stops : ended ≡ true → (after : Partial) (stop : Stop) → IsUnbroken now.bytes → EndsLine now bytes after (Err stop) → IsStoppedIn before piece stop
+    pub next-stops : ended ≡ true → (after : Partial) (stop : Stop) → IsUnbroken now.bytes → EndsLine now bytes after (Err stop) → Takes before piece after (Err stop)
     next-stops e after stop u f = line-stops lines.text now t bytes behind.text after stop (rest-is e) u h.unbroken f
 
     pub next-kept : ended ≡ false → (after : Partial) → KeepsLine now bytes after (Ok tt) → IsTakenSoFar before piece behind.text after
     next-kept e after k = rest-kept lines.text now t bytes behind.text after (h.text ∙ ap (λ b. fed bytes b ++ behind.text) e) h.unbroken k
 
-  pub no_memory-in : (stop : Stop) → stop ≡ Fault NoMemory → IsStoppedIn before piece stop
-  no_memory-in stop e = subst (IsStoppedIn before piece) (sym e) (record { lines = []; rest = before.bytes ++ piece; ended = nothing; stops = no_memory })
-
 -- ---- the end of a text
-pub last-fed : (before : Partial) (after : Check) (answer : Result (Unit {0}) Stop) → (before.bytes ≡ [] → ⊥) → (answer ≡ Err (Fault NoMemory) → ⊥)
-    → IsFedBy before.check before.bytes after answer → IsLastFed before after.state
-last-fed before after (Ok _) some m g = inr (some, g.feeds)
-last-fed before after (Err stop) some m (s, inl e) = inr (some, subst (Feeds before.check.facts before.check.outs before.check.state (before.bytes ∷ [])) (sym e) s)
-last-fed before after (Err stop) some m (s, inr e) = absurd (m (ap Err e))
+pub last-fed : (before : Partial) (after : Check) (answer : Result (Unit {0}) Stop) → (before.bytes ≡ [] → ⊥) → IsFedBy before.check before.bytes after answer
+    → IsLastFed before after.state
+last-fed before after (Ok _) some g = inr (some, g.feeds)
+last-fed before after (Err stop) some (s, h) = inr (some, subst (Feeds before.check.facts before.check.outs before.check.state (before.bytes ∷ [])) (sym h.state) s)
 
 -- ---- pieces one after the other
 module _ (before now : Partial) (piece next : List ℕ) (t : IsTaken before piece now) where

@@ -1,5 +1,5 @@
 -- A check of a proof that is under way.
-use Rattle.std.specs.Prelude.{◌≡◌, ◌≢◌, ℕ, ◌+◌, ◌++◌, List, Result, Ok, Err}
+use Rattle.std.specs.Prelude.{◌≡◌, ◌≢◌, ℕ, ◌+◌, ◌++◌, List, Option, Some, None, Result, Ok, Err}
 use Rattle.u_terms.specs.Syntax.{U}
 use Rattle.u_terms.specs.declared.facts.Facts.{Facts}
 use Rattle.proof_check.specs.declared.answers.Stop.{Stop}
@@ -24,7 +24,18 @@ abbrev pub Tells : State → Result (Unit {0}) Stop → Type 0
 Tells (on lines progress) answer = answer ≡ Ok tt
 Tells (stopped stop) answer = answer ≡ Err stop
 
+-- the lines have stopped by this, and nothing else changed
+pub record HasStopped (before : Check) (stop : Stop) (after : Check) : Type 0 where
+  pub facts : after.facts ≡ before.facts
+  pub outs : after.outs ≡ before.outs
+  pub state : after.state ≡ stopped stop
+
 -- ---- contracts of private functions alone cite these
+-- what stopped the lines, if one did
+abbrev pub stop_of : State → Option Stop
+stop_of (on lines progress) = None
+stop_of (stopped stop) = Some stop
+
 -- what steps show that lead to the one term, where they are to lead to the other
 abbrev pub EndsAs : U → U → Verdict → Type 0
 EndsAs end right Proved = end ≡ right

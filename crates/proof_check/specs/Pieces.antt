@@ -10,7 +10,7 @@ use Rattle.proof_check.specs.declared.answers.Stop.{Stop}
 use Rattle.proof_check.specs.declared.answers.Stop.TheVariants.{Fault}
 use Rattle.proof_check.specs.declared.answers.Verdict.{Verdict}
 use Rattle.proof_check.specs.Checking.{State, on, stopped, IsFed, Finishes}
-use Rattle.proof_check.specs.Check.{Check}
+use Rattle.proof_check.specs.Check.{Check, HasStopped}
 
 -- what the lines so far have come to, and the bytes behind the last line feed
 pub record Partial : Type 0 where
@@ -56,7 +56,7 @@ pub record IsStoppedIn (before : Partial) (piece : List ℕ) (stop : Stop) : Typ
 
 abbrev pub Takes : Partial → List ℕ → Partial → Result (Unit {0}) Stop → Type 0
 Takes before piece after (Ok _) = IsTaken before piece after
-Takes before piece after (Err stop) = IsStoppedIn before piece stop
+Takes before piece after (Err stop) = IsStoppedIn before piece stop × HasStopped before.check stop after.check
 
 -- what a last line without a line feed does, where there is one
 abbrev pub IsLastFed : Partial → State → Type 0
@@ -64,40 +64,27 @@ IsLastFed before after =
     ((before.bytes ≡ []) × (after ≡ before.check.state))
     ⊎ ((before.bytes ≡ [] → ⊥) × Feeds before.check.facts before.check.outs before.check.state (before.bytes ∷ []) after)
 
+-- what a text that ends here shows of the two terms
 pub record IsFinished (before : Partial) (right : U) (answer : Result Verdict ProofFault) : Type 0 where
   pub state : State
   pub last : IsLastFed before state
   pub finishes : Finishes right state answer
 
--- what a text that ends here shows of the two terms; want of memory may come
-abbrev pub Ends : Partial → U → Result Verdict ProofFault → Type 0
-Ends before right answer = IsFinished before right answer ⊎ (answer ≡ Err NoMemory)
-
 -- ---- its parts: contracts of private functions alone cite these
--- how many lines were fed before the next one
-abbrev pub IsCounted : State → ℕ → Type 0
-IsCounted (on lines progress) count = lines ≡ count
-IsCounted (stopped stop) count = Unit {0}
-
 -- one line was fed, and taken or not
 abbrev pub IsFedBy : Check → List ℕ → Check → Result (Unit {0}) Stop → Type 0
 IsFedBy before line after (Ok _) = GoesOn before (line ∷ []) after
-IsFedBy before line after (Err stop) = StopsBy before (line ∷ []) stop × ((after.state ≡ stopped stop) ⊎ (stop ≡ Fault NoMemory))
+IsFedBy before line after (Err stop) = StopsBy before (line ∷ []) stop × HasStopped before stop after
 
 -- the line that begins with what was kept, and ends here
 abbrev pub EndsLine : Partial → List ℕ → Partial → Result (Unit {0}) Stop → Type 0
 EndsLine before bytes after (Ok _) = GoesOn before.check (fed (before.bytes ++ bytes) true ∷ []) after.check × (after.bytes ≡ [])
-EndsLine before bytes after (Err stop) = StopsBy before.check (fed (before.bytes ++ bytes) true ∷ []) stop
+EndsLine before bytes after (Err stop) = StopsBy before.check (fed (before.bytes ++ bytes) true ∷ []) stop × HasStopped before.check stop after.check
 
 -- the line that goes on
 abbrev pub KeepsLine : Partial → List ℕ → Partial → Result (Unit {0}) Stop → Type 0
 KeepsLine before bytes after (Ok _) = (after.check ≡ before.check) × (after.bytes ≡ before.bytes ++ bytes)
-KeepsLine before bytes after (Err stop) = stop ≡ Fault NoMemory
-
--- the last line
-abbrev pub EndsText : Partial → State → Result (Unit {0}) ProofFault → Type 0
-EndsText before after (Ok _) = IsLastFed before after
-EndsText before after (Err fault) = fault ≡ NoMemory
+KeepsLine before bytes after (Err stop) = (stop ≡ Fault NoMemory) × HasStopped before.check stop after.check
 
 -- so much of the piece was taken
 pub record IsTakenSoFar (before : Partial) (piece rest : List ℕ) (now : Partial) : Type 0 where

@@ -1,10 +1,13 @@
-ghost use Rattle.std.specs.Prelude.{◌≡◌, ◌≤◌, ◌∷◌, ◌++◌, [], ℕ, List, IfOk};
+//! A check of a proof that is fed line by line.
+ghost use Rattle.std.specs.Prelude.{◌≡◌, ◌≤◌, ◌∷◌, ◌++◌, [], ℕ, List, IfOk, IfSome};
 ghost use Rattle.u_terms.specs.Syntax.{U as TheU};
 ghost use Rattle.proof_text.specs.LinesOfText.{fed};
-ghost use Rattle.proof_check.specs.Check.{EndsAs, IsNext, Tells};
+ghost use Rattle.proof_check.specs.Check.{EndsAs, HasStopped, IsNext, Tells, stop_of};
 ghost use Rattle.proof_check.specs.Checking.{Finishes, IsFed, Stands, on};
 ghost use Rattle.proof_check.specs.Judging.{begun};
 ghost use Rattle.proof_check.specs.Limits.{IsSmall};
+ghost use Rattle.proof_check.specs.declared.answers.ProofFault.TheVariants.{NoMemory as OutOfMemory};
+ghost use Rattle.proof_check.specs.declared.answers.Stop.TheVariants.{Fault};
 
 use crate::NoMemory;
 use crate::answers::{ProofFault, Stop, Verdict};
@@ -115,6 +118,30 @@ impl<'f> Checker<'f> {
                 Err(stop)
             }
         }
+    }
+
+    /// What stopped the lines, if one did.
+    pub(crate) fn stop(&self) -> Option<Stop>
+        ensures { result ≡ stop_of self.now.state }
+    {
+        self.stop
+    }
+
+    /// The number of the next line, where 64 bits hold it.
+    pub(crate) fn next_number(&self) -> Option<u64>
+        ensures { IfSome result (IsNext self.now.state) }
+    {
+        self.lines.checked_add(1)
+    }
+
+    /// Stops for want of memory, and tells so.
+    pub(crate) fn run_out(&mut self) -> Stop
+        ensures stopped { HasStopped self.old (Fault OutOfMemory) self.new }
+        ensures stop { result ≡ Fault OutOfMemory }
+    {
+        let stop = Stop::Fault(ProofFault::NoMemory);
+        self.stop = Some(stop);
+        stop
     }
 
     /// How the text ends whose lines were fed so far. Takes no memory.

@@ -1,3 +1,5 @@
+//! What lines are to come.
+
 /// What the next line of a proof is to be.
 #[derive(Clone, Copy, Debug, PartialEq, Eq)]
 pub enum Part {

@@ -1,7 +1,10 @@
 //! A proof that comes in pieces.
-ghost use Rattle.std.specs.Prelude.{◌≡◌, []};
+ghost use Rattle.std.specs.Prelude.{◌≡◌, [], Err};
 ghost use Rattle.proof_text.specs.LinesOfText.{fed};
-ghost use Rattle.proof_check.specs.Pieces.{Ends, EndsLine, EndsText, IsCounted, IsFedBy, IsUnbroken, KeepsLine, Takes};
+ghost use Rattle.proof_check.specs.Check.{Tells};
+ghost use Rattle.proof_check.specs.Checking.{stopped};
+ghost use Rattle.proof_check.specs.Pieces.{EndsLine, IsFedBy, IsFinished, IsLastFed, IsUnbroken, KeepsLine, Takes};
+ghost use Rattle.proof_check.specs.declared.answers.Stop.{Stop as TheStop};
 
 use crate::answers::{ProofFault, Stop, Verdict};
 use crate::checker::Checker;
@@ -11,12 +14,10 @@ use std::marker::Model;
 use u_terms::U;
 
 /// Feeds a checker the lines of a text that comes in pieces: each line once its line feed has come, and the last one where the
-/// text ends. It keeps the bytes behind the last line feed, and looks at each byte a fixed number of times.
+/// text ends. It keeps the bytes behind the last line feed, however many they are, and looks at each byte a fixed number of times.
 #[derive(Drop)]
 pub struct Pieces<'f> {
     checker: Checker<'f>,
-    /// How many lines were fed.
-    lines: u64,
     partial: Vec<u8>,
 }
 
@@ -24,7 +25,7 @@ impl<'f> Model for Pieces<'f> {
     ghost use Rattle.std.specs.Coded.{codes};
     ghost use Rattle.u_terms.specs.contracts.facts.Facts as facts_type;
     ghost use Rattle.u_terms.specs.contracts.term.U as term_type;
-    ghost use Rattle.proof_check.specs.Pieces.{IsCounted, IsUnbroken, Partial};
+    ghost use Rattle.proof_check.specs.Pieces.{IsUnbroken, Partial};
 
     ghost Value = { Partial };
 
@@ -32,35 +33,30 @@ impl<'f> Model for Pieces<'f> {
 
     ghost view = { λ p. record { check = p.checker; bytes = p.partial.items } };
 
-    ghost invariant = { λ p. IsCounted p.checker.state p.lines × IsUnbroken p.partial.items };
+    ghost invariant = { λ p. IsUnbroken p.partial.items };
 }
 
 // Feeds the next line.
-fn feed(checker: &mut Checker<'_>, lines: &mut u64, text: &[u8], ended: bool) -> Result<(), Stop>
-    requires counted { IsCounted checker.old.state lines.old }
-    ensures counted { IsCounted checker.new.state lines.new }
-    ensures fed { IsFedBy checker.old (fed text.now ended) checker.new result }
+fn feed(checker: &mut Checker<'_>, text: &[u8], ended: bool) -> Result<(), Stop>
+    ensures { IsFedBy checker.old (fed text.now ended) checker.new result }
 {
-    let Some(number) = lines.checked_add(1) else {
-        return Err(Stop::Fault(ProofFault::NoMemory));
-    };
-    *lines = number;
-    checker.feed(Line {
-        text,
-        number,
-        ended,
-    })
+    match checker.next_number() {
+        Some(number) => checker.feed(Line {
+            text,
+            number,
+            ended,
+        }),
+        None => Err(checker.run_out()),
+    }
 }
 
 impl<'f> Pieces<'f> {
-    /// No piece has come yet, and the checker has no line.
+    /// No piece has come yet.
     pub fn new(alloc: Global, checker: Checker<'f>) -> Pieces<'f>
-        requires { IsCounted checker.state 0 }
         ensures { result ≡ record { check = checker.entry; bytes = [] } }
     {
         Pieces {
             checker,
-            lines: 0,
             partial: Vec::new(alloc),
         }
     }
@@ -72,15 +68,10 @@ impl<'f> Pieces<'f> {
         ensures unbroken { IsUnbroken self.old.bytes }
     {
         if self.partial.is_empty() {
-            return feed(&mut self.checker, &mut self.lines, bytes, true);
+            return feed(&mut self.checker, bytes, true);
         }
-        self.partial.extend_from_slice(bytes)?;
-        feed(
-            &mut self.checker,
-            &mut self.lines,
-            self.partial.as_slice(),
-            true,
-        )?;
+        self.keep(bytes)?;
+        feed(&mut self.checker, self.partial.as_slice(), true)?;
         self.partial.clear();
         Ok(())
     }
@@ -90,15 +81,22 @@ impl<'f> Pieces<'f> {
         requires unbroken { IsUnbroken bytes.now }
         ensures { KeepsLine self.old bytes.now self.new result }
     {
-        self.partial.extend_from_slice(bytes)?;
-        Ok(())
+        match self.partial.extend_from_slice(bytes) {
+            Ok(()) => Ok(()),
+            Err(_) => Err(self.checker.run_out()),
+        }
     }
 
-    /// Takes the next bytes of the text, and answers the stop of the line that is the last to be judged. What comes after a stop
-    /// is not looked at.
+    /// Takes the next bytes of the text, and answers the stop of the line that is the last to be judged. After a stop each later
+    /// piece has the same answer, and is not looked at.
     pub fn take(&mut self, piece: &[u8]) -> Result<(), Stop>
-        ensures { Takes self.old piece.now self.new result }
+        ensures taken { Takes self.old piece.now self.new result }
+        ensures answer { Tells self.new.check.state result }
+        ensures stays { (stop : TheStop) → self.old.check.state ≡ stopped stop → result ≡ Err stop }
     {
+        if let Some(stop) = self.checker.stop() {
+            return Err(stop);
+        }
         let mut lines = Lines::new(piece);
         while let Some(line) = lines.next() {
             if line.ended {
@@ -111,28 +109,20 @@ impl<'f> Pieces<'f> {
     }
 
     // Feeds the last line, where it has no line feed.
-    fn end(&mut self) -> Result<(), ProofFault>
-        ensures { EndsText self.old self.new.check.state result }
+    fn end(&mut self)
+        ensures { IsLastFed self.old self.new.check.state }
     {
-        if self.partial.is_empty() {
-            return Ok(());
-        }
-        match feed(
-            &mut self.checker,
-            &mut self.lines,
-            self.partial.as_slice(),
-            false,
-        ) {
-            Err(Stop::Fault(ProofFault::NoMemory)) => Err(ProofFault::NoMemory),
-            _ => Ok(()),
+        if !self.partial.is_empty() {
+            // What stops it is told by the checker where it finishes.
+            let _ = feed(&mut self.checker, self.partial.as_slice(), false);
         }
     }
 
     /// What the text shows of two terms that ends here: the first one was given to the checker.
-    pub fn finish(&mut self, right: &U) -> Result<Verdict, ProofFault>
-        ensures { Ends self.old right.now result }
+    pub fn finish(mut self, right: &U) -> Result<Verdict, ProofFault>
+        ensures { IsFinished self.entry right.now result }
     {
-        self.end()?;
+        self.end();
         self.checker.finish(right)
     }
 }
