@@ -11,10 +11,10 @@ use Rattle.udp_run.specs.declared.answer.Status.TheVariants as status
 use Rattle.udp_run.specs.declared.answer.Verdict.{Verdict}
 use Rattle.udp_run.specs.declared.answer.Verdict.TheVariants.{Proved, StepFails, EndDiffers, CaseRefused, TermRefused, ProofRefused, NoSuchForm, CaseUnread, ProofUnread, CaseTooLong, ProofTooLong, OutOfMemory}
 use Rattle.udp_run.specs.Cases.{size_fault}
-use Rattle.udp_run.specs.Output.{case_status, size_status}
+use Rattle.udp_run.specs.Output.{case_status, proof_status, size_status}
 use Rattle.udp_run.specs.Answer.{AsksCheck, AsksNothing, BothTold, HasReadFault, IsAnswer, IsCause, IsCheck, IsFound, IsJust, IsSaid, PassesLimit, status_of}
 use Rattle.udp_run.proofs.OneVerdict.{IsFault, one_verdict, size-found}
-use Rattle.udp_run.proofs.TopAnswers.{IsRefusal, case-refusal, ends_limit, ends_memory, ends_refused, size-refusal}
+use Rattle.udp_run.proofs.TopAnswers.{IsRefusal, case-refusal, ends_limit, ends_memory, ends_proof, ends_refused, proof-refusal, size-refusal}
 
 -- ---- the words
 -- they give one name of a case, and one of a proof
@@ -46,10 +46,12 @@ said-status verdict old new b n answer (inr (inr (none, same))) written memory =
 
 -- ---- what a verdict with a status says
 -- a status that a refusal does not end with
-no-refusal : (answer wanted : Status) → IsRefusal answer → answer ≡ wanted → wanted ≢ status.CaseRefused → wanted ≢ status.Limit → wanted ≢ status.NoMemory → ⊥
-no-refusal answer wanted (ends_refused e) w refused limit memory = refused (sym w ∙ e)
-no-refusal answer wanted (ends_limit e) w refused limit memory = limit (sym w ∙ e)
-no-refusal answer wanted (ends_memory e) w refused limit memory = memory (sym w ∙ e)
+no-refusal : (answer wanted : Status) → IsRefusal answer → answer ≡ wanted → wanted ≢ status.CaseRefused → wanted ≢ status.ProofRefused → wanted ≢ status.Limit
+    → wanted ≢ status.NoMemory → ⊥
+no-refusal answer wanted (ends_refused e) w refused proof limit memory = refused (sym w ∙ e)
+no-refusal answer wanted (ends_proof e) w refused proof limit memory = proof (sym w ∙ e)
+no-refusal answer wanted (ends_limit e) w refused proof limit memory = limit (sym w ∙ e)
+no-refusal answer wanted (ends_memory e) w refused proof limit memory = memory (sym w ∙ e)
 
 is-found : (fault : TermFault) (found : Option TermFault) → size_status fault ≡ status.Limit → IsSizeCause fault found → found ≢ None
 is-found (no_term.TooBig what count) found e c = λ none. let n : Some (no_term.TooBig what count) ≡ None = sym (size-found (no_term.TooBig what count) found (λ m. cc) c) ∙ none in cc
@@ -65,11 +67,11 @@ just-limit told (TermRefused fault) e h = inr (inr (inl (record {
   comparable = h.comparable;
   holds = is-found fault (size_fault h.schema h.written) e h.holds;
 })))
-just-limit told ProofTooLong e l = inr (inr (inr l))
+just-limit told (ProofRefused fault) e h = inr (inr (inr (inl (fault, e, h))))
+just-limit told ProofTooLong e l = inr (inr (inr (inr l)))
 just-limit told Proved e h = absurd cc
 just-limit told (StepFails line) e h = absurd cc
 just-limit told EndDiffers e h = absurd cc
-just-limit told ProofRefused e h = absurd cc
 just-limit told NoSuchForm e h = absurd cc
 just-limit told CaseUnread e h = absurd cc
 just-limit told ProofUnread e h = absurd cc
@@ -78,21 +80,21 @@ just-limit told OutOfMemory e h = absurd cc
 just-read_fault : (told : BothTold) (verdict : Verdict) → status_of verdict ≡ status.ReadFault → IsJust told verdict → HasReadFault told
 just-read_fault told CaseUnread e r = inl r
 just-read_fault told ProofUnread e r = inr r
-just-read_fault told (CaseRefused fault) e r = absurd (no-refusal (case_status fault) status.ReadFault (case-refusal fault) e (λ f. cc) (λ f. cc) (λ f. cc))
-just-read_fault told (TermRefused fault) e r = absurd (no-refusal (size_status fault) status.ReadFault (size-refusal fault) e (λ f. cc) (λ f. cc) (λ f. cc))
+just-read_fault told (CaseRefused fault) e r = absurd (no-refusal (case_status fault) status.ReadFault (case-refusal fault) e (λ f. cc) (λ f. cc) (λ f. cc) (λ f. cc))
+just-read_fault told (TermRefused fault) e r = absurd (no-refusal (size_status fault) status.ReadFault (size-refusal fault) e (λ f. cc) (λ f. cc) (λ f. cc) (λ f. cc))
 just-read_fault told CaseTooLong e h = absurd cc
 just-read_fault told ProofTooLong e h = absurd cc
 just-read_fault told Proved e h = absurd cc
 just-read_fault told (StepFails line) e h = absurd cc
 just-read_fault told EndDiffers e h = absurd cc
-just-read_fault told ProofRefused e h = absurd cc
+just-read_fault told (ProofRefused fault) e h = absurd (no-refusal (proof_status fault) status.ReadFault (proof-refusal fault) e (λ f. cc) (λ f. cc) (λ f. cc) (λ f. cc))
 just-read_fault told NoSuchForm e h = absurd cc
 just-read_fault told OutOfMemory e h = absurd cc
 
 just-usage : (told : BothTold) (verdict : Verdict) → status_of verdict ≡ status.Usage → IsJust told verdict → ⊥
 just-usage told NoSuchForm e h = h
-just-usage told (CaseRefused fault) e r = no-refusal (case_status fault) status.Usage (case-refusal fault) e (λ f. cc) (λ f. cc) (λ f. cc)
-just-usage told (TermRefused fault) e r = no-refusal (size_status fault) status.Usage (size-refusal fault) e (λ f. cc) (λ f. cc) (λ f. cc)
+just-usage told (CaseRefused fault) e r = no-refusal (case_status fault) status.Usage (case-refusal fault) e (λ f. cc) (λ f. cc) (λ f. cc) (λ f. cc)
+just-usage told (TermRefused fault) e r = no-refusal (size_status fault) status.Usage (size-refusal fault) e (λ f. cc) (λ f. cc) (λ f. cc) (λ f. cc)
 just-usage told CaseUnread e h = cc
 just-usage told ProofUnread e h = cc
 just-usage told CaseTooLong e h = cc
@@ -100,13 +102,13 @@ just-usage told ProofTooLong e h = cc
 just-usage told Proved e h = cc
 just-usage told (StepFails line) e h = cc
 just-usage told EndDiffers e h = cc
-just-usage told ProofRefused e h = cc
+just-usage told (ProofRefused fault) e h = no-refusal (proof_status fault) status.Usage (proof-refusal fault) e (λ f. cc) (λ f. cc) (λ f. cc) (λ f. cc)
 just-usage told OutOfMemory e h = cc
 
 -- no verdict has the status of a write fault
 no-write_fault : (verdict : Verdict) → status_of verdict ≡ status.WriteFault → ⊥
-no-write_fault (CaseRefused fault) e = no-refusal (case_status fault) status.WriteFault (case-refusal fault) e (λ f. cc) (λ f. cc) (λ f. cc)
-no-write_fault (TermRefused fault) e = no-refusal (size_status fault) status.WriteFault (size-refusal fault) e (λ f. cc) (λ f. cc) (λ f. cc)
+no-write_fault (CaseRefused fault) e = no-refusal (case_status fault) status.WriteFault (case-refusal fault) e (λ f. cc) (λ f. cc) (λ f. cc) (λ f. cc)
+no-write_fault (TermRefused fault) e = no-refusal (size_status fault) status.WriteFault (size-refusal fault) e (λ f. cc) (λ f. cc) (λ f. cc) (λ f. cc)
 no-write_fault NoSuchForm e = cc
 no-write_fault CaseUnread e = cc
 no-write_fault ProofUnread e = cc
@@ -115,7 +117,7 @@ no-write_fault ProofTooLong e = cc
 no-write_fault Proved e = cc
 no-write_fault (StepFails line) e = cc
 no-write_fault EndDiffers e = cc
-no-write_fault ProofRefused e = cc
+no-write_fault (ProofRefused fault) e = no-refusal (proof_status fault) status.WriteFault (proof-refusal fault) e (λ f. cc) (λ f. cc) (λ f. cc) (λ f. cc)
 no-write_fault OutOfMemory e = cc
 
 -- ---- the run

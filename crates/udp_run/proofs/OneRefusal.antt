@@ -1,4 +1,4 @@
--- A text is refused for one fault alone: want of memory is left aside, and so are two counts that pass their limits at one token.
+-- A text is refused for one fault alone, want of memory left aside.
 use Rattle.std.proofs.Common.{◌≡◌, ◌≢◌, ℕ, List, [], ◌∷◌, ◌++◌, length, Option, refl, sym, ap, ◌∙◌, subst, inl, inr, arith, append_assoc}
 use Rattle.std.specs.Prelude.{◌⊎◌}
 use Rattle.std.proofs.lemmas.List.{append-nil, length-append}
@@ -31,36 +31,10 @@ use Rattle.case_core.specs.Answer.{BreaksRule, HasTwoWidths, IsOutOfScope, IsRef
 use Rattle.case_core.specs.CaseGrammar as g
 use Rattle.case_core.specs.Cases.{cases, shallow_cases, within}
 use Rattle.case_core.specs.Refusals.{EndsBehind, GoesOnBehind, HasNotTwoQueries, IsNoCase, IsNotTwo, IsUnfinished, PassesCopies, PassesCount, PassesDepth, Says}
-use Rattle.case_core.proofs.CaseCounts.{within_fronts}
-use Rattle.case_core.proofs.CaseFronts.{ends_there, fronts, nothing_follows, one_case, shallow_fronts}
-use Rattle.udp_run.specs.Answer.{AreCounts}
+use Rattle.case_core.proofs.CaseFronts.{ends_there, fronts, nothing_follows, one_case}
+use Rattle.case_core.proofs.LimitsOnce.{Order, before, behind, count_or_copies, depth_or_copies, depth_or_count, one, one_place, order}
+use Rattle.case_core.proofs.OneCount.{one_count}
 use Rattle.udp_run.proofs.Unrefused.{has_tokens, in_scope, no_case_memory, no_rule_broken, same_case, scope_fault_over, width_over}
-
--- ---- two tokens of one text
--- the one stands before the other, or they are one, or it stands behind
-data Order (x y : List Lexeme) (t u : Lexeme) : Type 0 where
-  before : (k : List Lexeme) → y ≡ x ++ t ∷ k → Order x y t u
-  one : x ≡ y → t ≡ u → Order x y t u
-  behind : (k : List Lexeme) → x ≡ y ++ u ∷ k → Order x y t u
-
-order : (ts x y r s : List Lexeme) (t u : Lexeme) → ts ≡ x ++ t ∷ r → ts ≡ y ++ u ∷ s → Order x y t u
-order ts x y r s t u e f = of (cut x (t ∷ r) y (u ∷ s) (sym e ∙ f))
-  where
-    of : Cut x (t ∷ r) y (u ∷ s) → Order x y t u
-    of (longer v k i j) = let w : v ≡ t = cc in before k (subst (λ z. y ≡ x ++ z ∷ k) w i)
-    of (same i j) = one (sym i) (cc)
-    of (shorter v k i j) = let w : v ≡ u = cc in behind k (subst (λ z. x ≡ y ++ z ∷ k) w i)
-
--- the tokens up to one of a front are a front
-up_to : (L : Language Lexeme (Built CaseText)) → HasFronts L → (x y k : List Lexeme) (t : Lexeme) → y ≡ x ++ t ∷ k → L.front y → L.front (x ++ t ∷ [])
-up_to L l x y k t e f = l.shorter (x ++ t ∷ []) k (subst L.front (e ∙ sym (append_assoc x (t ∷ []) k)) f)
-
--- and so are those before it
-ahead : (L : Language Lexeme (Built CaseText)) → HasFronts L → (x : List Lexeme) (t : Lexeme) → L.front (x ++ t ∷ []) → L.front x
-ahead L l x t f = l.shorter x (t ∷ []) f
-
-with_token : (L : Language Lexeme (Built CaseText)) (x y : List Lexeme) (t u : Lexeme) → x ≡ y → t ≡ u → L.front (x ++ t ∷ []) → L.front (y ++ u ∷ [])
-with_token L x y t u e f = subst L.front (λ i. e i ++ f i ∷ [])
 
 -- the longest front reaches behind each front
 reaches : (ts taken x y : List Lexeme) → IsLongestFront cases ts taken → ts ≡ x ++ y → cases.front x → (k : List Lexeme) × (taken ≡ x ++ k)
@@ -86,40 +60,6 @@ module _ (ts : List Lexeme) (fault : Option LexFault) (end : ℕ) where
   unfinished-copies r a b =
       let more = reaches ts a.taken (b.taken ++ b.token ∷ []) b.rest a.leading (b.parts ∙ sym (append_assoc b.taken (b.token ∷ []) b.rest)) (b.few limit.Copies) in
       a.few_copies b.taken more.0 b.token (more.1 ∙ append_assoc b.taken (b.token ∷ []) more.0) b.too_many
-
-  -- ---- it passes a limit
-  depth-one : (at other : ℕ) → PassesDepth 0 ts at → PassesDepth 0 ts other → at ≡ other
-  depth-one at other a b = by (order ts a.taken b.taken a.rest b.rest a.token b.token a.parts b.parts)
-    where
-      by : Order a.taken b.taken a.token b.token → at ≡ other
-      by (before k e) = absurd (a.too_deep.beyond (up_to shallow_cases shallow_fronts a.taken b.taken k a.token e b.too_deep.within))
-      by (one e f) = sym a.place ∙ (ap (λ t. t.start) f ∙ b.place)
-      by (behind k e) = absurd (b.too_deep.beyond (up_to shallow_cases shallow_fronts b.taken a.taken k b.token e a.too_deep.within))
-
-  depth-count : (at : ℕ) (what : LimitKind) → PassesDepth 0 ts at → PassesCount 0 ts what → ⊥
-  depth-count at what a b = by (order ts a.taken b.taken a.rest b.rest a.token b.token a.parts b.parts)
-    where
-      by : Order a.taken b.taken a.token b.token → ⊥
-      by (before k e) = a.too_deep.beyond (up_to shallow_cases shallow_fronts a.taken b.taken k a.token e (ahead shallow_cases shallow_fronts b.taken b.token b.shallow))
-      by (one e f) = a.too_deep.beyond (with_token shallow_cases b.taken a.taken b.token a.token (sym e) (sym f) b.shallow)
-      by (behind k e) = b.too_many.beyond (up_to (within what) (within_fronts what) b.taken a.taken k b.token e (a.few what))
-
-  depth-copies : (at : ℕ) → PassesDepth 0 ts at → PassesCopies 0 ts → ⊥
-  depth-copies at a b = by (order ts a.taken b.taken a.rest b.rest a.token b.token a.parts b.parts)
-    where
-      by : Order a.taken b.taken a.token b.token → ⊥
-      by (before k e) = a.too_deep.beyond (up_to shallow_cases shallow_fronts a.taken b.taken k a.token e (ahead shallow_cases shallow_fronts b.taken b.token b.shallow))
-      by (one e f) = a.too_deep.beyond (with_token shallow_cases b.taken a.taken b.token a.token (sym e) (sym f) b.shallow)
-      by (behind k e) = a.few_copies b.taken k b.token e b.too_many
-
-  count-copies : (what : LimitKind) → PassesCount 0 ts what → PassesCopies 0 ts → ⊥
-  count-copies what a b = by (order ts a.taken b.taken a.rest b.rest a.token b.token a.parts b.parts)
-    where
-      by : Order a.taken b.taken a.token b.token → ⊥
-      by (before k e) =
-          a.too_many.beyond (up_to (within what) (within_fronts what) a.taken b.taken k a.token e (ahead (within what) (within_fronts what) b.taken b.token (b.few what)))
-      by (one e f) = a.too_many.beyond (with_token (within what) b.taken a.taken b.token a.token (sym e) (sym f) (b.few what))
-      by (behind k e) = a.few_copies b.taken k b.token e b.too_many
 
   -- ---- it has not two queries
   -- statements alone, and with one query, may go on as a case
@@ -209,36 +149,36 @@ module _ (ts : List Lexeme) (fault : Option LexFault) (end : ℕ) where
   class_of (NotTwoQueries count at) m u = not_two count at refl u
   class_of NoMemory m u = absurd (m refl)
 
-  one_class : (f g : CaseFault) → Class f → Class g → (f ≡ g) ⊎ AreCounts f g
-  one_class f g (unfinished r e a) (unfinished s i b) = inl (e ∙ (ap Read (unfinished-one r s a b) ∙ sym i))
+  one_class : (f g : CaseFault) → Class f → Class g → f ≡ g
+  one_class f g (unfinished r e a) (unfinished s i b) = e ∙ (ap Read (unfinished-one r s a b) ∙ sym i)
   one_class f g (unfinished r e a) (too_deep at i b) = absurd (a.shallow b.taken b.rest b.token b.parts b.too_deep)
   one_class f g (unfinished r e a) (counted what i b) = absurd (a.few what b.taken b.rest b.token b.parts b.too_many)
   one_class f g (unfinished r e a) (copied i b) = absurd (unfinished-copies r a b)
   one_class f g (unfinished r e a) (not_two count at i b) = absurd (a.not_counted count at b.counted)
   one_class f g (too_deep at e a) (unfinished r i b) = absurd (b.shallow a.taken a.rest a.token a.parts a.too_deep)
-  one_class f g (too_deep at e a) (too_deep other i b) = inl (e ∙ (ap (λ z. Read (read_refusal.TooDeep z)) (depth-one at other a b) ∙ sym i))
-  one_class f g (too_deep at e a) (counted what i b) = absurd (depth-count at what a b)
-  one_class f g (too_deep at e a) (copied i b) = absurd (depth-copies at a b)
+  one_class f g (too_deep at e a) (too_deep other i b) = e ∙ (ap (λ z. Read (read_refusal.TooDeep z)) (one_place 0 ts at other a b) ∙ sym i)
+  one_class f g (too_deep at e a) (counted what i b) = absurd (depth_or_count 0 ts at what a b)
+  one_class f g (too_deep at e a) (copied i b) = absurd (depth_or_copies 0 ts at a b)
   one_class f g (too_deep at e a) (not_two count place i b) = absurd (b.shallow a.taken a.rest a.token a.parts a.too_deep)
   one_class f g (counted what e a) (unfinished r i b) = absurd (b.few what a.taken a.rest a.token a.parts a.too_many)
-  one_class f g (counted what e a) (too_deep at i b) = absurd (depth-count at what b a)
-  one_class f g (counted what e a) (counted other i b) = inr (what, other, e, i)
-  one_class f g (counted what e a) (copied i b) = absurd (count-copies what a b)
+  one_class f g (counted what e a) (too_deep at i b) = absurd (depth_or_count 0 ts at what b a)
+  one_class f g (counted what e a) (counted other i b) = e ∙ (ap (λ z. Read (read_refusal.Limit z)) (one_count 0 ts what other a b) ∙ sym i)
+  one_class f g (counted what e a) (copied i b) = absurd (count_or_copies 0 ts what a b)
   one_class f g (counted what e a) (not_two count at i b) = absurd (b.few what a.taken a.rest a.token a.parts a.too_many)
   one_class f g (copied e a) (unfinished r i b) = absurd (unfinished-copies r b a)
-  one_class f g (copied e a) (too_deep at i b) = absurd (depth-copies at b a)
-  one_class f g (copied e a) (counted what i b) = absurd (count-copies what b a)
-  one_class f g (copied e a) (copied i b) = inl (e ∙ sym i)
+  one_class f g (copied e a) (too_deep at i b) = absurd (depth_or_copies 0 ts at b a)
+  one_class f g (copied e a) (counted what i b) = absurd (count_or_copies 0 ts what b a)
+  one_class f g (copied e a) (copied i b) = e ∙ sym i
   one_class f g (copied e a) (not_two count at i b) = absurd (b.few_copies a.taken a.rest a.token a.parts a.too_many)
   one_class f g (not_two count at e a) (unfinished r i b) = absurd (b.not_counted count at a.counted)
   one_class f g (not_two count at e a) (too_deep place i b) = absurd (a.shallow b.taken b.rest b.token b.parts b.too_deep)
   one_class f g (not_two count at e a) (counted what i b) = absurd (a.few what b.taken b.rest b.token b.parts b.too_many)
   one_class f g (not_two count at e a) (copied i b) = absurd (a.few_copies b.taken b.rest b.token b.parts b.too_many)
-  one_class f g (not_two count at e a) (not_two other place i b) = inl (e ∙ (not_two-one count other at place a.counted b.counted ∙ sym i))
+  one_class f g (not_two count at e a) (not_two other place i b) = e ∙ (not_two-one count other at place a.counted b.counted ∙ sym i)
 
 -- ---- of whole texts
 module _ (text : List ℕ) (f g : CaseFault) (f_memory : f ≢ NoMemory) (g_memory : g ≢ NoMemory) where
-  no_case-one : IsNoCase text f → IsNoCase text g → (f ≡ g) ⊎ AreCounts f g
+  no_case-one : IsNoCase text f → IsNoCase text g → f ≡ g
   no_case-one a b =
       let lexed = same_tokens 0 text b.tokens a.tokens b.fault a.fault b.lexed a.lexed in
       let says : Says 0 a.tokens a.fault (length text) g =
@@ -280,24 +220,24 @@ widths-one text left right other also a b =
     let r : right ≡ also = a.right_width ∙ ((λ i. width_over (c.relations i) (c.text i).right) ∙ sym b.right_width) in
     λ i. QueriesDiffer (l i) (r i)
 
--- a text is refused for one fault, want of memory and two counts left aside
-pub one_refusal : (text : List ℕ) (f g : CaseFault) → f ≢ NoMemory → g ≢ NoMemory → IsRefused text f → IsRefused text g → (f ≡ g) ⊎ AreCounts f g
+-- a text is refused for one fault, want of memory left aside
+pub one_refusal : (text : List ℕ) (f g : CaseFault) → f ≢ NoMemory → g ≢ NoMemory → IsRefused text f → IsRefused text g → f ≡ g
 one_refusal text f g m n u v = by (reason text f m u) (reason text g n v)
   where
-    by : Reason text f → Reason text g → (f ≡ g) ⊎ AreCounts f g
+    by : Reason text f → Reason text g → f ≡ g
     by (no_case a) (no_case b) = no_case-one text f g m n a b
     by (no_case a) (breaks r i b) = absurd (m (no_case_memory text b.written b.numbers b.read f a))
     by (no_case a) (out_of_scope r i b) = absurd (m (no_case_memory text b.written b.numbers b.has_schema.read f a))
     by (no_case a) (two_widths left right i b) = absurd (m (no_case_memory text b.written b.numbers b.has_schema.read f a))
     by (breaks r e a) (no_case b) = absurd (n (no_case_memory text a.written a.numbers a.read g b))
-    by (breaks r e a) (breaks s i b) = inl (e ∙ (ap Schema (breaks-one text r s a b) ∙ sym i))
+    by (breaks r e a) (breaks s i b) = e ∙ (ap Schema (breaks-one text r s a b) ∙ sym i)
     by (breaks r e a) (out_of_scope s i b) = absurd (no_rule_broken text b.schema b.written b.numbers b.has_schema r a)
     by (breaks r e a) (two_widths left right i b) = absurd (no_rule_broken text b.schema b.written b.numbers b.has_schema r a)
     by (out_of_scope r e a) (no_case b) = absurd (n (no_case_memory text a.written a.numbers a.has_schema.read g b))
     by (out_of_scope r e a) (breaks s i b) = absurd (no_rule_broken text a.schema a.written a.numbers a.has_schema s b)
-    by (out_of_scope r e a) (out_of_scope s i b) = inl (e ∙ (ap Scope (scope-one text r s a b) ∙ sym i))
+    by (out_of_scope r e a) (out_of_scope s i b) = e ∙ (ap Scope (scope-one text r s a b) ∙ sym i)
     by (out_of_scope r e a) (two_widths left right i b) = absurd (in_scope text b.schema b.written b.numbers b.has_schema b.well_formed r a)
     by (two_widths left right e a) (no_case b) = absurd (n (no_case_memory text a.written a.numbers a.has_schema.read g b))
     by (two_widths left right e a) (breaks s i b) = absurd (no_rule_broken text a.schema a.written a.numbers a.has_schema s b)
     by (two_widths left right e a) (out_of_scope s i b) = absurd (in_scope text a.schema a.written a.numbers a.has_schema a.well_formed s b)
-    by (two_widths left right e a) (two_widths other also i b) = inl (e ∙ (widths-one text left right other also a b ∙ sym i))
+    by (two_widths left right e a) (two_widths other also i b) = e ∙ (widths-one text left right other also a b ∙ sym i)

@@ -10,16 +10,19 @@ use Rattle.sql_to_u.specs.declared.fault.TermFault.{TermFault}
 use Rattle.sql_to_u.specs.declared.fault.TermFault.TheVariants as term
 use Rattle.case_core.specs.declared.fault.CaseFault.{CaseFault}
 use Rattle.case_core.specs.declared.fault.CaseFault.TheVariants.{Read, Schema, Scope, QueriesDiffer, NotTwoQueries, NoMemory}
+use Rattle.proof_check.specs.declared.answers.ProofFault.{ProofFault}
+use Rattle.proof_check.specs.declared.answers.ProofFault.TheVariants as proof
 use Rattle.udp_run.specs.declared.answer.Status.{Status}
 use Rattle.udp_run.specs.declared.answer.Status.TheVariants as status
 use Rattle.udp_run.specs.declared.answer.Verdict.{Verdict}
 use Rattle.udp_run.specs.declared.answer.Verdict.TheVariants.{Proved, StepFails, EndDiffers, CaseRefused, TermRefused, ProofRefused, NoSuchForm, CaseUnread, ProofUnread, CaseTooLong, ProofTooLong, OutOfMemory}
-use Rattle.udp_run.specs.Output.{case_status, line, read_status, size_status}
+use Rattle.udp_run.specs.Output.{case_status, line, proof_status, read_status, size_status}
 use Rattle.udp_run.specs.Answer.{BothTold, IsCheck, IsFound, IsJust, IsProved, IsSaid, status_of, text_of}
 
--- ---- a refusal of a case ends with one of three statuses
+-- ---- a refusal ends with one of four statuses
 pub data IsRefusal (answer : Status) : Type 0 where
   ends_refused : answer ≡ status.CaseRefused → IsRefusal answer
+  ends_proof : answer ≡ status.ProofRefused → IsRefusal answer
   ends_limit : answer ≡ status.Limit → IsRefusal answer
   ends_memory : answer ≡ status.NoMemory → IsRefusal answer
 
@@ -46,9 +49,20 @@ pub size-refusal : (fault : TermFault) → IsRefusal (size_status fault)
 size-refusal (term.TooBig what count) = ends_limit refl
 size-refusal term.NoMemory = ends_memory refl
 
+pub proof-refusal : (fault : ProofFault) → IsRefusal (proof_status fault)
+proof-refusal proof.BadHeader = ends_proof refl
+proof-refusal proof.BadVersion = ends_proof refl
+proof-refusal proof.BadOuts = ends_proof refl
+proof-refusal (proof.BadLine number column) = ends_proof refl
+proof-refusal proof.NoEnd = ends_proof refl
+proof-refusal proof.AfterEnd = ends_proof refl
+proof-refusal (proof.Limit what count) = ends_limit refl
+proof-refusal proof.NoMemory = ends_memory refl
+
 -- ---- only one verdict is done
 no-refusal-done : (answer : Status) → IsRefusal answer → answer ≡ status.Done → ⊥
 no-refusal-done answer (ends_refused e) d = let f : status.CaseRefused ≡ status.Done = sym e ∙ d in cc
+no-refusal-done answer (ends_proof e) d = let f : status.ProofRefused ≡ status.Done = sym e ∙ d in cc
 no-refusal-done answer (ends_limit e) d = let f : status.Limit ≡ status.Done = sym e ∙ d in cc
 no-refusal-done answer (ends_memory e) d = let f : status.NoMemory ≡ status.Done = sym e ∙ d in cc
 
@@ -58,7 +72,7 @@ only_proved (StepFails line) e = absurd cc
 only_proved EndDiffers e = absurd cc
 only_proved (CaseRefused fault) e = absurd (no-refusal-done (case_status fault) (case-refusal fault) e)
 only_proved (TermRefused fault) e = absurd (no-refusal-done (size_status fault) (size-refusal fault) e)
-only_proved ProofRefused e = absurd cc
+only_proved (ProofRefused fault) e = absurd (no-refusal-done (proof_status fault) (proof-refusal fault) e)
 only_proved NoSuchForm e = absurd cc
 only_proved CaseUnread e = absurd cc
 only_proved ProofUnread e = absurd cc

@@ -179,6 +179,7 @@ none-some x e = cc
 -- one text spells one thing, and its statements build one schema
 pub record Same (schema other : TheSchema) (written also : CaseText) : Type 0 where
   pub relations : schema.relations.entries ≡ other.relations.entries
+  pub fkeys : schema.fkeys ≡ other.fkeys
   pub text : written ≡ also
 
 pub same_case : {text : List ℕ} {written also : CaseText} {numbers numbers_too : Numbers} {schema other : TheSchema}
@@ -186,7 +187,7 @@ pub same_case : {text : List ℕ} {written also : CaseText} {numbers numbers_too
 same_case {text = text} {written = written} {also = also} {numbers = numbers} {numbers_too = numbers_too} {schema = schema} {other = other} a b =
     let e : written ≡ also = (one_case text written also numbers numbers_too a.read.spells b.read.spells).0 in
     let built : Builds also.statements schema = subst (λ (w : CaseText). Builds w.statements schema) e a.built in
-    record { relations = built.relations ∙ sym b.built.relations; text = e }
+    record { relations = built.relations ∙ sym b.built.relations; fkeys = built.fkeys ∙ sym b.built.fkeys; text = e }
 
 module _ (text : List ℕ) (schema : TheSchema) (written : CaseText) (numbers : Numbers) (h : HasSchema text written numbers schema) where
   pub no_rule_broken : (fault : SchemaFault) → BreaksRule text fault → ⊥

@@ -1,12 +1,6 @@
 pub mod Limits
-pub mod TermText
-pub mod Steps
-pub mod ProofText
-pub mod Checking
 pub mod Cases
+pub mod Proofs
 pub mod Output
 pub mod Answer
-pub mod Reading
-pub mod Unread
-pub mod Replay
 pub mod Runs

@@ -20,6 +20,10 @@ use Rattle.sql_to_u.specs.declared.fault.TermFault.{TermFault}
 use Rattle.sql_to_u.specs.declared.fault.TermFault.TheVariants as term
 use Rattle.case_core.specs.declared.fault.CaseFault.{CaseFault}
 use Rattle.case_core.specs.declared.fault.CaseFault.TheVariants.{Read, Schema, Scope, QueriesDiffer, NotTwoQueries, NoMemory}
+use Rattle.proof_text.specs.declared.limits.LimitKind.{LimitKind as ProofLimit}
+use Rattle.proof_text.specs.declared.limits.LimitKind.TheVariants as of_proof
+use Rattle.proof_check.specs.declared.answers.ProofFault.{ProofFault}
+use Rattle.proof_check.specs.declared.answers.ProofFault.TheVariants as proof
 use Rattle.udp_run.specs.declared.answer.Status.{Status}
 use Rattle.udp_run.specs.declared.answer.Status.TheVariants as status
 
@@ -109,6 +113,27 @@ size_text (term.TooBig size.Nodes count) = line (codes "limit nodes 200000")
 size_text (term.TooBig size.Depth count) = line (codes "limit depth 2048")
 size_text term.NoMemory = []
 
+-- ---- the faults of a proof
+abbrev pub proof_limit : ProofLimit → List ℕ
+proof_limit of_proof.Nodes = line (codes "limit nodes 200000")
+proof_limit of_proof.Depth = line (codes "limit depth 2048")
+proof_limit of_proof.Steps = line (codes "limit steps 1000000")
+proof_limit of_proof.Nesting = line (codes "limit nesting 64")
+
+-- proof refused: P4 at line LINE column COLUMN
+abbrev pub bad_line : ℕ → ℕ → List ℕ
+bad_line number column = codes "proof refused: P4 at line " ++ (decimal number ++ (codes " column " ++ (decimal column ++ 10 ∷ [])))
+
+abbrev pub proof_text : ProofFault → List ℕ
+proof_text proof.BadHeader = line (codes "proof refused: P1")
+proof_text proof.BadVersion = line (codes "proof refused: P2")
+proof_text proof.BadOuts = line (codes "proof refused: P3")
+proof_text (proof.BadLine number column) = bad_line number column
+proof_text proof.NoEnd = line (codes "proof refused: P5")
+proof_text proof.AfterEnd = line (codes "proof refused: P6")
+proof_text (proof.Limit what count) = proof_limit what
+proof_text proof.NoMemory = []
+
 -- ---- the statuses
 abbrev pub read_status : ReadFault → Status
 read_status (read.Limit what) = status.Limit
@@ -135,3 +160,13 @@ case_status NoMemory = status.NoMemory
 abbrev pub size_status : TermFault → Status
 size_status (term.TooBig what count) = status.Limit
 size_status term.NoMemory = status.NoMemory
+
+abbrev pub proof_status : ProofFault → Status
+proof_status proof.BadHeader = status.ProofRefused
+proof_status proof.BadVersion = status.ProofRefused
+proof_status proof.BadOuts = status.ProofRefused
+proof_status (proof.BadLine number column) = status.ProofRefused
+proof_status proof.NoEnd = status.ProofRefused
+proof_status proof.AfterEnd = status.ProofRefused
+proof_status (proof.Limit what count) = status.Limit
+proof_status proof.NoMemory = status.NoMemory

@@ -1,13 +1,23 @@
--- What the parts of a run found: contracts of private functions alone cite this.
-use Rattle.std.specs.Prelude.{◌≡◌, ℕ, ◌≤◌, List, Option, IfSome, length}
-use Rattle.u_terms.specs.declared.term.U.{U}
+-- What the parts of a run find: contracts of private functions alone cite these.
+use Rattle.std.specs.Prelude.{◌≡◌, ℕ, ◌+◌, ◌≤◌, List, [], ◌++◌, length, Option, IfSome, Result, Ok, Err}
+use Rattle.std.specs.Io.KnownBytes.{Consumes, IsAtEnd}
 use Rattle.case_core.specs.Answer.{IsCase}
 use Rattle.case_core.specs.Parts.{Parts}
-use Rattle.udp_run.specs.Limits.{most_case_bytes, most_proof_bytes}
+use Rattle.proof_check.specs.declared.answers.ProofFault.{ProofFault}
+use Rattle.proof_check.specs.declared.answers.Stop.{Stop}
+use Rattle.proof_check.specs.declared.answers.Stop.TheVariants.{Fails, Fault}
+use Rattle.proof_check.specs.declared.answers.Verdict.{Verdict as Shown}
+use Rattle.proof_check.specs.declared.answers.Verdict.TheVariants as shown
+use Rattle.proof_check.specs.Judging.{begun}
+use Rattle.proof_check.specs.Checking.{on}
+use Rattle.proof_check.specs.Pieces.{Partial, IsTaken, IsStoppedIn}
+use Rattle.udp_run.specs.Limits.{most_case_bytes, most_piece_bytes, most_proof_bytes}
+use Rattle.udp_run.specs.declared.feeding.Unfed.{Unfed}
+use Rattle.udp_run.specs.declared.feeding.Unfed.TheVariants.{Failed, TooLong, Stopped}
 use Rattle.udp_run.specs.declared.answer.Verdict.{Verdict}
 use Rattle.udp_run.specs.declared.answer.Verdict.TheVariants.{Proved, StepFails, EndDiffers, CaseRefused, ProofRefused, CaseUnread, ProofUnread, CaseTooLong, ProofTooLong, OutOfMemory}
-use Rattle.udp_run.specs.Checking.{Accepted, StepFailsIn, EndDiffersIn, IsNoProofText}
-use Rattle.udp_run.specs.Answer.{HasFailed, IsLongCase, IsLongProof, IsRefusedFor, Told}
+use Rattle.udp_run.specs.Proofs.{Claim, IsAnswered, IsTooLong}
+use Rattle.udp_run.specs.Answer.{HasFailed, IsCutOff, IsLongCase, IsRefusedFor, Told}
 
 -- a case was read from the text, where that is told
 pub record IsCaseRead (case : Option (List ℕ)) (parts : Parts) : Type 0 where
@@ -24,30 +34,62 @@ IsCaseCause told (CaseRefused fault) = IfSome told.text (IsRefusedFor fault)
 IsCaseCause told OutOfMemory = Unit {0}
 IsCaseCause told _ = ⊥
 
--- why no proof was read
-abbrev pub IsProofCause : Told → Verdict → Type 0
-IsProofCause told ProofUnread = HasFailed told
-IsProofCause told ProofTooLong = IfSome told.text IsLongProof
-IsProofCause told OutOfMemory = Unit {0}
-IsProofCause told _ = ⊥
+-- ---- a proof is fed to a checker piece by piece
+-- so many bytes were taken from what was left, and all lines that end in them are fed
+pub record IsFedSoFar (old new : Option (List ℕ)) (before after : Partial) (count : ℕ) : Type 0 where
+  pub front : List ℕ
+  pub consumed : Consumes old new front
+  pub counted : length front ≡ count
+  pub taken : IsTaken before front after
 
--- what the bytes of a proof show of two terms with so many names
-abbrev pub ShowsOf : ℕ → U → U → List ℕ → Verdict → Type 0
-ShowsOf outs left right bytes Proved = Accepted outs left right bytes
-ShowsOf outs left right bytes (StepFails line) = StepFailsIn line outs left right bytes
-ShowsOf outs left right bytes EndDiffers = EndDiffersIn outs left right bytes
-ShowsOf outs left right bytes ProofRefused = IsNoProofText outs left right bytes
-ShowsOf outs left right bytes OutOfMemory = Unit {0}
-ShowsOf outs left right bytes _ = ⊥
+-- all bytes were taken, there were not too many, and a call more gave none
+pub record IsFedWhole (old new : Option (List ℕ)) (before after : Partial) : Type 0 where
+  pub last : Option (List ℕ)
+  pub count : ℕ
+  pub so_far : IsFedSoFar old last before after count
+  pub end : IsAtEnd last
+  pub within : count ≤ most_proof_bytes
+  pub kept : Consumes last new []
 
--- a proof was read from the text, where that is told, and this is what it shows
-pub record IsProofRead (outs : ℕ) (left right : U) (proof : Option (List ℕ)) (verdict : Verdict) : Type 0 where
-  pub text : List ℕ
-  pub told : IfSome proof (λ t. text ≡ t)
-  pub within : length text ≤ most_proof_bytes
-  pub shows : ShowsOf outs left right text verdict
+-- or a line stopped them, which ends in the last piece that was taken, and none before it
+pub record IsFedInPart (old new : Option (List ℕ)) (before : Partial) (stop : Stop) : Type 0 where
+  pub front : List ℕ
+  pub last : List ℕ
+  pub consumed : Consumes old new (front ++ last)
+  pub piece : length last ≤ most_piece_bytes
+  pub within : length (front ++ last) ≤ most_proof_bytes + 1
+  pub undecided : (middle : Partial) × IsTaken before front middle
+  pub stopped : IsStoppedIn before (front ++ last) stop
 
--- what is found of a proof: why it was not read, or what it shows
-pub data IsProofVerdict (outs : ℕ) (left right : U) (told : Told) (verdict : Verdict) : Type 0 where
-  not_read : IsProofCause told verdict → IsProofVerdict outs left right told verdict
-  was_read : IsProofRead outs left right told.text verdict → IsProofVerdict outs left right told verdict
+abbrev pub IsFed : Option (List ℕ) → Option (List ℕ) → Partial → Partial → Result (Unit {0}) Unfed → Type 0
+IsFed old new before after (Ok _) = IsFedWhole old new before after
+IsFed old new before after (Err Failed) = (count : ℕ) × IsFedSoFar old new before after count
+IsFed old new before after (Err TooLong) = IsFedSoFar old new before after (most_proof_bytes + 1)
+IsFed old new before after (Err (Stopped stop)) = IsFedInPart old new before stop
+
+-- a checker of the claim that no piece was given to
+abbrev pub fresh : Claim → Partial
+fresh claim = record { check = record { facts = claim.facts; outs = claim.outs; state = on 0 (begun claim.left) }; bytes = [] }
+
+-- ---- what is found of a proof
+abbrev pub verdict_of : Result Shown ProofFault → Verdict
+verdict_of (Ok shown.Proved) = Proved
+verdict_of (Ok (shown.StepFails line)) = StepFails line
+verdict_of (Ok shown.EndDiffers) = EndDiffers
+verdict_of (Err fault) = ProofRefused fault
+
+abbrev pub answer_of : Stop → Result Shown ProofFault
+answer_of (Fails line) = Ok (shown.StepFails line)
+answer_of (Fault fault) = Err fault
+
+-- the bytes that were read have this answer, and so has the text, where it is told
+pub record IsProofRead (claim : Claim) (proof : Option (List ℕ)) (answer : Result Shown ProofFault) : Type 0 where
+  pub bytes : List ℕ
+  pub answers : IsAnswered claim bytes answer
+  pub told : IfSome proof (λ text. IsAnswered claim text answer)
+
+pub data IsProofVerdict (claim : Claim) (told : Told) (left : Option (List ℕ)) : Verdict → Type 0 where
+  unread : HasFailed told → IfSome told.text (IsCutOff left claim) → IsProofVerdict claim told left ProofUnread
+  too_long : IfSome told.text (IsTooLong claim) → IsProofVerdict claim told left ProofTooLong
+  no_memory : IsProofVerdict claim told left OutOfMemory
+  answered : {answer : Result Shown ProofFault} → IsProofRead claim told.text answer → IsProofVerdict claim told left (verdict_of answer)

@@ -1,10 +1,11 @@
 //! What the program answers.
 ghost use Rattle.std.specs.Prelude.{◌≡◌, IfOk};
 ghost use Rattle.udp_run.specs.Answer.{code_of, status_of, text_of};
-ghost use Rattle.udp_run.specs.Output.{case_status, size_status};
+ghost use Rattle.udp_run.specs.Output.{case_status, proof_status, size_status};
 
-use crate::output::{case_line, size_line};
+use crate::output::{case_line, proof_line, size_line};
 use case_core::{CaseFault, TermFault};
+use proof_check::ProofFault;
 use schema_read::SchemaFault;
 use scope_core::ScopeFault;
 use sql_read::ReadFault;
@@ -54,7 +55,8 @@ pub enum Verdict {
     CaseRefused(CaseFault),
     /// A query of the case has no term.
     TermRefused(TermFault),
-    ProofRefused,
+    /// A line of the proof is none, or passes a limit, or a line is missing.
+    ProofRefused(ProofFault),
     NoSuchForm,
     CaseUnread,
     ProofUnread,
@@ -87,6 +89,16 @@ fn size_status(fault: TermFault) -> Status
     }
 }
 
+fn proof_status(fault: ProofFault) -> Status
+    ensures { result ≡ proof_status fault }
+{
+    match fault {
+        ProofFault::Limit { .. } => Status::Limit,
+        ProofFault::NoMemory => Status::NoMemory,
+        _ => Status::ProofRefused,
+    }
+}
+
 impl Verdict {
     /// The line that is written, with its line feed. It is empty where memory ran out.
     pub fn line(&self, alloc: Global) -> Result<Vec<u8>, AllocError>
@@ -101,7 +113,7 @@ impl Verdict {
             Verdict::EndDiffers => "end differs\n",
             Verdict::CaseRefused(fault) => return case_line(alloc, fault),
             Verdict::TermRefused(fault) => size_line(*fault),
-            Verdict::ProofRefused => "proof refused: P1\n",
+            Verdict::ProofRefused(fault) => return proof_line(alloc, *fault),
             Verdict::NoSuchForm => "usage: no such form of words\n",
             Verdict::CaseUnread => "read fault: case\n",
             Verdict::ProofUnread => "read fault: proof\n",
@@ -121,7 +133,7 @@ impl Verdict {
             Verdict::StepFails { .. } | Verdict::EndDiffers => Status::NotProved,
             Verdict::CaseRefused(fault) => case_status(fault),
             Verdict::TermRefused(fault) => size_status(*fault),
-            Verdict::ProofRefused => Status::ProofRefused,
+            Verdict::ProofRefused(fault) => proof_status(*fault),
             Verdict::NoSuchForm => Status::Usage,
             Verdict::CaseUnread | Verdict::ProofUnread => Status::ReadFault,
             Verdict::CaseTooLong | Verdict::ProofTooLong => Status::Limit,

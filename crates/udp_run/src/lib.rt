@@ -2,13 +2,9 @@
 #![tactic(auto)]
 
 mod answer;
-mod argument;
-mod checker;
-mod fault;
+mod feeding;
 pub mod laws;
-mod lines;
 mod output;
-mod step;
 mod top;
 
 pub use answer::Status;

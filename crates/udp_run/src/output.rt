@@ -3,6 +3,7 @@ ghost use Rattle.std.specs.Prelude.{◌≡◌, IfOk, string_bytes};
 ghost use Rattle.udp_run.specs.Output as lines;
 
 use case_core::{CaseFault, LimitKind as SizeKind, TermFault};
+use proof_check::{LimitKind as ProofLimit, ProofFault};
 use schema_read::{SchemaCode, SchemaFault};
 use scope_core::{ScopeCode, ScopeFault};
 use sql_lex::LexCode;
@@ -159,4 +160,35 @@ pub fn size_line(fault: TermFault) -> &'static str
         },
         TermFault::NoMemory => "",
     }
+}
+
+fn proof_limit(what: ProofLimit) -> &'static str
+    ensures { result.now ≡ lines.proof_limit what }
+{
+    match what {
+        ProofLimit::Nodes => "limit nodes 200000\n",
+        ProofLimit::Depth => "limit depth 2048\n",
+        ProofLimit::Steps => "limit steps 1000000\n",
+        ProofLimit::Nesting => "limit nesting 64\n",
+    }
+}
+
+/// The line of a proof that is refused.
+pub fn proof_line(alloc: Global, fault: ProofFault) -> Result<Vec<u8>, AllocError>
+    ensures { IfOk result (λ line. line.items ≡ lines.proof_text fault) }
+{
+    let text = match fault {
+        ProofFault::BadHeader => "proof refused: P1\n",
+        ProofFault::BadVersion => "proof refused: P2\n",
+        ProofFault::BadOuts => "proof refused: P3\n",
+        ProofFault::BadLine { line, column } => {
+            let text = format!(in alloc; "proof refused: P4 at line {line} column {column}\n")?;
+            return Ok(text.into_bytes());
+        }
+        ProofFault::NoEnd => "proof refused: P5\n",
+        ProofFault::AfterEnd => "proof refused: P6\n",
+        ProofFault::Limit { what, .. } => proof_limit(what),
+        ProofFault::NoMemory => "",
+    };
+    Vec::from_slice(alloc, text.as_bytes())
 }

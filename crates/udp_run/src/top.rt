@@ -1,21 +1,21 @@
 //! The top call: everything that the program does, over any store and any sink.
 ghost use Rattle.std.specs.Prelude.{◌≡◌, ◌≤◌, List, [], ℕ, length, codes, IfSome, IfOk, IfErr};
-ghost use Rattle.u_terms.specs.declared.term.U.{U as TheU};
+ghost use Rattle.proof_check.specs.Limits.{IsSmall};
 ghost use Rattle.udp_io.specs.Faults.{Rose};
 ghost use Rattle.udp_io.specs.Writing.{Grows};
-ghost use Rattle.udp_run.specs.Checking.{Accepted};
-ghost use Rattle.udp_run.specs.Answer.{AsksCheck, AsksNothing, HasReadFault, IsAnswer, IsCause, IsCheck, IsFound, IsJust, IsProved, IsSaid, PassesLimit, TellsBoth, both_told};
+ghost use Rattle.udp_run.specs.Answer.{AsksCheck, AsksNothing, HasReadFault, IsAnswer, IsCause, IsCheck, IsFound, IsJust, IsProof, IsProved, IsSaid, PassesLimit, TellsBoth, both_told};
 ghost use Rattle.udp_run.specs.Output.{line};
-ghost use Rattle.udp_run.specs.Runs.{IsCaseCause, IsCaseRead, IsProofCause, IsProofVerdict, ShowsOf};
+ghost use Rattle.udp_run.specs.Proofs.{Claim as TheClaim};
+ghost use Rattle.udp_run.specs.Runs.{IsCaseCause, IsCaseRead, IsProofVerdict, answer_of, fresh, verdict_of};
 ghost use Rattle.udp_run.specs.declared.answer.Verdict.{Verdict as TheVerdict};
 
+use crate::CASE_LIMIT;
 use crate::answer::{Status, Verdict};
-use crate::checker::{Shown, check};
-use crate::fault::ProofFault;
-use crate::{CASE_LIMIT, PROOF_LIMIT};
+use crate::feeding::{Unfed, feed};
 use case_core::{Case, terms};
+use proof_check::{Checker, Pieces, ProofFault, Stop, Verdict as Shown};
 use std::alloc::Global;
-use u_terms::U;
+use u_terms::{Facts, U};
 use udp_io::{ReadAllFault, Sink, Store, read_all, write_all};
 
 // Reads the case, or finds why there is none.
@@ -37,70 +37,113 @@ fn read_case<S: Store>(alloc: Global, name: &str, store: &mut S) -> Result<Case,
     }
 }
 
-// Reads the proof, or finds why there is none.
-fn read_proof<S: Store>(alloc: Global, name: &str, store: &mut S) -> Result<Vec<u8>, Verdict>
-    ensures told { IfOk result (λ bytes. IfSome (S.text store.old name.now) (λ text. bytes.items ≡ text)) }
-    ensures within { IfOk result (λ bytes. length bytes.items ≤ PROOF_LIMIT) }
-    ensures fault { IfErr result (IsProofCause (record { text = S.text store.old name.now; before = S.faults store.old name.now; now = S.faults store.new name.now })) }
-    ensures later { (other : List ℕ) → S.faults store.old other ≤ S.faults store.new other }
+// The verdict of a proof with this answer.
+fn verdict_of(answer: Result<Shown, ProofFault>) -> Verdict
+    ensures { result ≡ verdict_of answer }
 {
-    match read_all(alloc, store, name, PROOF_LIMIT) {
-        Ok(text) => Ok(text),
-        Err(ReadAllFault::ReadFault) => Err(Verdict::ProofUnread),
-        Err(ReadAllFault::TooLong) => Err(Verdict::ProofTooLong),
-        Err(ReadAllFault::NoMemory) => Err(Verdict::OutOfMemory),
-    }
-}
-
-// What the bytes of a proof show of two terms.
-fn check_bytes(alloc: Global, outs: u32, left: &U, right: &U, proof: &[u8]) -> Verdict
-    ensures { ShowsOf outs left.now right.now proof.now result }
-{
-    match check(alloc, outs, left, right, proof) {
+    match answer {
         Ok(Shown::Proved) => Verdict::Proved,
         Ok(Shown::StepFails { line }) => Verdict::StepFails { line },
         Ok(Shown::EndDiffers) => Verdict::EndDiffers,
-        Err(ProofFault::Malformed) => Verdict::ProofRefused,
-        Err(ProofFault::NoMemory) => Verdict::OutOfMemory,
+        Err(fault) => Verdict::ProofRefused(fault),
     }
 }
 
-// Checks the proof under the name against two terms.
-fn check_proof<S: Store>(
+// The answer after a stop.
+fn stopped(stop: Stop) -> Result<Shown, ProofFault>
+    ensures { result ≡ answer_of stop }
+{
+    match stop {
+        Stop::Fails { line } => Ok(Shown::StepFails { line }),
+        Stop::Fault(fault) => Err(fault),
+    }
+}
+
+// Feeds the selected proof, which has this name, to a checker that has no line of it yet.
+fn feed_proof<S: Store>(name: &str, store: &mut S, mut pieces: Pieces<'_>, right: &U) -> Verdict
+    requires usable { S.usable store.old name.now }
+    ensures found { (claim : TheClaim) → pieces.entry ≡ fresh claim → right.now ≡ claim.right → IsProofVerdict claim
+        (record { text = S.left store.old; before = S.faults store.old name.now; now = S.faults store.new name.now }) (S.left store.new) result }
+    ensures later { (other : List ℕ) → S.faults store.old other ≤ S.faults store.new other }
+{
+    match feed(store, name, &mut pieces) {
+        Ok(()) => verdict_of(pieces.finish(right)),
+        Err(Unfed::Stopped(stop)) => verdict_of(stopped(stop)),
+        Err(Unfed::Failed) => Verdict::ProofUnread,
+        Err(Unfed::TooLong) => Verdict::ProofTooLong,
+    }
+}
+
+// Checks the selected proof, which has this name, against two terms.
+fn check_selected<S: Store>(
     alloc: Global,
+    facts: &Facts,
     outs: u32,
     left: &U,
     right: &U,
     name: &str,
     store: &mut S,
 ) -> Verdict
-    ensures found { IsProofVerdict outs left.now right.now
-        (record { text = S.text store.old name.now; before = S.faults store.old name.now; now = S.faults store.new name.now }) result }
+    requires usable { S.usable store.old name.now }
+    requires outs { outs ≤ 2048 }
+    requires small { IsSmall left.now }
+    ensures found { IsProofVerdict (record { facts = facts.now; outs = outs; left = left.now; right = right.now })
+        (record { text = S.left store.old; before = S.faults store.old name.now; now = S.faults store.new name.now }) (S.left store.new) result }
     ensures later { (other : List ℕ) → S.faults store.old other ≤ S.faults store.new other }
 {
-    match read_proof(alloc, name, store) {
-        Ok(bytes) => check_bytes(alloc, outs, left, right, bytes.as_slice()),
-        Err(verdict) => verdict,
+    let Ok(checker) = Checker::new(alloc, facts, outs, left) else {
+        return Verdict::OutOfMemory;
+    };
+    feed_proof(name, store, Pieces::new(alloc, checker), right)
+}
+
+// Checks the proof under the name against two terms.
+fn check_proof<S: Store>(
+    alloc: Global,
+    facts: &Facts,
+    outs: u32,
+    left: &U,
+    right: &U,
+    name: &str,
+    store: &mut S,
+) -> Verdict
+    requires outs { outs ≤ 2048 }
+    requires small { IsSmall left.now }
+    ensures found { IsProofVerdict (record { facts = facts.now; outs = outs; left = left.now; right = right.now })
+        (record { text = S.text store.old name.now; before = S.faults store.old name.now; now = S.faults store.new name.now }) (S.left store.new) result }
+    ensures later { (other : List ℕ) → S.faults store.old other ≤ S.faults store.new other }
+{
+    if store.select(name).is_err() {
+        return Verdict::ProofUnread;
     }
+    check_selected(alloc, facts, outs, left, right, name, store)
 }
 
 // Checks the proof under the one name against the case under the other.
 fn check_texts<S: Store>(alloc: Global, case: &str, proof: &str, store: &mut S) -> Verdict
-    ensures { IsJust (both_told (S.text store.old) (S.faults store.old) (S.faults store.new) case.now proof.now) result }
+    ensures { IsJust (both_told (S.text store.old) (S.faults store.old) (S.faults store.new) (S.left store.new) case.now proof.now) result }
 {
     let case = match read_case(alloc, case, store) {
         Ok(case) => case,
         Err(verdict) => return verdict,
     };
     match terms(alloc, &case) {
-        Ok((left, right)) => check_proof(alloc, case.outs(), &left, &right, proof, store),
+        Ok((left, right)) => check_proof(
+            alloc,
+            case.facts(),
+            case.outs(),
+            &left,
+            &right,
+            proof,
+            store,
+        ),
         Err(fault) => Verdict::TermRefused(fault),
     }
 }
 
 // What the words ask for, found from the texts of the store.
 fn find_verdict<S: Store>(alloc: Global, words: &[String], store: &mut S) -> Verdict
-    ensures { IsFound words.now (both_told (S.text store.old) (S.faults store.old) (S.faults store.new)) result }
+    ensures { IsFound words.now (both_told (S.text store.old) (S.faults store.old) (S.faults store.new) (S.left store.new)) result }
 {
     match words {
         [verb, case, proof] if verb.as_str() == "check" => check_texts(
@@ -133,7 +176,7 @@ fn say<K: Sink>(alloc: Global, verdict: &Verdict, out: &mut K) -> Status
 pub fn run<S: Store, K: Sink>(alloc: Global, words: &[String], store: &mut S, out: &mut K) -> Status
     // What is answered and written is one verdict's, and that verdict is just.
     ensures answer { (verdict : TheVerdict)
-        × IsFound words.now (both_told (S.text store.old) (S.faults store.old) (S.faults store.new)) verdict
+        × IsFound words.now (both_told (S.text store.old) (S.faults store.old) (S.faults store.new) (S.left store.new)) verdict
         × IsSaid verdict (K.written out.old) (K.written out.new) (K.faults out.old) (K.faults out.new) result }
 
     // The headline. Where it ends with `Done` on a check, the case spells a schema and two queries that are well formed over it and of one
@@ -145,7 +188,7 @@ pub fn run<S: Store, K: Sink>(alloc: Global, words: &[String], store: &mut S, ou
 
     // Completeness. Where both texts are told and within their lengths, the case is spelled, well formed, of one width and within the limits, and
     // the proof is accepted for its terms, the answer is `proved`, unless the store or the sink fails or memory runs out.
-    ensures complete { AsksCheck words.now (λ case proof. TellsBoth (S.text store.old case) (S.text store.old proof) Accepted) →
+    ensures complete { AsksCheck words.now (λ case proof. TellsBoth (S.text store.old case) (S.text store.old proof) IsProof) →
         IsAnswer Verdict.Proved (K.written out.old) (K.written out.new) result }
 
     // So with every verdict: where the texts give cause for it, it is the answer, with the same exceptions.
@@ -160,7 +203,7 @@ pub fn run<S: Store, K: Sink>(alloc: Global, words: &[String], store: &mut S, ou
 
     // A read fault comes only where the store failed at the name of the case, or at that of the proof, and then the case is in order.
     ensures read_fault { result ≡ Status.ReadFault → AsksCheck words.now (λ case proof.
-        HasReadFault (both_told (S.text store.old) (S.faults store.old) (S.faults store.new) case proof)) }
+        HasReadFault (both_told (S.text store.old) (S.faults store.old) (S.faults store.new) (S.left store.new) case proof)) }
 
     // A write fault comes only where the sink failed.
     ensures write_fault { result ≡ Status.WriteFault → Rose (K.faults out.old) (K.faults out.new) }
