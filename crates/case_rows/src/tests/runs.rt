@@ -1,4 +1,4 @@
-//! Whole runs: over stores and sinks that fail at each call, and over a case that is cut after each byte.
+//! Whole runs: over stores and sinks that fail at each call, and over a case and a proof that are cut after each byte.
 ghost use Rattle.std.specs.Prelude.{◌<◌};
 
 use std::alloc::{AllocError, Global};
@@ -24,12 +24,12 @@ fn words(alloc: Global) -> Result<Vec<String>, AllocError> {
     Ok(words)
 }
 
-fn store(alloc: Global, piece: usize, case: &str) -> Result<MemStore, AllocError>
+fn store(alloc: Global, piece: usize, case: &str, proof: &[u8]) -> Result<MemStore, AllocError>
     requires { 0 < piece }
 {
     let mut store = MemStore::new(alloc, piece)?;
     store.add("case", case.as_bytes())?;
-    store.add("proof", PROOF.as_bytes())?;
+    store.add("proof", proof)?;
     Ok(store)
 }
 
@@ -44,7 +44,7 @@ fn fails_at(
     requires { 0 < piece }
 {
     let alloc = rt.alloc();
-    let mut store = store(alloc, piece, CASE)?;
+    let mut store = store(alloc, piece, CASE, PROOF.as_bytes())?;
     store.fail_at(call)?;
     let mut sink = MemSink::new(alloc, 3, 100)?;
     let words = words(alloc)?;
@@ -91,7 +91,7 @@ fn a_failed_call_of_the_sink_leaves_a_prefix(rt: HostRuntime) -> Result<(), Fail
     let alloc = rt.alloc();
     for (piece, room, call, written, status) in SINKS {
         assert!(rt; piece > 0);
-        let mut store = store(alloc, 65_536, CASE)?;
+        let mut store = store(alloc, 65_536, CASE, PROOF.as_bytes())?;
         let mut sink = MemSink::new(alloc, piece, room)?;
         sink.fail_at(call)?;
         let words = words(alloc)?;
@@ -121,6 +121,25 @@ fn nothing_fails_over_a_sure_store_and_sink(rt: HostRuntime) -> Result<(), Fail>
     Ok(())
 }
 
+#[test]
+fn each_status_has_its_number(rt: HostRuntime) -> Result<(), Fail> {
+    let numbers: [(Status, u8); 9] = [
+        (Status::Done, 0),
+        (Status::NotProved, 1),
+        (Status::CaseRefused, 2),
+        (Status::ProofRefused, 3),
+        (Status::Usage, 4),
+        (Status::ReadFault, 5),
+        (Status::WriteFault, 6),
+        (Status::Limit, 7),
+        (Status::NoMemory, 8),
+    ];
+    for (status, number) in numbers {
+        assert_eq!(rt; status.code(), number);
+    }
+    Ok(())
+}
+
 /// A table and two queries, in 55 bytes.
 const SMALL: &str = "CREATE TABLE r (a INT);SELECT a FROM r;SELECT a FROM r;";
 
@@ -145,7 +164,7 @@ fn a_small_case_is_cut_after_each_byte(rt: HostRuntime) -> Result<(), Fail> {
     let alloc = rt.alloc();
     for bytes in 0..55usize {
         let cut = SMALL.get(..bytes).unwrap_or("");
-        let mut store = store(alloc, 65_536, cut)?;
+        let mut store = store(alloc, 65_536, cut, PROOF.as_bytes())?;
         let mut sink = MemSink::new(alloc, 100, 100)?;
         let words = words(alloc)?;
         let line = cut_line(alloc, bytes)?;
@@ -156,5 +175,58 @@ fn a_small_case_is_cut_after_each_byte(rt: HostRuntime) -> Result<(), Fail> {
         );
         assert_eq!(rt; sink.bytes(), line.as_bytes(), "{line}");
     }
+    Ok(())
+}
+
+/// What becomes of the proof where it is cut after so many bytes.
+fn cut_proof_line(alloc: Global, bytes: usize) -> Result<String, AllocError> {
+    let (line, before) = match bytes {
+        0..=11 => return String::from_str(alloc, "proof refused: P1\n"),
+        12..=18 => return String::from_str(alloc, "proof refused: P3\n"),
+        19 | 124 => return String::from_str(alloc, "proof refused: P5\n"),
+        20..=123 => (3, 18),
+        _ => (4, 123),
+    };
+    let column = bytes.saturating_sub(before);
+    format!(in alloc; "proof refused: P4 at line {line} column {column}\n")
+}
+
+#[test]
+fn a_proof_is_cut_after_each_byte(rt: HostRuntime) -> Result<(), Fail> {
+    let alloc = rt.alloc();
+    for bytes in 0..128usize {
+        let cut = PROOF.get(..bytes).unwrap_or("");
+        let mut store = store(alloc, 65_536, CASE, cut.as_bytes())?;
+        let mut sink = MemSink::new(alloc, 100, 100)?;
+        let words = words(alloc)?;
+        let line = cut_proof_line(alloc, bytes)?;
+        assert_eq!(rt;
+            run(alloc, &words, &mut store, &mut sink),
+            Status::ProofRefused,
+            "{bytes}"
+        );
+        assert_eq!(rt; sink.bytes(), line.as_bytes(), "{bytes}");
+    }
+    Ok(())
+}
+
+#[test]
+fn a_line_decides_before_a_call_that_fails_behind_it(rt: HostRuntime) -> Result<(), Fail> {
+    let alloc = rt.alloc();
+    let mut proof = Vec::from_slice(alloc, b"udp-proof 1\nouts 1\n/ > add_x 1 1\n")?;
+    proof.extend_from_slice(&[b' '; 5_000])?;
+    let mut store = store(alloc, 65_536, CASE, &proof)?;
+    // The second take of the proof, which is longer than a piece.
+    store.fail_at(5)?;
+    let mut sink = MemSink::new(alloc, 100, 100)?;
+    let words = words(alloc)?;
+    assert_eq!(rt;
+        run(alloc, &words, &mut store, &mut sink),
+        Status::ProofRefused
+    );
+    assert_eq!(rt;
+        sink.bytes(),
+        b"proof refused: P4 at line 3 column 9\n".as_slice()
+    );
     Ok(())
 }
