@@ -17,16 +17,16 @@ RUNS = 3
 MEGABYTE = 1_000_000
 SHORTEST = 0.001
 
-# In megabytes of text a second, and in sizes of the text.
-GOAL_RATE = 20
-GOAL_MEMORY = 3
-
 FEW, SOME, MANY = 10_000, 100_000, 1_000_000
 
 ROWS = [
     (f"{FEW:,} short steps", inputs.short_steps, FEW),
     (f"{SOME:,} short steps", inputs.short_steps, SOME),
     (f"{MANY:,} short steps", inputs.short_steps, MANY),
+    ("beside 1 argument", inputs.beside_large_term, 1),
+    ("beside 190,000 arguments", inputs.beside_large_term, 190_000),
+    ("paths of 1,000 turns", inputs.long_paths, 996),
+    ("paths of 2,000 turns", inputs.long_paths, 1_996),
     ("opposite leaves, once", inputs.opposite_leaves, 1),
     ("opposite leaves, 20 times", inputs.opposite_leaves, 20),
     ("depth 2,048, 500 times", inputs.deep_sums, 500),
@@ -103,7 +103,6 @@ def main():
         inputs.short_steps(folder / "case.sql", folder / "proof", 1)
         start = check(folder / "case.sql", folder / "proof")
         line("", "MB", "elapsed", "seconds", "MB/s", "peak MB", "x text", "x wc", "x sha")
-        line("goal", rate=f">= {GOAL_RATE}", share=f"<= {GOAL_MEMORY}")
         line(
             "start",
             elapsed=f"{start.elapsed:.3f}",

@@ -38,6 +38,21 @@ def add_ac(left, right):
     return f"/ > add_ac {left} {right}\n"
 
 
+def beside(term, path, steps):
+    """These steps below the path of a term that is under `#` beside the rows of a table, and is not there before and after them."""
+    yield f"/ > mul_ac {ROW} *({ROW},1)\n"
+    yield f"/r < sq_one {term}\n"
+    yield from (f"{path} {step}\n" for step in steps)
+    yield f"/r > sq_one {term}\n"
+    yield f"/ > mul_ac *({ROW},1) {ROW}\n"
+
+
+def to_and_fro(rule, times):
+    for _ in range(times // 2):
+        yield f"> {rule}"
+        yield f"< {rule}"
+
+
 def there_and_back(first, left, right, last, times):
     """Steps from the first term to the left one, that often on to the right one with the ways back between, and to the last term."""
     yield add_ac(first, left)
@@ -68,6 +83,20 @@ def short_steps(case, proof, lines):
     """That many steps from the rows of a table to the same."""
     write_case(case, [("r", ["a"])], [["r"], ["r"]])
     write_proof(proof, 1, (add_ac(ROW, ROW) for _ in range(lines)))
+
+
+def beside_large_term(case, proof, arguments):
+    """100,000 steps at an equation, beside a term of so many arguments."""
+    write_case(case, [("r", ["a"])], [["r"], ["r"]])
+    term = f"R0({','.join(['f0'] * arguments)})"
+    write_proof(proof, 1, beside(term, "/lir", to_and_fro("eq_sym f1 f0", 100_000)))
+
+
+def long_paths(case, proof, sums):
+    """10,000 steps under so many sums."""
+    write_case(case, [("r", ["a"])], [["r"], ["r"]])
+    term = "S(" * sums + "=(f0,f0)" + ")" * sums
+    write_proof(proof, 1, beside(term, f"/riri{sums}", to_and_fro("eq_refl f0", 10_000)))
 
 
 def opposite_leaves(case, proof, times):

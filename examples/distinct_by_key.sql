@@ -1,0 +1,6 @@
+-- A key makes DISTINCT needless.
+CREATE TABLE r (a INT PRIMARY KEY);
+
+SELECT a FROM r;
+
+SELECT DISTINCT a FROM r;
