@@ -13,6 +13,8 @@ pub mod NumbersAgain
 pub mod TermsAgain
 pub mod LinesAgain
 pub mod Glyphs
+pub mod Digits
+pub mod Firsts
 pub mod TermsSpelled
 pub mod LinesSpelled
 pub mod OneAnswer

@@ -49,17 +49,17 @@ not_entered {A = A} rest f g = go (rest.nodes == 0)
     go true = refl
     go false = refl
 
-pub term_at-step : (levels : ℕ) (rest : Rest)
+pub term_step : (levels : ℕ) (rest : Rest)
     → term_at levels rest ≡ (if begins_term (next rest) then (entered levels rest >>= λ e r. term_with (term_at (levels - 1)) (value_at (levels - 1)) (next rest) r) else bad rest)
 unfolding term_at
-term_at-step zero rest = rw (not_entered rest (λ e r. bad r) (λ e r. term_with (term_at (0 - 1)) (value_at (0 - 1)) (next rest) r)) refl
-term_at-step (suc levels) rest = let e : suc levels - 1 ≡ levels = omega arith in rw e refl
+term_step zero rest = rw (not_entered rest (λ e r. bad r) (λ e r. term_with (term_at (0 - 1)) (value_at (0 - 1)) (next rest) r)) refl
+term_step (suc levels) rest = let e : suc levels - 1 ≡ levels = omega arith in rw e refl
 
-pub value_at-step : (levels : ℕ) (rest : Rest)
+pub value_step : (levels : ℕ) (rest : Rest)
     → value_at levels rest ≡ (if begins_value (next rest) then (entered levels rest >>= λ e r. value_with (term_at (levels - 1)) (value_at (levels - 1)) (next rest) r) else bad rest)
 unfolding value_at
-value_at-step zero rest = rw (not_entered rest (λ e r. bad r) (λ e r. value_with (term_at (0 - 1)) (value_at (0 - 1)) (next rest) r)) refl
-value_at-step (suc levels) rest = let e : suc levels - 1 ≡ levels = omega arith in rw e refl
+value_step zero rest = rw (not_entered rest (λ e r. bad r) (λ e r. value_with (term_at (0 - 1)) (value_at (0 - 1)) (next rest) r)) refl
+value_step (suc levels) rest = let e : suc levels - 1 ≡ levels = omega arith in rw e refl
 
 -- ---- values up to the closing parenthesis
 -- those that were read before stand before

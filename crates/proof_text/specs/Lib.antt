@@ -5,6 +5,7 @@ pub mod Heading
 pub mod Limits
 pub mod LineSamples
 pub mod LinesOfText
+pub mod Nodes
 pub mod NumberSteps
 pub mod Outcomes
 pub mod Paths

@@ -13,6 +13,7 @@ use u_rules::Arg;
 use u_terms::List;
 
 // The argument that begins here.
+#[inline(always)]
 fn argument(alloc: Global, cursor: &mut Cursor<'_>, kind: Kind) -> Result<Arg, Stop>
     ensures { Gives result cursor.new (argument_at kind cursor.old) }
 {
@@ -27,6 +28,7 @@ fn argument(alloc: Global, cursor: &mut Cursor<'_>, kind: Kind) -> Result<Arg, S
 }
 
 /// The arguments that begin here, each behind a space.
+#[inline(always)]
 pub fn arguments(alloc: Global, cursor: &mut Cursor<'_>, kinds: &[Kind]) -> Result<List<Arg>, Stop>
     ensures { Gives result cursor.new (arguments_at kinds.now cursor.old) }
 {

@@ -1,12 +1,12 @@
 //! Where a reader stands.
-ghost use Rattle.std.specs.Prelude.{◌≡◌, ◌==◌, ◌<◌, if◌then◌else◌, length};
+ghost use Rattle.std.specs.Prelude.{◌≡◌, ◌==◌, ◌≤◌, ◌<◌, if◌then◌else◌, length, MatchOption};
 ghost use Rattle.proof_text.specs.Signs.{code};
 ghost use Rattle.proof_text.specs.declared.cursor.Stop.TheVariants.{NoMemory};
 ghost use Rattle.proof_text.specs.LinesOfText.{fed};
 ghost use Rattle.proof_text.specs.Reading.{Gives, entered, expected, fresh, next, passed};
 
 use crate::limits::MOST_NODES;
-use crate::sign::{Sign, code, sign_of};
+use crate::sign::{Sign, code, digit_of, sign_of};
 use std::alloc::{AllocError, AllocFailed};
 use std::marker::Model;
 
@@ -61,6 +61,7 @@ impl<'a> Cursor<'a> {
     }
 
     /// What stands next.
+    #[inline(always)]
     pub fn peek(&self) -> Sign
         ensures { result ≡ next self.now }
     {
@@ -71,7 +72,19 @@ impl<'a> Cursor<'a> {
         }
     }
 
+    /// The value of the digit that stands next.
+    #[inline(always)]
+    pub fn digit(&self) -> Option<u32>
+        ensures { MatchOption result (10 ≤ code (next self.now)) (λ digit. (digit ≡ code (next self.now)) × (digit < 10)) }
+    {
+        match self.bytes {
+            [byte, ..] => digit_of(*byte),
+            [] => None,
+        }
+    }
+
     /// Passes it.
+    #[inline(always)]
     pub fn pass(&mut self)
         ensures { self.new ≡ passed self.old }
     {
@@ -82,6 +95,7 @@ impl<'a> Cursor<'a> {
     }
 
     /// Passes this sign, if it stands next.
+    #[inline(always)]
     pub fn take(&mut self, wanted: Sign) -> bool
         ensures taken { result ≡ (code (next self.old) == code wanted) }
         ensures moved { self.new ≡ (if code (next self.old) == code wanted then passed self.old else self.old) }
@@ -94,6 +108,7 @@ impl<'a> Cursor<'a> {
     }
 
     /// Passes this sign.
+    #[inline(always)]
     pub fn expect(&mut self, wanted: Sign) -> Result<(), Stop>
         ensures { Gives result self.new (expected (code wanted) self.old) }
     {
@@ -105,6 +120,7 @@ impl<'a> Cursor<'a> {
     }
 
     /// Passes the first byte of a node.
+    #[inline(always)]
     pub fn enter(&mut self, levels: u32) -> Result<(), Stop>
         ensures { Gives result self.new (entered levels self.old) }
     {
@@ -120,6 +136,7 @@ impl<'a> Cursor<'a> {
     }
 
     /// Lets as many nodes come as an argument may have.
+    #[inline(always)]
     pub fn refresh(&mut self)
         ensures { self.new ≡ fresh self.old }
     {
@@ -127,6 +144,7 @@ impl<'a> Cursor<'a> {
     }
 
     /// How many bytes are left.
+    #[inline(always)]
     pub fn left(&self) -> usize
         ensures left { result ≡ length self.now.text }
         ensures fits { result < usize.MAX }

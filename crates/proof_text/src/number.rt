@@ -7,13 +7,11 @@ use crate::cursor::{Cursor, Stop};
 use crate::sign::code;
 
 // The number with one digit more, if it stands next.
+#[inline(always)]
 fn longer(cursor: &mut Cursor<'_>, value: u32) -> Option<u32>
     ensures { Longer value cursor.old result cursor.new }
 {
-    let digit = code(cursor.peek());
-    if digit >= 10 {
-        return None;
-    }
+    let digit = cursor.digit()?;
     let value = 10 * u64::from(value) + u64::from(digit);
     if value > u64::from(u32::MAX) {
         return None;
@@ -24,6 +22,7 @@ fn longer(cursor: &mut Cursor<'_>, value: u32) -> Option<u32>
 
 // The longest number that goes on from this one.
 #[tactic(auto, using(crate::proofs::Loops::goes_on, crate::proofs::Loops::ends, crate::proofs::Loops::fewer, crate::proofs::Loops::greater))]
+#[inline(never)]
 fn longest(cursor: &mut Cursor<'_>, first: u32) -> u32
     ensures longest { longest_at first cursor.old ≡ (Ok result, cursor.new) }
     ensures above { first ≤ result }
@@ -35,21 +34,34 @@ fn longest(cursor: &mut Cursor<'_>, first: u32) -> u32
     value
 }
 
+// The longest number that goes on from this one. Most numbers have one digit.
+#[inline(always)]
+#[tactic(auto, using(crate::proofs::Digits::alone))]
+fn most_often_alone(cursor: &mut Cursor<'_>, first: u32) -> u32
+    ensures longest { longest_at first cursor.old ≡ (Ok result, cursor.new) }
+    ensures above { first ≤ result }
+{
+    match cursor.digit() {
+        Some(_) => longest(cursor, first),
+        None => first,
+    }
+}
+
 /// The longest number that begins here.
+#[inline(always)]
 #[tactic(auto, unfolding(crate::specs::Reading::number_at))]
 pub fn number(cursor: &mut Cursor<'_>) -> Result<u32, Stop>
     ensures gives { Gives result cursor.new (number_at cursor.old) }
     ensures no_memory { IsErrOf result Stop.NoMemory → ⊥ }
 {
-    let first = code(cursor.peek());
-    if first >= 10 {
+    let Some(first) = cursor.digit() else {
         return Err(Stop::Unexpected);
-    }
+    };
     cursor.pass();
     if first == 0 {
         return Ok(0);
     }
-    Ok(longest(cursor, u32::from(first)))
+    Ok(most_often_alone(cursor, first))
 }
 
 // The longest number of at least 2 that begins here.

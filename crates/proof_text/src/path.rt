@@ -20,24 +20,28 @@ pub enum Last {
     Inside,
 }
 
+#[inline(always)]
 fn may_be_left(last: Last) -> bool
     ensures { result ≡ may_be_left last }
 {
     !matches!(last, Last::Left)
 }
 
+#[inline(always)]
 fn may_be_right(last: Last) -> bool
     ensures { result ≡ may_be_right last }
 {
     !matches!(last, Last::Right)
 }
 
+#[inline(always)]
 fn may_be_inside(last: Last) -> bool
     ensures { result ≡ may_be_inside last }
 {
     !matches!(last, Last::Inside)
 }
 
+#[inline(always)]
 fn last_of(run: Run) -> Last
     ensures { result ≡ last_of run }
 {
@@ -51,6 +55,7 @@ fn last_of(run: Run) -> Last
 
 // The next run.
 #[tactic(auto, unfolding(crate::specs::Reading::run_at))]
+#[inline(always)]
 fn run(cursor: &mut Cursor<'_>, last: Last) -> Result<Option<Run>, Stop>
     ensures gives { Gives result cursor.new (run_at last cursor.old) }
     ensures fits { IfOk result (λ found. IfSome found (λ run. IsCounted run × IsApart last run)) }
@@ -69,6 +74,7 @@ fn run(cursor: &mut Cursor<'_>, last: Last) -> Result<Option<Run>, Stop>
 }
 
 // Appends a run that is not of the last one's kind.
+#[inline(always)]
 fn push(path: &mut Path, last: Last, run: Run) -> Result<(), AllocError>
     requires counted { IsCounted run }
     requires last { kind_of_last path.old ≡ last }
@@ -80,6 +86,7 @@ fn push(path: &mut Path, last: Last, run: Run) -> Result<(), AllocError>
 }
 
 /// The longest path that begins here, behind its slash.
+#[inline(always)]
 pub fn path(alloc: Global, cursor: &mut Cursor<'_>) -> Result<Path, Stop>
     ensures { Gives result cursor.new (path_at cursor.old) }
 {

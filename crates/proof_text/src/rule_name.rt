@@ -8,6 +8,7 @@ use crate::sign::{Sign, sign_of};
 use u_rules::Rule;
 
 /// Passes these bytes.
+#[inline(always)]
 pub fn word(cursor: &mut Cursor<'_>, bytes: &[u8]) -> Result<(), Stop>
     ensures { Gives result cursor.new (word_at bytes.now cursor.old) }
 {
@@ -19,6 +20,7 @@ pub fn word(cursor: &mut Cursor<'_>, bytes: &[u8]) -> Result<(), Stop>
 
 // The rule whose name goes on with these bytes.
 #[tactic(auto, unfolding(crate::specs::Reading::rule_at))]
+#[inline(always)]
 fn named(cursor: &mut Cursor<'_>, bytes: &[u8], rule: Rule) -> Result<Rule, Stop>
     ensures { Gives result cursor.new (rule_at (word bytes.now (found rule)) cursor.old) }
 {

@@ -16,6 +16,7 @@ use u_deriv::{Path, Step};
 use u_rules::{Arg, Rule};
 use u_terms::List;
 
+#[inline(always)]
 fn direction(cursor: &mut Cursor<'_>) -> Result<bool, Stop>
     ensures { Gives result cursor.new (direction_at cursor.old) }
 {
@@ -27,6 +28,7 @@ fn direction(cursor: &mut Cursor<'_>) -> Result<bool, Stop>
 }
 
 // The end of the line of a step.
+#[inline(always)]
 fn end_of_line(cursor: &mut Cursor<'_>, inner: bool) -> Result<(), Stop>
     ensures { Gives result cursor.new (end_at inner cursor.old) }
 {
@@ -37,6 +39,7 @@ fn end_of_line(cursor: &mut Cursor<'_>, inner: bool) -> Result<(), Stop>
 }
 
 // What the line of a step says.
+#[inline(always)]
 fn said(alloc: Global, path: Path, forward: bool, rule: Rule, args: List<Arg>) -> LineStep
     ensures { result ≡ made path forward rule args }
 {
@@ -56,6 +59,7 @@ fn said(alloc: Global, path: Path, forward: bool, rule: Rule, args: List<Arg>) -
 
 // The line of a step, behind its slash.
 #[tactic(auto, unfolding(crate::specs::Reading::step_at))]
+#[inline(always)]
 fn step(alloc: Global, cursor: &mut Cursor<'_>) -> Result<LineStep, Stop>
     ensures { Gives result cursor.new (step_at cursor.old) }
 {
@@ -70,6 +74,7 @@ fn step(alloc: Global, cursor: &mut Cursor<'_>) -> Result<LineStep, Stop>
 }
 
 #[tactic(auto, unfolding(crate::specs::Reading::line_at))]
+#[inline(always)]
 fn line(alloc: Global, cursor: &mut Cursor<'_>) -> Result<LineStep, Stop>
     ensures { Gives result cursor.new (line_at cursor.old) }
 {
@@ -86,6 +91,7 @@ fn line(alloc: Global, cursor: &mut Cursor<'_>) -> Result<LineStep, Stop>
 }
 
 /// The line that is all that is left.
+#[inline(always)]
 pub fn whole_line(alloc: Global, cursor: &mut Cursor<'_>) -> Result<LineStep, Stop>
     ensures { Gives result cursor.new (alone line_at cursor.old) }
 {

@@ -1,8 +1,10 @@
 //! Terms and values.
-ghost use Rattle.std.specs.Prelude.{◌≡◌, ◌<◌, length};
+ghost use Rattle.std.specs.Prelude.{◌≡◌, ◌<◌, ◌-◌, length};
+ghost use Rattle.u_terms.specs.declared.term.U.TheVariants as u;
+ghost use Rattle.u_terms.specs.declared.term.Val.TheVariants as v;
 ghost use Rattle.proof_text.specs.Signs.{code};
-ghost use Rattle.proof_text.specs.Grammar.{begins_term, begins_value};
-ghost use Rattle.proof_text.specs.Reading.{Gives, list_of, pair_of, term_at, term_with, value_at, value_with, within};
+ghost use Rattle.proof_text.specs.Reading.{Gives, list_of, number_at, numbered, pair_of, term_at, value_at, within};
+ghost use Rattle.proof_text.specs.Nodes.{equality_of, node_of};
 
 use crate::cursor::{Cursor, Stop};
 use crate::number::number;
@@ -10,40 +12,21 @@ use crate::sign::{Sign, code};
 use std::alloc::Global;
 use u_terms::{Boxed, List, U, Val};
 
-fn begins_term(sign: Sign) -> bool
-    ensures { result ≡ begins_term sign }
-{
-    let code = code(sign);
-    code < 2 || 9 < code && code < 18
-}
-
-fn begins_value(sign: Sign) -> bool
-    ensures { result ≡ begins_value sign }
-{
-    matches!(code(sign), 32 | 36 | 33 | 18 | 19)
-}
-
 /// The term that begins here, with so many levels left.
 #[cycle(term)]
+#[inline(always)]
 pub fn term(alloc: Global, cursor: &mut Cursor<'_>, levels: u32) -> Result<U, Stop>
     ensures { Gives result cursor.new (term_at levels cursor.old) }
 {
-    let first = cursor.peek();
-    if !begins_term(first) {
-        return Err(Stop::Unexpected);
-    }
-    cursor.enter(levels)?;
-    term_from(alloc, cursor, first, levels - 1)
-}
-
-// The term that begins with this sign.
-#[cycle(term)]
-fn term_from(alloc: Global, cursor: &mut Cursor<'_>, first: Sign, levels: u32) -> Result<U, Stop>
-    ensures { Gives result cursor.new (term_with (term_at levels) (value_at levels) first cursor.old) }
-{
-    match first {
-        Sign::Digit0 => Ok(U::Zero),
-        Sign::Digit1 => Ok(U::One),
+    match cursor.peek() {
+        Sign::Digit0 => {
+            cursor.enter(levels)?;
+            Ok(U::Zero)
+        }
+        Sign::Digit1 => {
+            cursor.enter(levels)?;
+            Ok(U::One)
+        }
         Sign::Plus => {
             let (left, right) = terms(alloc, cursor, levels)?;
             Ok(U::Add(left, right))
@@ -55,61 +38,100 @@ fn term_from(alloc: Global, cursor: &mut Cursor<'_>, first: Sign, levels: u32) -
         Sign::Hash => Ok(U::Squash(part(alloc, cursor, levels)?)),
         Sign::Bang => Ok(U::Not(part(alloc, cursor, levels)?)),
         Sign::UpperS => Ok(U::Sum(part(alloc, cursor, levels)?)),
-        Sign::UpperR => {
-            let table = number(cursor)?;
-            Ok(U::Rel(table, values(alloc, cursor, levels)?))
-        }
-        Sign::Equals => {
-            let (left, right) = sides(alloc, cursor, levels)?;
-            Ok(U::Eq(left, right))
-        }
-        Sign::UpperP => {
-            let symbol = number(cursor)?;
-            Ok(U::Pred(symbol, values(alloc, cursor, levels)?))
-        }
+        Sign::UpperR => table(alloc, cursor, levels),
+        Sign::Equals => equality(alloc, cursor, levels),
+        Sign::UpperP => predicate(alloc, cursor, levels),
         _ => Err(Stop::Unexpected),
     }
 }
 
-// A term in parentheses.
+// The same, in a box.
 #[cycle(term)]
-fn part(alloc: Global, cursor: &mut Cursor<'_>, levels: u32) -> Result<Boxed<U>, Stop>
-    ensures { Gives result cursor.new (within (term_at levels) cursor.old) }
+#[inline(never)]
+fn boxed(alloc: Global, cursor: &mut Cursor<'_>, levels: u32) -> Result<Boxed<U>, Stop>
+    ensures { Gives result cursor.new (term_at levels cursor.old) }
 {
-    cursor.expect(Sign::Open)?;
     let term = term(alloc, cursor, levels)?;
-    cursor.expect(Sign::Close)?;
     Ok(Boxed::new(alloc, term)?)
 }
 
-// Two terms in parentheses.
+// The part in parentheses of a term that begins here.
 #[cycle(term)]
-fn terms(alloc: Global, cursor: &mut Cursor<'_>, levels: u32) -> Result<(Boxed<U>, Boxed<U>), Stop>
-    ensures { Gives result cursor.new (pair_of (term_at levels) cursor.old) }
+#[inline(always)]
+fn part(alloc: Global, cursor: &mut Cursor<'_>, levels: u32) -> Result<Boxed<U>, Stop>
+    ensures { Gives result cursor.new (node_of levels (within (term_at (levels - 1))) cursor.old) }
 {
-    cursor.expect(Sign::Open)?;
-    let left = term(alloc, cursor, levels)?;
-    cursor.expect(Sign::Comma)?;
-    let right = term(alloc, cursor, levels)?;
-    cursor.expect(Sign::Close)?;
-    Ok((Boxed::new(alloc, left)?, Boxed::new(alloc, right)?))
+    cursor.enter(levels)?;
+    inside(alloc, cursor, levels - 1)
 }
 
-// Two values in parentheses.
+// A term in parentheses.
 #[cycle(term)]
-fn sides(alloc: Global, cursor: &mut Cursor<'_>, levels: u32) -> Result<(Val, Val), Stop>
-    ensures { Gives result cursor.new (pair_of (value_at levels) cursor.old) }
+#[inline(always)]
+fn inside(alloc: Global, cursor: &mut Cursor<'_>, levels: u32) -> Result<Boxed<U>, Stop>
+    ensures { Gives result cursor.new (within (term_at levels) cursor.old) }
 {
     cursor.expect(Sign::Open)?;
-    let left = value(alloc, cursor, levels)?;
+    let term = boxed(alloc, cursor, levels)?;
+    cursor.expect(Sign::Close)?;
+    Ok(term)
+}
+
+// The two parts of a term that begins here.
+#[cycle(term)]
+#[inline(always)]
+fn terms(alloc: Global, cursor: &mut Cursor<'_>, levels: u32) -> Result<(Boxed<U>, Boxed<U>), Stop>
+    ensures { Gives result cursor.new (node_of levels (pair_of (term_at (levels - 1))) cursor.old) }
+{
+    cursor.enter(levels)?;
+    cursor.expect(Sign::Open)?;
+    let left = boxed(alloc, cursor, levels - 1)?;
     cursor.expect(Sign::Comma)?;
-    let right = value(alloc, cursor, levels)?;
+    let right = boxed(alloc, cursor, levels - 1)?;
     cursor.expect(Sign::Close)?;
     Ok((left, right))
 }
 
+// The rows of a table.
+#[cycle(term)]
+#[inline(never)]
+fn table(alloc: Global, cursor: &mut Cursor<'_>, levels: u32) -> Result<U, Stop>
+    ensures { Gives result cursor.new (node_of levels (numbered (list_of (value_at (levels - 1))) u.Rel) cursor.old) }
+{
+    cursor.enter(levels)?;
+    let table = number(cursor)?;
+    Ok(U::Rel(table, values(alloc, cursor, levels - 1)?))
+}
+
+// A predicate of values.
+#[cycle(term)]
+#[inline(never)]
+fn predicate(alloc: Global, cursor: &mut Cursor<'_>, levels: u32) -> Result<U, Stop>
+    ensures { Gives result cursor.new (node_of levels (numbered (list_of (value_at (levels - 1))) u.Pred) cursor.old) }
+{
+    cursor.enter(levels)?;
+    let symbol = number(cursor)?;
+    Ok(U::Pred(symbol, values(alloc, cursor, levels - 1)?))
+}
+
+// An equality of two values.
+#[cycle(term)]
+#[inline(never)]
+fn equality(alloc: Global, cursor: &mut Cursor<'_>, levels: u32) -> Result<U, Stop>
+    ensures { Gives result cursor.new (node_of levels (equality_of (value_at (levels - 1))) cursor.old) }
+{
+    cursor.enter(levels)?;
+    cursor.expect(Sign::Open)?;
+    let left = value(alloc, cursor, levels - 1)?;
+    cursor.expect(Sign::Comma)?;
+    let right = value(alloc, cursor, levels - 1)?;
+    cursor.expect(Sign::Close)?;
+    Ok(U::Eq(left, right))
+}
+
 /// Values in parentheses, with so many levels left.
 #[cycle(term)]
+#[inline(never)]
 pub fn values(alloc: Global, cursor: &mut Cursor<'_>, levels: u32) -> Result<List<Val>, Stop>
     ensures { Gives result cursor.new (list_of (value_at levels) cursor.old) }
 {
@@ -133,34 +155,47 @@ pub fn values(alloc: Global, cursor: &mut Cursor<'_>, levels: u32) -> Result<Lis
 
 /// The value that begins here, with so many levels left.
 #[cycle(term)]
+#[inline(always)]
 pub fn value(alloc: Global, cursor: &mut Cursor<'_>, levels: u32) -> Result<Val, Stop>
     ensures { Gives result cursor.new (value_at levels cursor.old) }
 {
-    let first = cursor.peek();
-    if !begins_value(first) {
-        return Err(Stop::Unexpected);
-    }
-    cursor.enter(levels)?;
-    value_from(alloc, cursor, first, levels - 1)
-}
-
-// The value that begins with this sign.
-#[cycle(term)]
-fn value_from(alloc: Global, cursor: &mut Cursor<'_>, first: Sign, levels: u32) -> Result<Val, Stop>
-    ensures { Gives result cursor.new (value_with (term_at levels) (value_at levels) first cursor.old) }
-{
-    match first {
-        Sign::SmallB => Ok(Val::Bound(number(cursor)?)),
-        Sign::SmallF => Ok(Val::Free(number(cursor)?)),
-        Sign::SmallC => Ok(Val::Lit(number(cursor)?)),
-        Sign::UpperF => {
-            let symbol = number(cursor)?;
-            Ok(Val::Fun(symbol, values(alloc, cursor, levels)?))
-        }
-        Sign::UpperG => {
-            let aggregate = number(cursor)?;
-            Ok(Val::Agg(aggregate, part(alloc, cursor, levels)?))
-        }
+    match cursor.peek() {
+        Sign::SmallB => Ok(Val::Bound(leaf(cursor, levels)?)),
+        Sign::SmallF => Ok(Val::Free(leaf(cursor, levels)?)),
+        Sign::SmallC => Ok(Val::Lit(leaf(cursor, levels)?)),
+        Sign::UpperF => function(alloc, cursor, levels),
+        Sign::UpperG => aggregate(alloc, cursor, levels),
         _ => Err(Stop::Unexpected),
     }
+}
+
+// The number of a value that is a letter and a number.
+#[inline(always)]
+fn leaf(cursor: &mut Cursor<'_>, levels: u32) -> Result<u32, Stop>
+    ensures { Gives result cursor.new (node_of levels number_at cursor.old) }
+{
+    cursor.enter(levels)?;
+    number(cursor)
+}
+
+// A function of values.
+#[cycle(term)]
+#[inline(never)]
+fn function(alloc: Global, cursor: &mut Cursor<'_>, levels: u32) -> Result<Val, Stop>
+    ensures { Gives result cursor.new (node_of levels (numbered (list_of (value_at (levels - 1))) v.Fun) cursor.old) }
+{
+    cursor.enter(levels)?;
+    let symbol = number(cursor)?;
+    Ok(Val::Fun(symbol, values(alloc, cursor, levels - 1)?))
+}
+
+// An aggregate of a term.
+#[cycle(term)]
+#[inline(never)]
+fn aggregate(alloc: Global, cursor: &mut Cursor<'_>, levels: u32) -> Result<Val, Stop>
+    ensures { Gives result cursor.new (node_of levels (numbered (within (term_at (levels - 1))) v.Agg) cursor.old) }
+{
+    cursor.enter(levels)?;
+    let aggregate = number(cursor)?;
+    Ok(Val::Agg(aggregate, inside(alloc, cursor, levels - 1)?))
 }
