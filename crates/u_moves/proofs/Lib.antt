@@ -1,0 +1,14 @@
+pub mod Nested
+pub mod Closings
+pub mod Paths
+pub mod Elsewhere
+pub mod Chains
+pub mod Sound
+pub mod Rooted
+pub mod Showing
+pub mod Lines
+pub mod Items
+pub mod Depths
+pub mod Made
+pub mod Whole
+pub mod Fixed

@@ -1,0 +1,19 @@
+use Rattle.std.proofs.Common.{[], ◌∷◌, ap, ◌∙◌}
+use Rattle.u_terms.specs.Syntax.{U}
+use Rattle.u_rules.specs.declared.rule.Arg.TheVariants.{Term}
+use Rattle.u_rules.specs.Terms.{sq}
+use Rattle.u_moves.proofs.Fixed.{fix-known, fix-made}
+use Rattle.u_moves.proofs.moves.Moves.sq_fix.Goals as goal
+
+pub one_step-requires-clause-known : goal.one_step-requires-clause-known
+one_step-requires-clause-known c =
+    fix-known c.args.self.facts.now c.args.self.outs c.args.square c.into_end-x.ensures.sound c.requires.facts c.requires.outs c.requires.square (sq c.in_ok-new.field-0)
+    (ap sq (c.in_ok-new.ensures {u = tt} ∙ c.in_ok-copy.ensures {u = tt} ∙ c.into_end-x.ensures.to))
+
+pub one_step-requires-clause-made : goal.one_step-requires-clause-made
+one_step-requires-clause-made c =
+    fix-made c.args.self.facts.now c.args.self.outs c.args.square c.into_end-x.ensures.sound c.requires.facts c.requires.outs c.requires.square (sq c.in_ok-new.field-0) c.in_ok-to.to c.new-2.result
+    c.from_vec.result c.into_end-x.result.1
+    (ap sq (c.in_ok-new.ensures {u = tt} ∙ c.in_ok-copy.ensures {u = tt} ∙ c.into_end-x.ensures.to))
+    (c.in_ok-to.ensures {u = tt} ∙ c.into_end-x.ensures.to) c.new-2.ensures
+    (c.from_vec.ensures ∙ (c.in_ok-args.ensures {u = tt}).items ∙ ap (λ (x : U). Term x ∷ []) c.into_end-x.ensures.to) c.into_end-x.ensures.steps

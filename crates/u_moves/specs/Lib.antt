@@ -1,0 +1,7 @@
+pub mod Derivations
+pub mod Turning
+pub mod Walking
+pub mod Lifting
+pub mod Lines
+pub mod Moving
+pub mod Samples
