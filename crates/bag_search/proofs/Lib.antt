@@ -1,0 +1,10 @@
+pub mod MergeLaws
+pub mod Columns
+pub mod Literals
+pub mod Carrying
+pub mod KnownLaws
+pub mod Longer
+pub mod Wanted
+pub mod Budget
+pub mod Whole
+pub mod Saying

@@ -1,0 +1,5 @@
+pub mod Merges
+pub mod Entries
+pub mod Known
+pub mod Searches
+pub mod Answers

@@ -1,0 +1,3 @@
+pub mod ClassLaws
+pub mod DrawnShapes
+pub mod PlainTrees

@@ -1,0 +1,4 @@
+pub mod Blocks
+pub mod Drawn
+pub mod Classes
+pub mod Samples

@@ -1,0 +1,9 @@
+pub mod Mapping
+pub mod Placing
+pub mod Atoms
+pub mod Values
+pub mod Conditions
+pub mod Items
+pub mod NoAtoms
+pub mod Whole
+pub mod Queries

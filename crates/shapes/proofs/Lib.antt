@@ -1,0 +1,11 @@
+pub mod Bounds
+pub mod Complete
+pub mod Kept
+pub mod Least
+pub mod Found
+pub mod Listed
+pub mod Back
+pub mod Decides
+pub mod Equivalence
+pub mod AlikeLaws
+pub mod Greedy

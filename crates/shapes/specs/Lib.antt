@@ -1,0 +1,9 @@
+pub mod Options
+pub mod Shapes
+pub mod Alike
+pub mod Unions
+pub mod Tests
+pub mod Search
+pub mod Tried
+pub mod Small
+pub mod Samples

@@ -1,0 +1,4 @@
+pub mod Factors
+pub mod TermShape
+pub mod Walks
+pub mod Samples
