@@ -1,0 +1,4 @@
+mod closure;
+mod drawn;
+mod rows;
+mod terms;

@@ -1,0 +1,18 @@
+use Rattle.std.proofs.Common.{sym, subst, ◌∙◌, arith}
+use Rattle.std.specs.Prelude.{Some, None}
+use Rattle.std.proofs.lemmas.Bool.{true≢false}
+use Rattle.u_terms.specs.Syntax.{U}
+use Rattle.u_equal.specs.Links.{IsChain}
+use Rattle.u_equal.proofs.Answered.{classes-complete}
+use Rattle.u_equal.proofs.classes.Classes.chain.Goals as goal
+
+pub returns-then-not-are_same : goal.returns-then-not-are_same
+returns-then-not-are_same c =
+    subst (λ (product : U). IsChain product c.args.a.now c.args.b.now None) c.self.view_is
+    (λ e. true≢false (sym (c.are_same.ensures.1 (classes-complete c.self.inside.product.now c.self.inside.forest c.self.invariant c.args.a.now c.args.b.now e)) ∙ c.if-not-are_same.true))
+
+pub returns : goal.returns
+returns c =
+    let h = c.in_ok-links.ensures in
+    subst (λ (product : U). IsChain product c.args.a.now c.args.b.now (Some c.in_ok-links.field-0)) c.self.view_is
+    (h.leads c.self.inside.product.now c.self.invariant.edges_hold, λ none. let few = c.self.invariant.few none in omega (arith, h.short, few))

@@ -1,0 +1,27 @@
+use Rattle.std.proofs.Common.{◌≡◌, ◌+◌, ◌*◌, length, take}
+use Rattle.u_terms.specs.Syntax.{U}
+use Rattle.u_equal.specs.Links.{LeadsEach}
+use Rattle.u_equal.specs.Joined.{seen}
+use Rattle.u_equal.specs.Chains.{HoldsEdges, LinksHops}
+use Rattle.u_equal.proofs.forest.Forest.+links.Given as goal
+
+abbrev pub decreases-link : goal.decreases-link
+decreases-link l = 4 * l.hop.time + 3
+
+abbrev pub decreases-call_links : goal.decreases-call_links
+decreases-call_links l = 4 * l.upto + 2
+
+abbrev pub decreases-pair_links : goal.decreases-pair_links
+decreases-pair_links l = 4 * l.upto + 1
+
+abbrev pub decreases-value_links : goal.decreases-value_links
+decreases-value_links l = 4 * l.upto
+
+abbrev pub invariant-pair_links-loop-i : goal.invariant-pair_links-loop-i
+invariant-pair_links-loop-i l = record {
+  long : length l.xs ≡ length l.ys;
+  each : (product : U) → HoldsEdges (seen l.self) product → LeadsEach product (take l.i l.xs) l.pairs.items (take l.i l.ys);
+}
+
+abbrev pub invariant-value_links-loop-hop : goal.invariant-value_links-loop-hop
+invariant-value_links-loop-hop l = LinksHops (seen l.self) (take l.hop-index l.hop-items) l.links.items

@@ -1,0 +1,40 @@
+-- What links lead to, and what a chain of them is.
+use Rattle.std.specs.Prelude.{ℕ, ◌≤◌, Bool, true, false, List, [], ◌∷◌, Option, Some, None, length, count_by}
+use Rattle.u_terms.specs.Syntax.{U, Val, Eq}
+use Rattle.u_terms.specs.declared.term.Val.TheVariants as v
+use Rattle.u_equal.specs.declared.link.Link.{Link}
+use Rattle.u_equal.specs.declared.link.Link.TheVariants as link
+use Rattle.u_rules.specs.Terms.{mul_leaves}
+use Rattle.u_equal.specs.Standing.{Stands, IsIn, standing}
+use Rattle.u_equal.specs.Entails.{IsGiven, Entails}
+
+mutual
+  -- the links lead from a to b, one after the other
+  pub data Leads (product : U) : Val → List Link → Val → Type 0 where
+    no_link : (a : Val) → Leads product a [] a
+    forth : (factor : ℕ) (a b c : Val) (rest : List Link) → IsGiven product factor a b → Leads product b rest c
+        → Leads product a (link.Given factor false ∷ rest) c
+    back : (factor : ℕ) (a b c : Val) (rest : List Link) → IsGiven product factor b a → Leads product b rest c
+        → Leads product a (link.Given factor true ∷ rest) c
+    called : (f : ℕ) (xs ys : List Val) (c : Val) (pairs : List (List Link)) (rest : List Link)
+        → Stands (v.Fun f xs) product → Stands (v.Fun f ys) product → LeadsEach product xs pairs ys → Leads product (v.Fun f ys) rest c
+        → Leads product (v.Fun f xs) (link.Call pairs ∷ rest) c
+
+  pub data LeadsEach (product : U) : List Val → List (List Link) → List Val → Type 0 where
+    no_pair : LeadsEach product [] [] []
+    pair : (a b : Val) (links : List Link) (xs ys : List Val) (pairs : List (List Link)) → Leads product a links b → LeadsEach product xs pairs ys
+        → LeadsEach product (a ∷ xs) (links ∷ pairs) (b ∷ ys)
+
+-- ---- chains
+abbrev pub is_equality : U → Bool
+is_equality (Eq a b) = true
+is_equality _ = false
+
+abbrev pub HasNoCall : List Val → Type 0
+HasNoCall values = (f : ℕ) (xs : List Val) → IsIn (v.Fun f xs) values → ⊥
+
+-- Links that lead from a to b, at most as many as the product has equalities where no call stands in it; or none, where it does not entail
+-- that they are equal.
+abbrev pub IsChain : U → Val → Val → Option (List Link) → Type 0
+IsChain product a b None = Entails product a b → ⊥
+IsChain product a b (Some links) = Leads product a links b × (HasNoCall (standing product) → length links ≤ count_by is_equality (mul_leaves product))

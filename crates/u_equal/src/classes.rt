@@ -1,0 +1,95 @@
+//! The classes of the values in a product.
+ghost use Rattle.std.specs.Prelude.{◌≡◌, ◌^◌, ◌<◌, ◌↔◌, IfOk, IsTrue, length};
+ghost use Rattle.u_rules.specs.Terms.{mul_leaves};
+ghost use Rattle.u_equal.specs.Links.{IsChain};
+ghost use Rattle.u_equal.specs.Entails.{Entails};
+ghost use Rattle.u_equal.specs.Joined.{AreSame, IsTree, Joined, label_now, seen};
+
+use crate::NoMemory;
+use crate::calls::calls_of;
+use crate::forest::Forest;
+pub use crate::gather::factors;
+use crate::gather::standing_values;
+use crate::link::Link;
+use crate::table::table_of;
+use std::alloc::Global;
+use std::marker::Model;
+use u_rules::leaves;
+use u_terms::{List, U, Val, same_value};
+
+/// The classes of the values that stand in a product outside every binder: of the least equivalence that holds the equalities among its
+/// factors, and that carries equal arguments to equal calls of one function. Contracts see them as the product.
+#[derive(Drop)]
+pub struct Classes<'a> {
+    product: &'a U,
+    forest: Forest<'a>,
+}
+
+impl<'a> Model for Classes<'a> {
+    ghost use Rattle.std.specs.Coded.{codes};
+    ghost use Rattle.u_terms.specs.Syntax.{U as TheU};
+    ghost use Rattle.u_terms.specs.contracts.term.U as term_type;
+    ghost use Rattle.u_equal.specs.Joined.{AreClasses};
+
+    ghost Value = { TheU };
+
+    ghost coded = { Prim.hlevel (codes, term_type.the_row.coded) };
+
+    ghost view = { λ classes. classes.product.now };
+
+    ghost invariant = { λ classes. AreClasses classes.product.now classes.forest };
+}
+
+impl<'a> Classes<'a> {
+    /// The classes of a product.
+    pub fn of(alloc: Global, product: &'a U) -> Result<Classes<'a>, NoMemory>
+        requires few { length (mul_leaves product.now) < 2 ^ 32 }
+        ensures { IfOk result (λ classes. classes ≡ product.now) }
+    {
+        let factors = leaves(alloc, product, true)?;
+        let standing = standing_values(alloc, product)?;
+        let values = table_of(alloc, standing.as_slice())?;
+        let mut forest = Forest::apart(alloc, values)?;
+        forest.join_factors(factors.as_slice())?;
+        let calls = calls_of(alloc, &forest)?;
+        forest.join_calls(alloc, calls.as_slice())?;
+        Ok(Classes { product, forest })
+    }
+
+    /// Whether the product's equalities entail that the values are equal.
+    pub fn entails(&self, a: &Val, b: &Val) -> bool
+        ensures { IsTrue result ↔ Entails self.now a.now b.now }
+    {
+        self.forest.are_same(a, b)
+    }
+
+    /// Links that lead from the one value to the other, where the product's equalities entail that they are equal.
+    pub fn chain(&self, alloc: Global, a: &Val, b: &Val) -> Result<Option<List<Link>>, NoMemory>
+        ensures { IfOk result (λ found. IsChain self.now a.now b.now found) }
+    {
+        if !self.forest.are_same(a, b) {
+            return Ok(None);
+        }
+        Ok(Some(self.forest.links(alloc, a, b)?))
+    }
+}
+
+impl<'a> Forest<'a> {
+    // Whether both are one value, or joined.
+    fn are_same(&self, a: &Val, b: &Val) -> bool
+        requires { IsTree self.now }
+        ensures { IsTrue result ↔ AreSame (seen self.now) a.now b.now }
+    {
+        same_value(a, b) || self.are_joined(a, b)
+    }
+
+    fn are_joined(&self, a: &Val, b: &Val) -> bool
+        requires { IsTree self.now }
+        ensures { IsTrue result ↔ Joined self.now.values.keys (label_now (seen self.now)) a.now b.now }
+    {
+        match (self.find(a), self.find(b)) {
+            (Some(left), Some(right)) => self.class_of(left) == self.class_of(right),
+            _ => false,
+        }
+    }
+}
