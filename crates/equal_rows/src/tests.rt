@@ -2,3 +2,4 @@ mod closure;
 mod drawn;
 mod rows;
 mod terms;
+mod towers;

@@ -14,6 +14,7 @@ pub mod KeyLaws
 pub mod Moves
 pub mod Sides
 pub mod Rounds
+pub mod LinkNumbers
 pub mod Ways
 pub mod Listed
 pub mod Linked

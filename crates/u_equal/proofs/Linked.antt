@@ -16,10 +16,13 @@ use Rattle.u_equal.specs.declared.link.Link.TheVariants as link
 use Rattle.u_equal.specs.Standing.{standing, IsIn}
 use Rattle.u_equal.specs.Links.{Leads, LeadsEach, no_link, forth, back, called, no_pair, pair}
 use Rattle.u_equal.specs.Joined.{edge_at, label_at, FirstAt, Joined, Same, SameEach, AreCalls, State, IsState, HasReason}
+use Rattle.u_equal.specs.Links.{HasCount, HasCountEach}
+use Rattle.u_equal.specs.LinkCounts.{arguments, links_of_edge, links_of_values, sum_of_pairs}
 use Rattle.u_equal.specs.Chains.{near, far, IsWay, stays, along, IsPath, HoldsEdges, LinksHop, LinksHops, LinksValues, LinksEach, LinksCalls}
 use Rattle.u_equal.proofs.Labels.{first-unique}
 use Rattle.u_equal.proofs.Moves.{calls-back}
 use Rattle.u_equal.proofs.Reaches.{reach-le}
+use Rattle.u_equal.proofs.LinkNumbers.{arguments-Fun, same-both, edge-given, edge-called, pairs-found, one-given, one-call}
 use Rattle.u_equal.proofs.Rounds.{parts-Fun}
 use Rattle.u_equal.proofs.Ways.{far-within}
 use Rattle.u_equal.proofs.Listed.{at-push}
@@ -66,11 +69,14 @@ links-of s upto from to hops links a b state within path ls at_a at_b = record {
   short = omega (arith, ls.0, path.short, reach-le s.values s.edges upto from);
 }
 
-pub links-same : (s : State) (upto : ℕ) (a b : Val) (links : List Link) → a ≡ b → links ≡ [] → LinksValues s upto a b links
-links-same s upto a b links same none = record {
+pub leads-same : (s : State) (upto : ℕ) (a b : Val) (links : List Link) → a ≡ b → links ≡ [] → LinksValues s upto a b links
+leads-same s upto a b links same none = record {
   leads = λ product hold. subst (λ (ls : List Link). Leads product a ls b) (sym none) (subst (λ (x : Val). Leads product a [] x) same (no_link a));
   short = let e : length links ≡ 0 = ap length none in omega (arith, e);
 }
+
+pub hops-none : (s : State) (links : List Link) → links ≡ [] → LinksHops s [] links
+hops-none s links none = (ap length none, λ k hop l at. absurd (none-some hop at))
 
 pub hops-more : (s : State) (hops : List Hop) (links after : List Link) (hop : Hop) (l : Link) → LinksHops s hops links → LinksHop s hop l → after ≡ links ++ l ∷ [] → LinksHops s (hops ++ hop ∷ []) after
 hops-more s hops links after hop l h new is = (
@@ -168,6 +174,34 @@ module _ (s : State) (hop : Hop) (within : hop.time < length s.edges) where
   pub calls-hop : IsState s → e.reason ≡ Called → (a b : Val) → slice_get s.values (near e hop.turned) ≡ Some a → slice_get s.values (far e hop.turned) ≡ Some b
       → AreCalls s.values (label_at s.edges hop.time) a b
   calls-hop state = calls-by state hop.turned
+
+  -- ---- and how many links it stands for
+  pub given-count : (factor : ℕ) (turned out : Bool) → e.reason ≡ Given factor turned → HasCount (link.Given factor out ∷ []) (links_of_edge s hop.time)
+  given-count factor turned out is = subst (λ n. HasCount (link.Given factor out ∷ []) n) (sym (edge-given s hop.time factor turned is)) (one-given factor out)
+
+  call-count : IsState s → (round : Bool) → e.reason ≡ Called → (a b : Val) → slice_get s.values (near e round) ≡ Some a → slice_get s.values (far e round) ≡ Some b
+      → links_of_edge s hop.time ≡ 1 + sum_of_pairs (links_of_values s hop.time) (arguments a) (arguments b)
+  call-count state false is a b at_a at_b = edge-called s hop.time a b is at_a at_b
+  call-count state true is a b at_a at_b =
+      let calls = calls-by state true is a b at_a at_b in
+      let from : arguments a ≡ calls.from = ap arguments calls.is_from ∙ arguments-Fun calls.symbol calls.from in
+      let to : arguments b ≡ calls.to = ap arguments calls.is_to ∙ arguments-Fun calls.symbol calls.to in
+      let f : Val → Val → ℕ = links_of_values s hop.time in
+      let turned : sum_of_pairs f (arguments b) (arguments a) ≡ sum_of_pairs f (arguments a) (arguments b) =
+      ap (λ (xs : List Val). sum_of_pairs f xs (arguments a)) to ∙ ap (λ (xs : List Val). sum_of_pairs f calls.to xs) from
+      ∙ sym (same-both s state hop.time (omega (arith, within)) calls.from calls.to calls.each)
+      ∙ ap (λ (xs : List Val). sum_of_pairs f xs calls.to) (sym from) ∙ ap (λ (xs : List Val). sum_of_pairs f (arguments a) xs) (sym to) in
+      edge-called s hop.time b a is at_b at_a ∙ ap (λ n. 1 + n) turned
+
+  pub called-count : IsState s → e.reason ≡ Called → (a b : Val) (pairs : List (List Link)) → slice_get s.values (near e hop.turned) ≡ Some a → slice_get s.values (far e hop.turned) ≡ Some b
+      → HasCountEach pairs (sum_of_pairs (links_of_values s hop.time) (arguments a) (arguments b)) → HasCount (link.Call pairs ∷ []) (links_of_edge s hop.time)
+  called-count state is a b pairs at_a at_b each =
+      subst (λ n. HasCount (link.Call pairs ∷ []) n) (sym (call-count state hop.turned is a b at_a at_b)) (one-call pairs (sum_of_pairs (links_of_values s hop.time) (arguments a) (arguments b)) each)
+
+-- the arguments as the code finds them
+pub count-found : (s : State) (upto : ℕ) (a b : Val) (i j : ℕ) (xs ys : List Val) (pairs : List (List Link)) → a ≡ v.Fun i xs → b ≡ v.Fun j ys
+    → HasCountEach pairs (sum_of_pairs (links_of_values s upto) xs ys) → HasCountEach pairs (sum_of_pairs (links_of_values s upto) (arguments a) (arguments b))
+count-found s upto a b i j xs ys pairs is_a is_b each = subst (λ n. HasCountEach pairs n) (pairs-found (links_of_values s upto) a b i j xs ys is_a is_b) each
 
 -- ---- pairs
 pub each-more : (product : U) (xs : List Val) (pairs : List (List Link)) (ys : List Val) (a b : Val) (links : List Link) → LeadsEach product xs pairs ys → Leads product a links b

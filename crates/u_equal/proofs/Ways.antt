@@ -9,9 +9,11 @@ use Rattle.u_equal.specs.declared.chains.Hop.{Hop}
 use Rattle.u_equal.specs.declared.chains.Part.{Part}
 use Rattle.u_equal.specs.declared.chains.Part.TheVariants.{Found, Open}
 use Rattle.u_equal.specs.Joined.{no_edge, edge_at, label_at, reach, count, State, IsState, IsApart}
+use Rattle.u_equal.specs.LinkCounts.{links_between, links_of_edge, links_of_hops, links_of_part, links_of_parts}
 use Rattle.u_equal.specs.Chains.{near, far, IsPart, Meets, IsWay, stays, along, IsPath, IsPartOf, IsSound, Joins, steps_of, steps, weight_of, weight, Walks, parting}
 use Rattle.u_equal.proofs.Labels.{label_at-keeps, label_at-joins, before, across, across_turned, joined_by}
 use Rattle.u_equal.proofs.Reaches.{reach-joined, reach-later}
+use Rattle.u_equal.proofs.LinkNumbers.{links-forth, links-back, links-later, links-itself}
 
 -- ---- sides of an edge
 pub near-within : (values : List Val) (label : ℕ → ℕ) (e : Edge) (turned : Bool) → IsApart values label e → near e turned < length values
@@ -100,6 +102,23 @@ module _ (s : State) (upto from to : ℕ) (m : Hop) (meets : Meets s.edges upto 
       let d : reach s.edges (m.time + 1 + (upto - (m.time + 1))) from ≡ reach s.edges upto from = ap (λ x. reach s.edges x from) (whole (m.time + 1) upto (omega arith)) in
       omega (arith, h, k, d, same-reach (far met m.turned) to meets.far_to)
 
+  -- the links of both parts
+  abbrev over : (e : Edge) (turned : Bool) → ℕ
+  over e turned = links_between s m.time from (near e turned) + links_of_edge s m.time + links_between s m.time (far e turned) to
+
+  over-met : IsApart s.values (label_at s.edges m.time) met → (turned : Bool) → m.turned ≡ turned → links_between s (m.time + 1) from to ≡ over met turned
+  over-met here false is = links-forth s m.time from to meets.apart (subst (λ t. label_at s.edges m.time from ≡ label_at s.edges m.time (near met t)) is meets.from_near)
+  over-met here true is =
+      let at_right : label_at s.edges m.time from ≡ label_at s.edges m.time met.right = subst (λ t. label_at s.edges m.time from ≡ label_at s.edges m.time (near met t)) is meets.from_near in
+      links-back s m.time from to meets.apart (λ at_left. here.apart (sym at_left ∙ at_right))
+
+  met-links : IsApart s.values (label_at s.edges m.time) met → links_between s upto from to ≡ over met m.turned
+  met-links here =
+      let w = meets.within in
+      let d : links_between s upto from to ≡ links_between s (m.time + 1 + (upto - (m.time + 1))) from to =
+      ap (λ x. links_between s x from to) (sym (whole (m.time + 1) upto (omega arith))) in
+      d ∙ links-later s (m.time + 1) (upto - (m.time + 1)) from to from-to ∙ over-met here m.turned refl
+
   module _ (state : IsState s) (part : IsPart s upto from to) where
     here : IsApart s.values (label_at s.edges m.time) met
     here = let w = meets.within in let v = part.within in state m.time (omega (arith, w, v))
@@ -139,6 +158,7 @@ module _ (s : State) (upto from to : ℕ) (m : Hop) (meets : Meets s.edges upto 
       parts_are = is;
       leads = parting-leads;
       short = omega (arith, met-reach);
+      counted = omega (arith, met-links here);
       lighter = omega (arith, met-reach);
     }
 
@@ -150,6 +170,7 @@ walks-found s hop old new parts is = record {
   parts_are = sym (append-nil parts);
   leads = λ all i j h. (j, along hop [] i j j h.0 h.1 h.2 (stays j), refl);
   short = omega arith;
+  counted = omega arith;
   lighter = omega arith;
 }
 
@@ -161,6 +182,7 @@ walks-same s upto from to hops parts same = record {
   parts_are = sym (append-nil parts);
   leads = λ all i j h. (i, stays i, h.1 ∙ same ∙ sym h.2);
   short = omega arith;
+  counted = let none : links_between s upto from to ≡ 0 = ap (λ x. links_between s upto from x) (sym same) ∙ links-itself s upto from in omega (arith, none);
   lighter = omega arith;
 }
 
@@ -209,6 +231,23 @@ module _ (s : State) (upto from to : ℕ) (part : Part) (hops hops_after : List 
         let c : length hops_after ≡ length (hops ++ w.hops) = ap length w.hops_are in
         omega (arith, a, b, c, short, w.short, sum_by-append (steps_of s.edges) rest (part ∷ []), sum_by-append (steps_of s.edges) rest w.parts, length-append hops w.hops)
 
+    pub walked-counted : (number : ℕ) → links_of_hops s hops + links_of_parts s parts ≡ number → links_of_hops s hops_after + links_of_parts s parts_after ≡ number
+    walked-counted number counted =
+        let a : links_of_parts s parts ≡ links_of_parts s (rest ++ part ∷ []) = ap (links_of_parts s) is in
+        let b : links_of_parts s parts_after ≡ links_of_parts s (rest ++ w.parts) = ap (links_of_parts s) w.parts_are in
+        let c : links_of_hops s hops_after ≡ links_of_hops s (hops ++ w.hops) = ap (links_of_hops s) w.hops_are in
+        omega (
+          arith,
+          a,
+          b,
+          c,
+          counted,
+          w.counted,
+          sum_by-append (links_of_part s) rest (part ∷ []),
+          sum_by-append (links_of_part s) rest w.parts,
+          sum_by-append (λ (hop : Hop). links_of_edge s hop.time) hops w.hops,
+        )
+
     pub walked-lighter : weight s.edges parts_after < weight s.edges parts
     walked-lighter =
         let a : weight s.edges parts ≡ weight s.edges (rest ++ part ∷ []) = ap (weight s.edges) is in
@@ -217,6 +256,7 @@ module _ (s : State) (upto from to : ℕ) (part : Part) (hops hops_after : List 
 
 pub way-opened : (s : State) (upto from to : ℕ) → IsPart s upto from to → (hops : List Hop) (parts : List Part) → hops ≡ [] → parts ≡ Open upto from to ∷ []
     → ((k : ℕ) × IsWay s.edges upto from hops k × Joins s upto parts k to) × (length hops + steps s.edges parts ≤ reach s.edges upto from)
+    × (links_of_hops s hops + links_of_parts s parts ≡ links_between s upto from to)
 way-opened s upto from to part hops parts no_hops is = (
   (
     from,
@@ -226,10 +266,13 @@ way-opened s upto from to part hops parts no_hops is = (
   let a : length hops ≡ 0 = ap length no_hops in
       let b : steps s.edges parts ≡ steps s.edges (Open upto from to ∷ []) = ap (steps s.edges) is in
       omega (arith, a, b),
+  let a : links_of_hops s hops ≡ 0 = ap (links_of_hops s) no_hops in
+      let b : links_of_parts s parts ≡ links_of_parts s (Open upto from to ∷ []) = ap (links_of_parts s) is in
+      omega (arith, a, b),
 )
 
 pub path-done : (s : State) (upto from to : ℕ) (hops : List Hop) (parts : List Part) → parts ≡ [] → (k : ℕ) × IsWay s.edges upto from hops k × Joins s upto parts k to
-    → length hops + steps s.edges parts ≤ reach s.edges upto from → IsPath s upto from hops to
-path-done s upto from to hops parts none way short =
+    → length hops + steps s.edges parts ≤ reach s.edges upto from → links_of_hops s hops + links_of_parts s parts ≡ links_between s upto from to → IsPath s upto from hops to
+path-done s upto from to hops parts none way short counted =
     let last : way.0 ≡ to = subst (λ (ps : List Part). Joins s upto ps way.0 to) none way.2 in
-    record { way = subst (λ (m : ℕ). IsWay s.edges upto from hops m) last way.1; short = omega (arith, short) }
+    record { way = subst (λ (m : ℕ). IsWay s.edges upto from hops m) last way.1; short = omega (arith, short); counted = let a : links_of_parts s parts ≡ 0 = ap (links_of_parts s) none in omega (arith, a, counted) }

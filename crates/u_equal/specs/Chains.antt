@@ -11,6 +11,7 @@ use Rattle.u_equal.specs.declared.link.Link.{Link}
 use Rattle.u_equal.specs.Standing.{standing}
 use Rattle.u_equal.specs.Links.{Leads, LeadsEach}
 use Rattle.u_equal.specs.Joined.{State, AreEdges, edge_at, label_at, reach}
+use Rattle.u_equal.specs.LinkCounts.{links_between, links_of_hops, links_of_part, links_of_parts}
 
 -- ---- ways from place to place
 abbrev pub near : Edge → Bool → ℕ
@@ -42,6 +43,7 @@ pub data IsWay (edges : List Edge) (upto : ℕ) : ℕ → List Hop → ℕ → T
 pub record IsPath (s : State) (upto from : ℕ) (hops : List Hop) (to : ℕ) : Type 0 where
   pub way : IsWay s.edges upto from hops to
   pub short : length hops ≤ reach s.edges upto from
+  pub counted : links_of_hops s hops ≡ links_between s upto from to
 
 -- ---- parts of ways that wait in a list, the next one last
 -- the part leads from place to place, along the first edges
@@ -81,6 +83,7 @@ pub record Walks (s : State) (part : Part) (hops_before hops_after : List Hop) (
   pub parts_are : parts_after ≡ parts_before ++ parts
   pub leads : (upto i j : ℕ) → IsPartOf s upto part i j → (k : ℕ) × IsWay s.edges upto i hops k × Joins s upto parts k j
   pub short : length hops + steps s.edges parts ≤ steps_of s.edges part
+  pub counted : links_of_hops s hops + links_of_parts s parts ≡ links_of_part s part
   pub lighter : weight s.edges parts < weight_of s.edges part
 
 -- the way is parted at the edge that joined its ends, its first part last

@@ -6,3 +6,5 @@ pub mod Keys
 pub mod Joined
 pub mod Tables
 pub mod Chains
+pub mod LinkCounts
+pub mod Routes

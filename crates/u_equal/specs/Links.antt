@@ -1,5 +1,5 @@
 -- What links lead to, and what a chain of them is.
-use Rattle.std.specs.Prelude.{ℕ, ◌≤◌, Bool, true, false, List, [], ◌∷◌, Option, Some, None, length, count_by}
+use Rattle.std.specs.Prelude.{ℕ, ◌+◌, ◌-◌, ◌^◌, ◌≤◌, min, Bool, true, false, List, [], ◌∷◌, Option, Some, None, length, count_by}
 use Rattle.u_terms.specs.Syntax.{U, Val, Eq}
 use Rattle.u_terms.specs.declared.term.Val.TheVariants as v
 use Rattle.u_equal.specs.declared.link.Link.{Link}
@@ -24,6 +24,22 @@ mutual
     no_pair : LeadsEach product [] [] []
     pair : (a b : Val) (links : List Link) (xs ys : List Val) (pairs : List (List Link)) → Leads product a links b → LeadsEach product xs pairs ys
         → LeadsEach product (a ∷ xs) (links ∷ pairs) (b ∷ ys)
+
+-- ---- how many
+mutual
+  -- there are n links, those of arguments of calls too
+  pub data HasCount : List Link → ℕ → Type 0 where
+    nothing : HasCount [] 0
+    given_more : (factor : ℕ) (turned : Bool) (rest : List Link) (n : ℕ) → HasCount rest n → HasCount (link.Given factor turned ∷ rest) (1 + n)
+    call_more : (pairs : List (List Link)) (rest : List Link) (m n : ℕ) → HasCountEach pairs m → HasCount rest n → HasCount (link.Call pairs ∷ rest) (1 + m + n)
+
+  pub data HasCountEach : List (List Link) → ℕ → Type 0 where
+    no_list : HasCountEach [] 0
+    list_more : (links : List Link) (pairs : List (List Link)) (m n : ℕ) → HasCount links m → HasCountEach pairs n → HasCountEach (links ∷ pairs) (m + n)
+
+-- a number as a u64 tells it: one that is larger than the last value is told as that value
+abbrev pub told : ℕ → ℕ
+told n = min n (2 ^ 64 - 1)
 
 -- ---- chains
 abbrev pub is_equality : U → Bool

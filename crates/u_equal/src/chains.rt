@@ -1,7 +1,9 @@
 //! Chains of links between values that are joined. An edge is given by a factor or joins calls whose arguments were joined before it, so
 //! links are found by going back in time.
-ghost use Rattle.std.specs.Prelude.{◌≡◌, ◌<◌, ◌≤◌, IfOk, OnOk, Some, length, slice_get};
+ghost use Rattle.std.specs.Prelude.{◌≡◌, ◌<◌, ◌≤◌, [], ◌∷◌, IfOk, OnOk, Some, length, slice_get};
 ghost use Rattle.u_equal.specs.Joined.{AreCalls, IsState, IsTree, Same, SameEach, edge_at, label_at, seen};
+ghost use Rattle.u_equal.specs.Links.{HasCount, HasCountEach};
+ghost use Rattle.u_equal.specs.LinkCounts.{arguments, links_between, links_of_edge, links_of_hops, links_of_values, sum_of_pairs};
 ghost use Rattle.u_equal.specs.Chains.{IsPart, IsPath, IsSound, LinksCalls, LinksEach, LinksHop, LinksValues, Meets, Parts, Walks, far, near};
 
 use crate::NoMemory;
@@ -30,7 +32,8 @@ impl<'a> Forest<'a> {
         requires tree { IsTree self.now }
         requires state { IsState (seen self.now) }
         requires same { Same self.now.values.keys (label_at self.now.edges.items (length self.now.edges.items)) a.now b.now }
-        ensures { IfOk result (λ links. LinksValues (seen self.now) (length self.now.edges.items) a.now b.now links) }
+        ensures leads { IfOk result (λ links. LinksValues (seen self.now) (length self.now.edges.items) a.now b.now links) }
+        ensures counted { IfOk result (λ links. HasCount links (links_of_values (seen self.now) (length self.now.edges.items) a.now b.now)) }
     {
         self.value_links(alloc, self.edges.len(), a, b)
     }
@@ -48,7 +51,8 @@ impl<'a> Forest<'a> {
         requires state { IsState (seen self.now) }
         requires within { upto ≤ length self.now.edges.items }
         requires same { Same self.now.values.keys (label_at self.now.edges.items upto) a.now b.now }
-        ensures { IfOk result (λ links. LinksValues (seen self.now) upto a.now b.now links) }
+        ensures leads { IfOk result (λ links. LinksValues (seen self.now) upto a.now b.now links) }
+        ensures counted { IfOk result (λ links. HasCount links (links_of_values (seen self.now) upto a.now b.now)) }
     {
         if same_value(a, b) {
             return Ok(List::new(alloc));
@@ -69,7 +73,8 @@ impl<'a> Forest<'a> {
         requires tree { IsTree self.now }
         requires state { IsState (seen self.now) }
         requires within { hop.time < length self.now.edges.items }
-        ensures { IfOk result (λ link. LinksHop (seen self.now) hop link) }
+        ensures leads { IfOk result (λ link. LinksHop (seen self.now) hop link) }
+        ensures counted { IfOk result (λ link. HasCount (link ∷ []) (links_of_edge (seen self.now) hop.time)) }
     {
         match self.edges[hop.time].reason {
             Reason::Given { factor, turned } => Ok(Link::Given {
@@ -98,7 +103,8 @@ impl<'a> Forest<'a> {
         requires state { IsState (seen self.now) }
         requires within { upto ≤ length self.now.edges.items }
         requires calls { AreCalls self.now.values.keys (label_at self.now.edges.items upto) a.now b.now }
-        ensures { IfOk result (λ pairs. LinksCalls (seen self.now) a.now b.now pairs) }
+        ensures leads { IfOk result (λ pairs. LinksCalls (seen self.now) a.now b.now pairs) }
+        ensures counted { IfOk result (λ pairs. HasCountEach pairs (sum_of_pairs (links_of_values (seen self.now) upto) (arguments a.now) (arguments b.now))) }
     {
         match (a, b) {
             (Val::Fun(_, xs), Val::Fun(_, ys)) => {
@@ -121,7 +127,8 @@ impl<'a> Forest<'a> {
         requires state { IsState (seen self.now) }
         requires within { upto ≤ length self.now.edges.items }
         requires same { SameEach self.now.values.keys (label_at self.now.edges.items upto) xs.now ys.now }
-        ensures { IfOk result (λ pairs. LinksEach (seen self.now) xs.now ys.now pairs) }
+        ensures leads { IfOk result (λ pairs. LinksEach (seen self.now) xs.now ys.now pairs) }
+        ensures counted { IfOk result (λ pairs. HasCountEach pairs (sum_of_pairs (links_of_values (seen self.now) upto) xs.now ys.now)) }
     {
         let mut pairs = Vec::with_capacity(alloc, xs.len())?;
         for (i, x) in xs.iter().enumerate() {
@@ -130,7 +137,8 @@ impl<'a> Forest<'a> {
         Ok(List::from_vec(pairs))
     }
 
-    fn value_at(&self, place: usize) -> &Val
+    /// The value at a place.
+    pub fn value_at(&self, place: usize) -> &Val
         requires { place < length self.now.values.keys }
         ensures { slice_get self.now.values.keys place ≡ Some result.now }
     {
@@ -160,8 +168,14 @@ impl<'a> Forest<'a> {
         if hop.turned { edge.left } else { edge.right }
     }
 
-    // The steps between two places that the first edges join. What is still to be walked waits in a list, the next part last.
-    fn path(&self, alloc: Global, upto: usize, from: usize, to: usize) -> Result<Vec<Hop>, NoMemory>
+    /// The steps between two places that the first edges join. What is still to be walked waits in a list, the next part last.
+    pub fn path(
+        &self,
+        alloc: Global,
+        upto: usize,
+        from: usize,
+        to: usize,
+    ) -> Result<Vec<Hop>, NoMemory>
         requires tree { IsTree self.now }
         requires state { IsState (seen self.now) }
         requires part { IsPart (seen self.now) upto from to }

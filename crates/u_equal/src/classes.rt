@@ -1,8 +1,9 @@
 //! The classes of the values in a product.
-ghost use Rattle.std.specs.Prelude.{◌≡◌, ◌^◌, ◌<◌, ◌↔◌, IfOk, IsTrue, length};
+ghost use Rattle.std.specs.Prelude.{◌≡◌, ◌^◌, ◌<◌, ◌↔◌, IfOk, IsTrue, MatchOption, length};
 ghost use Rattle.u_rules.specs.Terms.{mul_leaves};
 ghost use Rattle.u_equal.specs.Links.{IsChain};
 ghost use Rattle.u_equal.specs.Entails.{Entails};
+ghost use Rattle.u_equal.specs.Routes.{IsFrom};
 ghost use Rattle.u_equal.specs.Joined.{AreSame, IsTree, Joined, label_now, seen};
 
 use crate::NoMemory;
@@ -11,6 +12,7 @@ use crate::forest::Forest;
 pub use crate::gather::factors;
 use crate::gather::standing_values;
 use crate::link::Link;
+use crate::route::Route;
 use crate::table::table_of;
 use std::alloc::Global;
 use std::marker::Model;
@@ -71,6 +73,22 @@ impl<'a> Classes<'a> {
             return Ok(None);
         }
         Ok(Some(self.forest.links(alloc, a, b)?))
+    }
+
+    /// The chain from the one value to the other, counted and not made yet, where the product's equalities entail that they are equal.
+    pub fn route<'c>(
+        &'c self,
+        alloc: Global,
+        a: &'c Val,
+        b: &'c Val,
+    ) -> Result<Option<Route<'c, 'a>>, NoMemory>
+        ensures { IfOk result (λ found. MatchOption found (Entails self.now a.now b.now → ⊥) (λ route. IsFrom route self.now a.now b.now)) }
+    {
+        if !self.forest.are_same(a, b) {
+            return Ok(None);
+        }
+        let route = Route::between(alloc, self.product, &self.forest, a, b)?;
+        Ok(Some(route))
     }
 }
 

@@ -36,8 +36,8 @@ impl<'a> Forest<'a> {
         Ok(())
     }
 
-    /// Joins calls with the same arguments until none are left. Where the arguments of a call stand before it, a round joins all that
-    /// follows from what was joined before it.
+    /// Joins calls with the same arguments until none are left: round after round, since what one joins may give others behind or
+    /// before it the same arguments.
     pub fn join_calls(&mut self, alloc: Global, calls: &[Call]) -> Result<(), NoMemory>
         requires tree { IsTree self.old }
         requires state { IsState (seen self.old) }

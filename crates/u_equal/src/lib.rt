@@ -9,8 +9,11 @@ mod forest;
 mod gather;
 mod key;
 mod link;
+mod numbers;
+mod route;
 mod table;
 
 pub use classes::{Classes, factors};
 pub use link::Link;
+pub use route::Route;
 pub use std::alloc::AllocError as NoMemory;

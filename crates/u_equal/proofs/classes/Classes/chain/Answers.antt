@@ -13,6 +13,6 @@ returns-then-not-are_same c =
 
 pub returns : goal.returns
 returns c =
-    let h = c.in_ok-links.ensures in
+    let h = c.in_ok-links.ensures.leads in
     subst (λ (product : U). IsChain product c.args.a.now c.args.b.now (Some c.in_ok-links.field-0)) c.self.view_is
     (h.leads c.self.inside.product.now c.self.invariant.edges_hold, λ none. let few = c.self.invariant.few none in omega (arith, h.short, few))

@@ -1,0 +1,90 @@
+//! Chains that are counted and not made yet.
+ghost use Rattle.std.specs.Prelude.{◌≡◌, IfOk, Some};
+ghost use Rattle.u_equal.specs.Links.{IsChain};
+ghost use Rattle.u_equal.specs.Joined.{AreClasses, AreSame, seen};
+ghost use Rattle.u_equal.specs.Routes.{AreCounted, IsWithin};
+
+use crate::NoMemory;
+use crate::forest::Forest;
+use crate::link::Link;
+use std::alloc::Global;
+use std::marker::Model;
+use u_terms::{List, U, Val};
+
+/// A chain of links that is not made yet, and how many links it has. Through calls in calls they may be exponentially many.
+#[derive(Drop)]
+pub struct Route<'c, 'a> {
+    product: &'c U,
+    forest: &'c Forest<'a>,
+    from: &'c Val,
+    to: &'c Val,
+    links: u64,
+}
+
+impl<'c, 'a> Model for Route<'c, 'a> {
+    ghost use Rattle.std.specs.Coded.{codes};
+    ghost use Rattle.u_terms.specs.contracts.term.U as term_type;
+    ghost use Rattle.u_terms.specs.contracts.term.Val as val_type;
+    ghost use Rattle.u_equal.specs.Routes.{Course};
+    ghost use Rattle.u_equal.specs.LinkCounts.{IsRoute};
+
+    ghost Value = { Course };
+
+    ghost coded = { Prim.hlevel (codes, term_type.the_row.coded, val_type.the_row.coded) };
+
+    ghost view = { λ route. record { product = route.product.now; from = route.from.now; to = route.to.now; links = route.links } };
+
+    ghost invariant = { λ route. IsRoute route.product.now route.forest.now route.from.now route.to.now route.links };
+}
+
+impl<'c, 'a> Route<'c, 'a> {
+    /// The way between two values of one class.
+    pub fn between(
+        alloc: Global,
+        product: &'c U,
+        forest: &'c Forest<'a>,
+        from: &'c Val,
+        to: &'c Val,
+    ) -> Result<Route<'c, 'a>, NoMemory>
+        requires classes { AreClasses product.now forest.now }
+        requires same { AreSame (seen forest.now) from.now to.now }
+        ensures product { IfOk result (λ route. route.product ≡ product.now) }
+        ensures from { IfOk result (λ route. route.from ≡ from.now) }
+        ensures to { IfOk result (λ route. route.to ≡ to.now) }
+    {
+        let links = forest.count_links(alloc, from, to)?;
+        Ok(Route {
+            product,
+            forest,
+            from,
+            to,
+            links,
+        })
+    }
+
+    /// How many links the chain has, those of arguments of calls too, or `u64::MAX` where there are more.
+    pub fn links(&self) -> u64
+        ensures { result ≡ self.now.links }
+    {
+        self.links
+    }
+
+    /// Makes the chain, however many links it has.
+    pub fn chain(&self, alloc: Global) -> Result<List<Link>, NoMemory>
+        ensures leads { IfOk result (λ links. IsChain self.now.product self.now.from self.now.to (Some links)) }
+        ensures counted { IfOk result (λ links. AreCounted links self.now.links) }
+    {
+        self.forest.links(alloc, self.from, self.to)
+    }
+
+    /// Makes the chain, unless it has more than `most` links: then nothing is made.
+    pub fn chain_within(&self, alloc: Global, most: u64) -> Result<Option<List<Link>>, NoMemory>
+        ensures { IfOk result (λ found. IsWithin self.now most found) }
+    {
+        if self.links > most {
+            return Ok(None);
+        }
+        let links = self.chain(alloc)?;
+        Ok(Some(links))
+    }
+}
