@@ -1,0 +1,6 @@
+mod answers;
+mod readings;
+mod rings;
+mod searches;
+mod terms;
+mod written;
