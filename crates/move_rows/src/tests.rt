@@ -1,0 +1,3 @@
+mod given;
+mod joined;
+mod moved;
