@@ -20,7 +20,7 @@ use Rattle.u_deriv.specs.declared.step.Step.{Step, out-Step}
 use Rattle.u_deriv.specs.Turns.{turns}
 use Rattle.u_deriv.specs.Contexts.{Context, filled, way, binders}
 use Rattle.u_deriv.specs.Steps.{Replaced, Sides, Exchanged}
-use Rattle.u_deriv.specs.Applying.{HasRoomAt, Replaces, Finds, IsExchanged}
+use Rattle.u_deriv.specs.Applying.{HasRoomAt, Replaces, Writes, Finds, IsExchanged}
 use Rattle.u_deriv.specs.Editing.{Answers, IsSide, OfEnd, IsRefused, HasRoom, part_after, left_of, right_of, from_side, to_side}
 use Rattle.u_deriv.specs.Walk.{root, ended, end_of}
 use Rattle.u_deriv.proofs.Ends.{end_of-found}
@@ -55,21 +55,33 @@ room-Zero outs path before shallow = room-within outs path before u.Zero (omega 
 pub ruleset room = (room-within)
 
 -- ---- a replacement
-module _ (outs : ℕ) (path : List Run) (before to after : U) (from : Bor U) where
-  pub replaced : (place : Place) → after ≡ ended (part_after (edit.Term from) outs to (Ok place)) (turns path) root before
-      → OfEnd (IsRefused (Ok place)) (Answers (edit.Term from) outs (Ok place) (end path before)) (end_of (turns path) before) → Replaced outs path before from.now to after
-  replaced place is found =
-      let m = made path before outs (edit.Term from) to after place is found in
-      record { context = m.context; at_path = m.at_path; is_from = m.was ∙ ap (filled m.context) m.suits; is_to = m.is }
+module _ (outs : ℕ) (path : List Run) (names : ℕ) (before to after : U) (from : Bor U) where
+  abbrev term : Edit
+  term = edit.Term from names
 
-  pub not_replaced : (fault : StepFault) → after ≡ ended (part_after (edit.Term from) outs to (Err fault)) (turns path) root before
-      → OfEnd (IsRefused (Err fault)) (Answers (edit.Term from) outs (Err fault) (end path before)) (end_of (turns path) before)
-      → Replaces outs path before from.now to after (Err fault)
-  not_replaced NoResult is found = (
-    λ other r. refused path before outs (edit.Term from) to after found r.context (closed_path from.now outs (binders r.context)) r.at_path r.is_from refl,
-    unmade path before outs (edit.Term from) to after NoResult is,
+  pub written : (r : Result Place StepFault) → after ≡ ended (part_after term outs to r) (turns path) root before
+      → OfEnd (IsRefused r) (Answers term outs r (end path before)) (end_of (turns path) before) → Writes outs path names before from.now to after r
+  written (Ok place) is found =
+      let m = made path before outs term to after place is found in
+      (record { context = m.context; at_path = m.at_path; is_from = m.was ∙ ap (filled m.context) m.suits.0; is_to = m.is }, m.here, m.suits.1)
+  written (Err NoResult) is found = (
+    λ other r few. refused path before outs term to after found r.context (closed_path from.now outs (binders r.context)) r.at_path r.is_from (refl, few),
+    unmade path before outs term to after NoResult is,
   )
-  not_replaced NoMemory is found = lacks path before outs (edit.Term from) to after found
+  written (Err NoMemory) is found = lacks path before outs term to after found
+
+module _ (outs : ℕ) (path : List Run) (before to after : U) (from : Bor U) where
+  pub replaced : (place : Place) → after ≡ ended (part_after (edit.Term from 0) outs to (Ok place)) (turns path) root before
+      → OfEnd (IsRefused (Ok place)) (Answers (edit.Term from 0) outs (Ok place) (end path before)) (end_of (turns path) before) → Replaced outs path before from.now to after
+  replaced place is found = (written outs path 0 before to after from (Ok place) is found).0
+
+  pub not_replaced : (fault : StepFault) → after ≡ ended (part_after (edit.Term from 0) outs to (Err fault)) (turns path) root before
+      → OfEnd (IsRefused (Err fault)) (Answers (edit.Term from 0) outs (Err fault) (end path before)) (end_of (turns path) before)
+      → Replaces outs path before from.now to after (Err fault)
+  not_replaced NoResult is found =
+      let w = written outs path 0 before to after from (Err NoResult) is found in
+      (λ other r. w.0 other r (omega arith), w.1)
+  not_replaced NoMemory is found = written outs path 0 before to after from (Err NoMemory) is found
 
 -- ---- the sides of a step
 side-left : (facts : Facts) (step : Step) (l r : U) → Instance facts (out-Step step).rule (out-Step step).args l r → left_of (row facts (out-Step step).rule (out-Step step).args) ≡ l

@@ -16,4 +16,6 @@ pub mod Soundness
 pub mod StepHeights
 pub mod Applied
 pub mod Lines
+pub mod OutlinesAt
+pub mod Spent
 mod StepSamples

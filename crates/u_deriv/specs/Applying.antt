@@ -1,5 +1,5 @@
 -- What a step that is made gives, and what its parts find.
-use Rattle.std.specs.Prelude.{◌≡◌, ℕ, ◌+◌, ◌<◌, ◌^◌, Bool, true, false, List, [], ◌∷◌, length, Option, Some, None, Result, Ok, Err}
+use Rattle.std.specs.Prelude.{◌≡◌, ℕ, ◌+◌, ◌<◌, ◌≤◌, ◌^◌, Bool, true, false, List, [], ◌∷◌, length, Option, Some, None, Result, Ok, Err}
 use Rattle.u_terms.specs.Syntax.{U}
 use Rattle.u_terms.specs.Size.{depth}
 use Rattle.u_terms.specs.declared.facts.Facts.{Facts}
@@ -41,6 +41,12 @@ IsApplied facts outs before step after (Err NoResult) = ((other : U) → Rewrite
 IsApplied facts outs before step after (Err NoMemory) = after ≡ before
 
 -- ---- its parts: contracts of private functions alone cite these
+-- the one closed term is written in the place of the other one, where there are so many names; no memory is taken
+abbrev pub Writes : ℕ → List Run → ℕ → U → U → U → U → Result Place StepFault → Type 0
+Writes outs path names before from to after (Ok place) = (t : Replaced outs path before from to after) × (place ≡ place_of t.context) × (names ≤ outs + binders t.context)
+Writes outs path names before from to after (Err NoResult) = ((other : U) (t : Replaced outs path before from to other) → names ≤ outs + binders t.context → ⊥) × (after ≡ before)
+Writes outs path names before from to after (Err NoMemory) = ⊥
+
 -- where the sides could be exchanged
 abbrev pub Finds : Facts → ℕ → U → Step → Result Place StepFault → Type 0
 Finds facts outs before step (Ok place) = (other : U) × (t : Exchanged facts outs before step other) × (place ≡ place_of t.replaced.context)

@@ -1,5 +1,5 @@
 -- What an edit at the end of a path puts in the place of what, one turn at a time: contracts of private functions alone cite this.
-use Rattle.std.specs.Prelude.{◌≡◌, ℕ, ◌+◌, ◌<◌, ◌^◌, Option, Some, None, Result, Ok, Err, not}
+use Rattle.std.specs.Prelude.{◌≡◌, ℕ, ◌+◌, ◌<◌, ◌≤◌, ◌^◌, Option, Some, None, Result, Ok, Err, not}
 use Rattle.u_terms.specs.Syntax.{U}
 use Rattle.u_terms.specs.Size.{depth}
 use Rattle.u_terms.specs.declared.term.U.TheVariants as u
@@ -42,18 +42,18 @@ IsSide facts outs count step part =
 -- the part in its place is one that the edit changes
 abbrev pub Suits : Edit → ℕ → Place → U → Type 0
 Suits (edit.Look alloc facts step) outs place part = IsSide facts.now outs place.binders step.now part
-Suits (edit.Term from) outs place part = part ≡ closed_path from.now outs place.binders
+Suits (edit.Term from names) outs place part = (part ≡ closed_path from.now outs place.binders) × (names ≤ outs + place.binders)
 Suits (edit.Side alloc facts step) outs place part = IsSide facts.now outs place.binders step.now part
 
 -- what comes there
 abbrev pub new_part : Edit → ℕ → U → Place → U → U
 new_part (edit.Look alloc facts step) outs other place part = part
-new_part (edit.Term from) outs other place part = closed_path other outs place.binders
+new_part (edit.Term from names) outs other place part = closed_path other outs place.binders
 new_part (edit.Side alloc facts step) outs other place part = closed_path (to_side facts.now step.now) outs place.binders
 
 -- where memory may be wanted
 abbrev pub TakesMemory : Edit → Type 0
-TakesMemory (edit.Term from) = ⊥
+TakesMemory (edit.Term from names) = ⊥
 TakesMemory _ = Unit {0}
 
 abbrev pub Answers : Edit → ℕ → Result Place StepFault → Place → U → Type 0

@@ -9,5 +9,7 @@ pub mod Applying
 pub mod StepHeight
 pub mod Walk
 pub mod Editing
+pub mod Outlining
+pub mod Spending
 pub mod Samples
 pub mod StepSamples

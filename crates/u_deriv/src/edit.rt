@@ -28,9 +28,10 @@ pub enum Edit<'a> {
         facts: &'a Facts,
         step: &'a Step,
     },
-    /// A term of the caller's in the place of this one.
+    /// A term of the caller's in the place of this one, where there are so many names.
     Term {
         from: &'a U,
+        names: u64,
     },
     /// The other side of the step's instance in the place of the one.
     Side {
@@ -170,7 +171,7 @@ fn put(
 {
     match by {
         Edit::Look { alloc, facts, step } => look(*alloc, part, place, outs, facts, step),
-        Edit::Term { from } => put_term(part, place, outs, from, other),
+        Edit::Term { from, names } => put_term(part, place, outs, from, *names, other),
         Edit::Side { alloc, facts, step } => put_side(*alloc, part, place, outs, facts, step),
     }
 }
@@ -180,18 +181,30 @@ fn put_term(
     place: Place,
     outs: u32,
     from: &U,
+    names: u64,
     other: &mut U,
 ) -> Result<Place, StepFault>
     requires shallow { outs + place.turns + depth_of part.old < 2 ^ 32 }
     requires bound { place.binders ≤ place.turns }
     requires room { HasRoom outs other.old place }
-    ensures term { part.new ≡ part_after (edit.Term from.entry) outs other.old result place part.old }
-    ensures found { Answers (edit.Term from.entry) outs result place part.old }
+    ensures term { part.new ≡ part_after (edit.Term from.entry names) outs other.old result place part.old }
+    ensures found { Answers (edit.Term from.entry names) outs result place part.old }
 {
-    if !same_closed(part, from, outs, place.binders) {
+    if names > u64::from(outs + place.binders) || !same_closed(part, from, outs, place.binders) {
         return Err(StepFault::NoResult);
     }
-    close_path(other, outs, place.binders);
+    close_names(other, outs, place.binders);
     mem::swap(part, other);
     Ok(place)
+}
+
+// Puts places for the names of the binders on the way, if there are any.
+fn close_names(u: &mut U, outs: u32, count: u32)
+    requires shallow { depth_of u.old + count < 2 ^ 32 }
+    requires fits { outs + count < 2 ^ 32 }
+    ensures { u.new ≡ closed_path u.old outs count }
+{
+    if count > 0 {
+        close_path(u, outs, count);
+    }
 }

@@ -25,7 +25,7 @@ pub fn replace(outs: u32, u: &mut U, path: &Path, from: &U, to: U) -> Result<(),
         Way::along(path),
         Place::root(),
         outs,
-        &Edit::Term { from },
+        &Edit::Term { from, names: 0 },
         &mut other,
     ) {
         Ok(_) => Ok(()),

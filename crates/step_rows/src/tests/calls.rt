@@ -1,6 +1,6 @@
 //! Calls with one name for the output, on terms of moderate depth.
 use std::alloc::Global;
-use u_deriv::{Path, Place, Step, StepFault, apply, exchange, replace};
+use u_deriv::{Path, Place, Step, StepFault, apply, exchange, exchange_spending, measure, replace};
 use u_terms::{Facts, NoMemory, U, depth};
 
 /// More than any test's term has.
@@ -29,6 +29,25 @@ pub fn exchanges(
         return Ok(None);
     }
     match exchange(alloc, facts, 1, u, step) {
+        Ok(place) => Ok(Some(place)),
+        Err(StepFault::NoResult) => Ok(None),
+        Err(StepFault::NoMemory) => Err(NoMemory),
+    }
+}
+
+/// The same where the step is used up.
+pub fn spends(
+    alloc: Global,
+    facts: &Facts,
+    u: &mut U,
+    step: &mut Step,
+) -> Result<Option<Place>, NoMemory> {
+    let measured = measure(facts, step);
+    let sizes = measured.sizes;
+    if depth(u) > DEPTH || sizes.left_depth > DEPTH || sizes.right_depth > DEPTH {
+        return Ok(None);
+    }
+    match exchange_spending(alloc, facts, 1, u, step, measured) {
         Ok(place) => Ok(Some(place)),
         Err(StepFault::NoResult) => Ok(None),
         Err(StepFault::NoMemory) => Err(NoMemory),

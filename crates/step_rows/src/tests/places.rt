@@ -1,9 +1,9 @@
 //! Steps and replacements under binders, at values, at the root, and at the bounds.
-use crate::tests::calls::{exchanges, makes, replaces};
+use crate::tests::calls::{exchanges, makes, replaces, spends};
 use crate::tests::terms::{BACKWARD, FORWARD, Leaf, Line, Term, Word, build, path_of, step, sum};
 use std::alloc::Global;
 use std::test::Fail;
-use u_deriv::{Run, Step};
+use u_deriv::{Place, Run, Step};
 use u_rules::Rule;
 use u_terms::{Boxed, Facts, List, NoMemory, U, Val, depth, same};
 
@@ -219,7 +219,13 @@ fn a_step_is_made_or_leaves_the_term(rt: HostRuntime) -> Result<(), Fail> {
 /// What an exchange makes of a term, and how many binders and turns lead to its place.
 type Exchange = (Term<'static>, Line, Option<(Term<'static>, u32, u32)>);
 
-static EXCHANGES: [Exchange; 4] = [
+/// `+(R0(f1),1) +(1,R0(f1))`
+const REARRANGED: &[Word<'static>] = &[
+    Word::Term(Term::Add(&Term::Row(OUTER), &Term::One)),
+    Word::Term(Term::Add(&Term::One, &Term::Row(OUTER))),
+];
+
+static EXCHANGES: [Exchange; 11] = [
     (COUNTED, EXCHANGE, Some((EXCHANGED, 2, 4))),
     (EXCHANGED, EXCHANGE, None),
     // Inner steps are not asked for.
@@ -233,21 +239,89 @@ static EXCHANGES: [Exchange; 4] = [
         (&[INSIDE], BACKWARD, Rule::SqFix, OUTER_ROW),
         None,
     ),
+    // The leaves of a sum and of a product in another order, and other ones.
+    (
+        Term::Sum(&Term::Add(&BODY, &Term::One)),
+        (&[INSIDE], FORWARD, Rule::AddAc, REARRANGED),
+        Some((Term::Sum(&Term::Add(&Term::One, &BODY)), 1, 1)),
+    ),
+    (
+        Term::Sum(&Term::Add(&Term::One, &BODY)),
+        (&[INSIDE], BACKWARD, Rule::AddAc, REARRANGED),
+        Some((Term::Sum(&Term::Add(&BODY, &Term::One)), 1, 1)),
+    ),
+    (
+        Term::Sum(&Term::Add(&Term::One, &BODY)),
+        (&[INSIDE], FORWARD, Rule::AddAc, REARRANGED),
+        None,
+    ),
+    (
+        Term::Mul(&Term::One, &Term::Row(OUT)),
+        (
+            &[],
+            FORWARD,
+            Rule::MulAc,
+            &[
+                Word::Term(Term::Mul(&Term::One, &Term::Row(OUT))),
+                Word::Term(Term::Row(OUT)),
+            ],
+        ),
+        Some((Term::Row(OUT), 0, 0)),
+    ),
+    (
+        Term::Row(OUT),
+        (
+            &[],
+            FORWARD,
+            Rule::MulAc,
+            &[
+                Word::Term(Term::Row(OUT)),
+                Word::Term(Term::Mul(&Term::Row(OUT), &Term::Row(OUT))),
+            ],
+        ),
+        None,
+    ),
+    // A name at the bound, and arguments that are not closed.
+    (
+        Term::Add(&Term::Row(OUTER), &Term::One),
+        (&[], FORWARD, Rule::AddAc, REARRANGED),
+        None,
+    ),
+    (
+        BODY,
+        (
+            &[],
+            FORWARD,
+            Rule::AddAc,
+            &[Word::Term(BODY), Word::Term(BODY)],
+        ),
+        None,
+    ),
 ];
 
-fn exchanges_as(alloc: Global, row: &Exchange) -> Result<bool, NoMemory> {
-    let (before, line, want) = row;
-    let mut term = build(alloc, before)?.into_inner();
-    let step = step(alloc, line, List::new(alloc))?;
-    let place = exchanges(alloc, &no_facts(alloc), &mut term, &step)?;
+// Whether this is what the row wants, and the term what becomes of its own.
+fn is_of(alloc: Global, row: &Exchange, place: Option<Place>, term: &U) -> Result<bool, NoMemory> {
+    let (before, _, want) = row;
     match (place, want) {
         (Some(place), Some((after, binders, turns))) => {
-            let is = same(&term, build(alloc, after)?.get());
+            let is = same(term, build(alloc, after)?.get());
             Ok(is && place.binders == *binders && place.turns == *turns)
         }
-        (None, None) => Ok(same(&term, build(alloc, before)?.get())),
+        (None, None) => Ok(same(term, build(alloc, before)?.get())),
         _ => Ok(false),
     }
+}
+
+// By a step that is kept, and then by the same one, used up.
+fn exchanges_as(alloc: Global, row: &Exchange) -> Result<bool, NoMemory> {
+    let (before, line, _) = row;
+    let facts = no_facts(alloc);
+    let mut step = step(alloc, line, List::new(alloc))?;
+    let mut term = build(alloc, before)?.into_inner();
+    let mut other = build(alloc, before)?.into_inner();
+    let place = exchanges(alloc, &facts, &mut term, &step)?;
+    let spent = spends(alloc, &facts, &mut other, &mut step)?;
+    Ok(is_of(alloc, row, place, &term)? && is_of(alloc, row, spent, &other)?)
 }
 
 #[test]
