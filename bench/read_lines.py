@@ -1,7 +1,8 @@
 #!/usr/bin/env python3
 """Measures the reader of proof lines beside the one that stood in the program before it. README.md says what a row shows.
 
-Each is put under a program that reads a proof and drops what its lines say, in a temporary folder, and that is proved and built there.
+Each is put under a program that reads a proof, in a temporary folder, and that is proved and built there: the one reads each line over the step of the line before,
+the other drops what each line says.
 """
 
 import os

@@ -313,3 +313,103 @@ pub const RULES: [(&[u8], Wanted); 36] = [
         ),
     ),
 ];
+
+/// `F3(f0,f1)`
+const PAIR: Value<'static> = Value::Fun(3, &[F0, F1]);
+
+/// Each form of a term and a value, with fewer and with more parts.
+pub const FORMS: [(&[u8], Wanted); 10] = [
+    (
+        b"/ > sq_one R0(f0,f1,f0)",
+        (
+            &[],
+            FORWARD,
+            Rule::SqOne,
+            &[Word::Term(Term::Rel(0, &[F0, F1, F0]))],
+        ),
+    ),
+    (
+        b"/ > sq_one R1(F3(f0,f1))",
+        (
+            &[],
+            FORWARD,
+            Rule::SqOne,
+            &[Word::Term(Term::Rel(1, &[PAIR]))],
+        ),
+    ),
+    (
+        b"/ > sq_one P0(F3(f1),G2(R0(f0)))",
+        (
+            &[],
+            FORWARD,
+            Rule::SqOne,
+            &[Word::Term(Term::Pred(0, &[Value::Fun(3, &[F1]), Value::Agg(2, &ROW)]))],
+        ),
+    ),
+    (
+        b"/ > sq_one +(R0(f0),=(f1,f0))",
+        (
+            &[],
+            FORWARD,
+            Rule::SqOne,
+            &[Word::Term(Term::Add(&ROW, &EQUAL))],
+        ),
+    ),
+    (
+        b"/ > sq_one *(=(f1,f0),R0(f0))",
+        (
+            &[],
+            FORWARD,
+            Rule::SqOne,
+            &[Word::Term(Term::Mul(&EQUAL, &ROW))],
+        ),
+    ),
+    (
+        b"/ > sq_one *(+(0,1),!(#(0)))",
+        (
+            &[],
+            FORWARD,
+            Rule::SqOne,
+            &[Word::Term(Term::Mul(&Term::Add(&ZERO, &ONE), &Term::Not(&Term::Squash(&ZERO))))],
+        ),
+    ),
+    (
+        b"/ > sq_one #(!(R0(f0)))",
+        (
+            &[],
+            FORWARD,
+            Rule::SqOne,
+            &[Word::Term(Term::Squash(&Term::Not(&ROW)))],
+        ),
+    ),
+    (
+        b"/ > sq_one S(#(+(1,0)))",
+        (
+            &[],
+            FORWARD,
+            Rule::SqOne,
+            &[Word::Term(Term::Sum(&Term::Squash(&Term::Add(&ONE, &ZERO))))],
+        ),
+    ),
+    (
+        b"/ > sq_one =(G1(1),c2)",
+        (
+            &[],
+            FORWARD,
+            Rule::SqOne,
+            &[Word::Term(Term::Eq(&Value::Agg(1, &ONE), &Value::Lit(2)))],
+        ),
+    ),
+    (
+        b"/ > sq_pred 3 (F3(f0,f1),c1,G1(R0(f0)))",
+        (
+            &[],
+            FORWARD,
+            Rule::SqPred,
+            &[
+                Word::Num(3),
+                Word::Values(&[PAIR, Value::Lit(1), Value::Agg(1, &ROW)]),
+            ],
+        ),
+    ),
+];

@@ -2,7 +2,7 @@
 
 use crate::written::Proof;
 
-/// The proof by a key, whose third step of five has inner ones, and one with each rule and paths of every run.
+/// The proof by a key, whose third step of five has inner ones, and one with each of the other rules and paths of every run.
 pub const PROOFS: [Proof; 2] = [
     Proof {
         heading: b"udp-proof 1\nouts 1\n",

@@ -1,13 +1,19 @@
 use crate::answer::{Answer, answer_of};
-use crate::contents::RULES;
+use crate::contents::{FORMS, RULES};
 use crate::fronts::column_among_spelled;
+use crate::over::{forms_are_read_over, is_read_over, rules_are_read_over};
 use crate::proofs::PROOFS;
 use crate::spelled::{CHANGED, OTHERS, SPELLED};
 use crate::wanted::is_said;
 use crate::written::{push_proof, push_text};
-use proof_text::{Lines, proof_bytes, read_outs, read_step, read_version, write_proof};
+use proof_text::{
+    LineKind, LineStep, Lines, proof_bytes, read_outs, read_step, read_step_over, read_version,
+    write_proof,
+};
 use std::alloc::Global;
 use std::test::Fail;
+use u_deriv::{Path, Step};
+use u_rules::Rule;
 use u_terms::List;
 use udp_io::{MemSink, SinkFault};
 
@@ -113,6 +119,76 @@ fn lines_with_their_line_feed(rt: HostRuntime) -> Result<(), Fail> {
 fn what_is_read_of_each_rule(rt: HostRuntime) {
     for (line, wanted) in RULES {
         assert!(rt; is_said(&read_step(rt.alloc(), line, true), &wanted));
+    }
+}
+
+#[test]
+fn lines_over_the_steps_of_rules(rt: HostRuntime) {
+    for (other, _) in RULES {
+        assert!(rt; rules_are_read_over(rt.alloc(), other));
+        assert!(rt; forms_are_read_over(rt.alloc(), other));
+    }
+}
+
+#[test]
+fn lines_over_the_steps_of_forms(rt: HostRuntime) {
+    for (other, _) in FORMS {
+        assert!(rt; rules_are_read_over(rt.alloc(), other));
+        assert!(rt; forms_are_read_over(rt.alloc(), other));
+    }
+}
+
+/// A step with an inner one.
+fn nested(alloc: Global) -> Result<Step, Fail> {
+    let mut inner = List::new(alloc);
+    inner.push(blank(alloc))?;
+    Ok(Step {
+        inner,
+        ..blank(alloc)
+    })
+}
+
+fn blank(alloc: Global) -> Step {
+    Step {
+        path: Path::new(alloc),
+        forward: false,
+        rule: Rule::SqZero,
+        args: List::new(alloc),
+        inner: List::new(alloc),
+    }
+}
+
+#[test]
+fn lines_over_a_step_with_inner_ones(rt: HostRuntime) -> Result<(), Fail> {
+    for (line, wanted) in RULES {
+        assert!(rt; is_read_over(rt.alloc(), &mut nested(rt.alloc())?, line, &wanted));
+    }
+    Ok(())
+}
+
+#[test]
+fn faults_over_a_step(rt: HostRuntime) {
+    let mut kept = blank(rt.alloc());
+    for (line, wanted) in LINES {
+        let read = read_step_over(rt.alloc(), line, true, &mut kept);
+        match read_step(rt.alloc(), line, true) {
+            Ok(LineStep::Whole(_)) => {
+                assert_eq!(rt; read, Ok(LineKind::Whole));
+            }
+            Ok(LineStep::Opens(_)) => {
+                assert_eq!(rt; read, Ok(LineKind::Opens));
+            }
+            Ok(LineStep::Closes) => {
+                assert_eq!(rt; read, Ok(LineKind::Closes));
+            }
+            Ok(LineStep::Ends) => {
+                assert_eq!(rt; read, Ok(LineKind::Ends));
+            }
+            Err(fault) => {
+                assert_eq!(rt; read, Err(fault));
+            }
+        }
+        assert_eq!(rt; read.is_ok(), wanted.is_line());
     }
 }
 
@@ -246,7 +322,7 @@ fn lines_of_a_text(rt: HostRuntime) {
 }
 
 /// First lines and second lines, and whether a line feed follows them.
-const HEADINGS: [(&[u8], bool, Option<u32>, Option<u32>); 16] = [
+const HEADINGS: [(&[u8], bool, Option<u32>, Option<u32>); 19] = [
     (b"udp-proof 1", true, Some(1), None),
     (b"udp-proof 7", true, Some(7), None),
     (b"udp-proof 4294967295", true, Some(4_294_967_295), None),
@@ -261,6 +337,9 @@ const HEADINGS: [(&[u8], bool, Option<u32>, Option<u32>); 16] = [
     (b"outs 1", true, None, Some(1)),
     (b"outs 0", true, None, Some(0)),
     (b"outs 2048", true, None, Some(2_048)),
+    (b"outs 4294967295", true, None, Some(4_294_967_295)),
+    (b"outs 4294967296", true, None, None),
+    (b"outs 01", true, None, None),
     (b"outs 2048", false, None, None),
     (b"outs  1", true, None, None),
 ];

@@ -120,8 +120,8 @@ pub fn is_said(answer: &Result<LineStep, LineFault>, wanted: &Wanted) -> bool {
     }
 }
 
-// The step has no inner steps.
-fn is_step(step: &Step, wanted: &Wanted) -> bool {
+/// Whether the step is the one that is wanted. It has no inner steps.
+pub fn is_step(step: &Step, wanted: &Wanted) -> bool {
     let (runs, forward, rule, words) = *wanted;
     step.path.runs() == runs
         && step.forward == forward

@@ -1,72 +1,17 @@
 -- What the first byte of a term or a value tells of the rest.
-use Rattle.std.proofs.Common.{◌≡◌, ℕ, ◌-◌, true, false, Ok, Err, refl, subst, ◌∙◌}
-use Rattle.u_terms.specs.declared.term.U.{U}
-use Rattle.u_terms.specs.declared.term.Val.{Val}
-use Rattle.u_terms.specs.declared.term.U.TheVariants as u
-use Rattle.u_terms.specs.declared.term.Val.TheVariants as v
+use Rattle.std.proofs.Common.{◌≡◌, ℕ, ◌-◌, true, false, refl, subst}
 use Rattle.proof_text.specs.Signs.{Sign}
 use Rattle.proof_text.specs.Signs as s
 use Rattle.proof_text.specs.Grammar.{begins_term, begins_value}
-use Rattle.proof_text.specs.Reading.{Rest, Reading, ◌>>=◌, next, bad, entered, list_of, number_at, numbered, pair_of, term_at, term_with, value_at, value_with, within}
-use Rattle.proof_text.specs.Nodes.{equality_of, node_of}
+use Rattle.proof_text.specs.Reading.{Rest, Reading, ◌>>=◌, next, bad, entered, term_at, term_with, value_at, value_with}
 use Rattle.proof_text.proofs.Loops.{term_step, value_step}
 
--- what is read behind the first byte is read of the whole
-regrouped : {A B C : Type 0} (reading : Reading A) (f : Rest → Reading B) (g : B → Rest → Reading C) → (reading >>= λ e r. f r >>= g) ≡ ((reading >>= λ e r. f r) >>= g)
-regrouped (Ok x, rest) f g = refl
-regrouped (Err stop, rest) f g = refl
-
 module _ (levels : ℕ) (rest : Rest) where
-  begun : (k : Sign) → next rest ≡ k → begins_term k ≡ true → term_at levels rest ≡ (entered levels rest >>= λ e r. term_with (term_at (levels - 1)) (value_at (levels - 1)) k r)
+  pub begun : (k : Sign) → next rest ≡ k → begins_term k ≡ true → term_at levels rest ≡ (entered levels rest >>= λ e r. term_with (term_at (levels - 1)) (value_at (levels - 1)) k r)
   begun k e b = rw (term_step levels rest, e, b) refl
 
-  value_begun : (k : Sign) → next rest ≡ k → begins_value k ≡ true → value_at levels rest ≡ (entered levels rest >>= λ e r. value_with (term_at (levels - 1)) (value_at (levels - 1)) k r)
+  pub value_begun : (k : Sign) → next rest ≡ k → begins_value k ≡ true → value_at levels rest ≡ (entered levels rest >>= λ e r. value_with (term_at (levels - 1)) (value_at (levels - 1)) k r)
   value_begun k e b = rw (value_step levels rest, e, b) refl
-
-  pub zero_read : next rest ≡ s.Digit0 → term_at levels rest ≡ (entered levels rest >>= λ e r. (Ok u.Zero, r))
-  zero_read e = begun s.Digit0 e refl
-
-  pub one_read : next rest ≡ s.Digit1 → term_at levels rest ≡ (entered levels rest >>= λ e r. (Ok u.One, r))
-  one_read e = begun s.Digit1 e refl
-
-  pub sum_read : next rest ≡ s.Plus → term_at levels rest ≡ (node_of levels (pair_of (term_at (levels - 1))) rest >>= λ p r. (Ok (u.Add p.0 p.1), r))
-  sum_read e = begun s.Plus e refl ∙ regrouped (entered levels rest) (pair_of (term_at (levels - 1))) (λ p r. (Ok (u.Add p.0 p.1), r))
-
-  pub product_read : next rest ≡ s.Star → term_at levels rest ≡ (node_of levels (pair_of (term_at (levels - 1))) rest >>= λ p r. (Ok (u.Mul p.0 p.1), r))
-  product_read e = begun s.Star e refl ∙ regrouped (entered levels rest) (pair_of (term_at (levels - 1))) (λ p r. (Ok (u.Mul p.0 p.1), r))
-
-  pub squash_read : next rest ≡ s.Hash → term_at levels rest ≡ (node_of levels (within (term_at (levels - 1))) rest >>= λ a r. (Ok (u.Squash a), r))
-  squash_read e = begun s.Hash e refl ∙ regrouped (entered levels rest) (within (term_at (levels - 1))) (λ a r. (Ok (u.Squash a), r))
-
-  pub not_read : next rest ≡ s.Bang → term_at levels rest ≡ (node_of levels (within (term_at (levels - 1))) rest >>= λ a r. (Ok (u.Not a), r))
-  not_read e = begun s.Bang e refl ∙ regrouped (entered levels rest) (within (term_at (levels - 1))) (λ a r. (Ok (u.Not a), r))
-
-  pub binder_read : next rest ≡ s.UpperS → term_at levels rest ≡ (node_of levels (within (term_at (levels - 1))) rest >>= λ a r. (Ok (u.Sum a), r))
-  binder_read e = begun s.UpperS e refl ∙ regrouped (entered levels rest) (within (term_at (levels - 1))) (λ a r. (Ok (u.Sum a), r))
-
-  pub table_read : next rest ≡ s.UpperR → term_at levels rest ≡ node_of levels (numbered (list_of (value_at (levels - 1))) u.Rel) rest
-  table_read e = begun s.UpperR e refl
-
-  pub equality_read : next rest ≡ s.Equals → term_at levels rest ≡ node_of levels (equality_of (value_at (levels - 1))) rest
-  equality_read e = begun s.Equals e refl
-
-  pub predicate_read : next rest ≡ s.UpperP → term_at levels rest ≡ node_of levels (numbered (list_of (value_at (levels - 1))) u.Pred) rest
-  predicate_read e = begun s.UpperP e refl
-
-  pub bound_read : next rest ≡ s.SmallB → value_at levels rest ≡ (node_of levels number_at rest >>= λ n r. (Ok (v.Bound n), r))
-  bound_read e = value_begun s.SmallB e refl ∙ regrouped (entered levels rest) number_at (λ n r. (Ok (v.Bound n), r))
-
-  pub free_read : next rest ≡ s.SmallF → value_at levels rest ≡ (node_of levels number_at rest >>= λ n r. (Ok (v.Free n), r))
-  free_read e = value_begun s.SmallF e refl ∙ regrouped (entered levels rest) number_at (λ n r. (Ok (v.Free n), r))
-
-  pub literal_read : next rest ≡ s.SmallC → value_at levels rest ≡ (node_of levels number_at rest >>= λ n r. (Ok (v.Lit n), r))
-  literal_read e = value_begun s.SmallC e refl ∙ regrouped (entered levels rest) number_at (λ n r. (Ok (v.Lit n), r))
-
-  pub function_read : next rest ≡ s.UpperF → value_at levels rest ≡ node_of levels (numbered (list_of (value_at (levels - 1))) v.Fun) rest
-  function_read e = value_begun s.UpperF e refl
-
-  pub aggregate_read : next rest ≡ s.UpperG → value_at levels rest ≡ node_of levels (numbered (within (term_at (levels - 1))) v.Agg) rest
-  aggregate_read e = value_begun s.UpperG e refl
 
 -- ---- no other sign begins any
 unbegun : (k : Sign) → (k ≡ s.Digit0 → ⊥) → (k ≡ s.Digit1 → ⊥) → (k ≡ s.Plus → ⊥) → (k ≡ s.Star → ⊥) → (k ≡ s.Hash → ⊥) → (k ≡ s.Bang → ⊥) → (k ≡ s.UpperS → ⊥) → (k ≡ s.UpperR → ⊥) → (k ≡ s.Equals → ⊥) → (k ≡ s.UpperP → ⊥) → begins_term k ≡ false

@@ -44,7 +44,7 @@ pub at_line_feed : (text : List ℕ) (m n : ℕ) (r : Rest) → number_at (start
 at_line_feed text m n r e w i = ap (λ (z : Reading ℕ). z.1) (sym e ∙ number_line text n w i)
 
 -- ---- behind the bytes in front
-fed_behind : (front x : List ℕ) (ended : Bool) → fed (front ++ x) ended ≡ front ++ fed x ended
+pub fed_behind : (front x : List ℕ) (ended : Bool) → fed (front ++ x) ended ≡ front ++ fed x ended
 fed_behind front x true = append_assoc front x (10 ∷ [])
 fed_behind front x false = refl
 

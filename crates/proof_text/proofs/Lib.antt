@@ -15,12 +15,15 @@ pub mod LinesAgain
 pub mod Glyphs
 pub mod Digits
 pub mod Firsts
+pub mod Overwritten
 pub mod TermsSpelled
 pub mod LinesSpelled
 pub mod OneAnswer
 pub mod OneText
 pub mod HeadingsRead
+pub mod WordsPassed
 pub mod StepLines
+pub mod StepsAgain
 pub mod TextLines
 mod LineSamples
 pub mod EndedLines

@@ -322,3 +322,11 @@ lines_of_proof bytes outs steps p =
     let lines : AreLines (concat ls ++ []) (ls ++ []) = front_lines ls [] [] each none in
     subst (λ (z : List ℕ). AreLines z ls) (append-nil (concat ls) ∙ sym (proof_whole outs steps) ∙ sym p.spelled)
     (subst (λ (z : List (List ℕ)). AreLines (concat ls ++ []) z) (append-nil ls) lines)
+
+-- the lines of the text of steps are theirs
+pub lines_of_steps : (steps : List Step) → Each IsWritable steps → AreLines (steps_text steps) (map text_of (lines_of steps))
+lines_of_steps steps w =
+    let body : List (List ℕ) = map text_of (lines_of steps) in
+    let lines : AreLines (concat body ++ []) (body ++ []) = front_lines body [] [] (are_texts (lines_of steps) (steps_texts steps w)) none in
+    subst (λ (z : List ℕ). AreLines z body) (append-nil (concat body) ∙ sym (steps_say steps ∙ map_concat (lines_of steps)))
+    (subst (λ (z : List (List ℕ)). AreLines (concat body ++ []) z) (append-nil body) lines)

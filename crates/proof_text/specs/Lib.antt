@@ -5,9 +5,9 @@ pub mod Heading
 pub mod Limits
 pub mod LineSamples
 pub mod LinesOfText
-pub mod Nodes
 pub mod NumberSteps
 pub mod Outcomes
+pub mod Over
 pub mod Paths
 pub mod Reading
 pub mod ReadingLines
@@ -15,5 +15,7 @@ pub mod RuleNames
 pub mod Sent
 pub mod Signs
 pub mod StepLines
+pub mod Within
+pub mod WordSteps
 pub mod Words
 pub mod Written

@@ -4,6 +4,7 @@ ghost use Rattle.proof_text.specs.Signs.{code};
 ghost use Rattle.proof_text.specs.declared.cursor.Stop.TheVariants.{NoMemory};
 ghost use Rattle.proof_text.specs.LinesOfText.{fed};
 ghost use Rattle.proof_text.specs.Reading.{Gives, entered, expected, fresh, next, passed};
+ghost use Rattle.proof_text.specs.WordSteps.{PassesAll};
 
 use crate::limits::MOST_NODES;
 use crate::sign::{Sign, code, digit_of, sign_of};
@@ -116,6 +117,20 @@ impl<'a> Cursor<'a> {
             Ok(())
         } else {
             Err(Stop::Unexpected)
+        }
+    }
+
+    /// Passes these bytes, if they all stand next.
+    #[inline(always)]
+    pub fn take_all(&mut self, wanted: &[u8]) -> bool
+        ensures { PassesAll wanted.now self.old result self.new }
+    {
+        match self.bytes.strip_prefix(wanted) {
+            Some(rest) => {
+                self.bytes = rest;
+                true
+            }
+            None => false,
         }
     }
 

@@ -1,14 +1,17 @@
 //! What holds of the lines of proofs, each the contract of a function that does nothing.
 ghost use Rattle.std.specs.List.{concat, flat_map};
-ghost use Rattle.std.specs.Prelude.{◌≡◌, List, ℕ, Result, Err};
+ghost use Rattle.std.specs.Prelude.{◌≡◌, List, ℕ, Result, Err, [], ◌∷◌, ◌++◌, drop};
+ghost use Rattle.data_model.specs.Lists.{Each};
 ghost use Rattle.proof_text.specs.declared.line.LineFault.{LineFault as TheFault};
 ghost use Rattle.proof_text.specs.declared.line.LineFault.TheVariants.{NoMemory as no_memory};
 ghost use Rattle.proof_text.specs.declared.line.LineStep.{LineStep as TheLine};
+ghost use Rattle.proof_text.specs.declared.line.LineStep.TheVariants.{Ends as the_end};
 ghost use Rattle.u_deriv.specs.declared.step.Step.{Step as TheStep};
 ghost use Rattle.proof_text.specs.LinesOfText.{AreLines};
 ghost use Rattle.proof_text.specs.ReadingLines.{IsAnswer, IsRead, lines};
 ghost use Rattle.proof_text.specs.StepLines.{lines_of, proof_lines};
-ghost use Rattle.proof_text.specs.Written.{ProofText, Says, text_of};
+ghost use Rattle.proof_text.specs.Within.{AreRead, IsWithin};
+ghost use Rattle.proof_text.specs.Written.{IsWritable, ProofText, Says, text_of};
 ghost use Rattle.u_deriv.specs.StepText.{steps_text};
 
 /// A text has one answer, but for want of memory: the line that it is, or the first column at which none goes on, or the limit
@@ -59,4 +62,16 @@ pub fn lines_of_a_text()
 /// The lines of the text of a proof are its header, the width of the queries, the lines of its steps, and its end.
 pub fn lines_of_a_proof()
     ensures { (bytes : List ℕ) (outs : ℕ) (steps : List TheStep) → ProofText bytes outs steps → AreLines bytes (proof_lines outs steps) }
+{}
+
+/// The text of steps within the limits is read again, inner ones too: its lines, one by one, are those of the steps.
+pub fn steps_are_read_again()
+    ensures { (steps : List TheStep) (texts : List (List ℕ)) → Each IsWritable steps → Each IsWithin steps → AreLines (steps_text steps) texts →
+        AreRead texts (lines_of steps) }
+{}
+
+/// So is the text of a proof, behind its two lines of heading and up to its end.
+pub fn proofs_are_read_again()
+    ensures { (bytes : List ℕ) (outs : ℕ) (steps : List TheStep) (texts : List (List ℕ)) → ProofText bytes outs steps → Each IsWithin steps →
+        AreLines bytes texts → AreRead (drop 2 texts) (lines_of steps ++ the_end ∷ []) }
 {}

@@ -4,6 +4,7 @@
 mod argument;
 mod cursor;
 mod heading;
+mod kept;
 mod kinds;
 pub mod laws;
 mod lengths;
@@ -25,6 +26,6 @@ mod term_writer;
 pub use heading::{read_outs, read_version};
 pub use lengths::proof_bytes;
 pub use limits::LimitKind;
-pub use line::{LineFault, LineStep, read_step};
+pub use line::{LineFault, LineKind, LineStep, read_step, read_step_over};
 pub use lines::{Line, Lines};
 pub use proof_writer::write_proof;

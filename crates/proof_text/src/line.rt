@@ -3,6 +3,7 @@ ghost use Rattle.std.specs.Prelude.{◌≡◌, ◌+◌, ◌<◌, ◌^◌, IfOk};
 ghost use Rattle.proof_text.specs.LinesOfText.{fed};
 ghost use Rattle.proof_text.specs.ReadingLines.{IsAnswer};
 ghost use Rattle.proof_text.specs.Faults.{fault_of};
+ghost use Rattle.proof_text.specs.Over.{line_over, said_over};
 ghost use Rattle.proof_text.specs.Written.{Says, text_of};
 
 use crate::cursor::{Cursor, Stop};
@@ -10,7 +11,9 @@ use crate::limits::{LimitKind, MOST_DEPTH, MOST_NODES};
 use crate::step::whole_line;
 use std::alloc::Global;
 use thiserror::Error;
-use u_deriv::Step;
+use u_deriv::{Path, Step};
+use u_rules::Rule;
+use u_terms::List;
 
 /// What a line says.
 #[derive(Debug, Drop)]
@@ -19,6 +22,19 @@ pub enum LineStep {
     Whole(Step),
     /// A step of `sq_fix`, whose inner steps follow.
     Opens(Step),
+    /// The inner steps end.
+    Closes,
+    /// The proof ends.
+    Ends,
+}
+
+/// What kind of line was read over a step.
+#[derive(Clone, Copy, Debug, PartialEq, Eq)]
+pub enum LineKind {
+    /// The kept step is what it says, without inner steps.
+    Whole,
+    /// The kept step is what it says, one of `sq_fix`, whose inner steps follow.
+    Opens,
     /// The inner steps end.
     Closes,
     /// The proof ends.
@@ -58,16 +74,58 @@ fn fault(stop: Stop, passed: u64) -> LineFault
     }
 }
 
+// A step to read the first line over.
+fn blank(alloc: Global) -> Step {
+    Step {
+        path: Path::new(alloc),
+        forward: false,
+        rule: Rule::SqZero,
+        args: List::new(alloc),
+        inner: List::new(alloc),
+    }
+}
+
+// What a line of this kind says.
+fn line_of(kind: LineKind, step: Step) -> LineStep
+    ensures { result ≡ line_over kind step }
+{
+    match kind {
+        LineKind::Whole => LineStep::Whole(step),
+        LineKind::Opens => LineStep::Opens(step),
+        LineKind::Closes => LineStep::Closes,
+        LineKind::Ends => LineStep::Ends,
+    }
+}
+
 /// What the line says whose bytes these are; `ended` says that a line feed follows them. No byte is gone back to: each is looked at
 /// a fixed number of times at most. Nothing is built of an argument behind the byte at which it passes a limit.
 pub fn read_step(alloc: Global, line: &[u8], ended: bool) -> Result<LineStep, LineFault>
     ensures answer { IsAnswer (fed line.now ended) result }
     ensures text { IfOk result (λ says. (fed line.now ended ≡ text_of says) × Says says) }
 {
+    let mut step = blank(alloc);
+    match read_step_over(alloc, line, ended, &mut step) {
+        Ok(kind) => Ok(line_of(kind, step)),
+        Err(fault) => Err(fault),
+    }
+}
+
+/// The same, with the step that the line says written over the kept one. Where a part of that has the form of what is read in its
+/// place, or boxes or a list of the same sort, its memory serves again: a line like the one before it takes none. Of the kept step
+/// nothing is said after another line or a fault.
+pub fn read_step_over(
+    alloc: Global,
+    line: &[u8],
+    ended: bool,
+    kept: &mut Step,
+) -> Result<LineKind, LineFault>
+    ensures answer { IsAnswer (fed line.now ended) (said_over result kept.new) }
+    ensures text { IfOk (said_over result kept.new) (λ says. (fed line.now ended ≡ text_of says) × Says says) }
+{
     let mut cursor = Cursor::new(line, ended);
     let length = cursor.left();
-    match whole_line(alloc, &mut cursor) {
-        Ok(says) => Ok(says),
+    match whole_line(alloc, &mut cursor, kept) {
+        Ok(kind) => Ok(kind),
         Err(stop) => Err(fault(stop, length.saturating_sub(cursor.left()) as u64)),
     }
 }

@@ -12,6 +12,17 @@ use u_rules::Rule;
 pub fn word(cursor: &mut Cursor<'_>, bytes: &[u8]) -> Result<(), Stop>
     ensures { Gives result cursor.new (word_at bytes.now cursor.old) }
 {
+    if cursor.take_all(bytes) {
+        return Ok(());
+    }
+    letters(cursor, bytes)
+}
+
+// The same, byte by byte: where not all stand next, that tells which is the first that does not.
+#[inline(never)]
+fn letters(cursor: &mut Cursor<'_>, bytes: &[u8]) -> Result<(), Stop>
+    ensures { Gives result cursor.new (word_at bytes.now cursor.old) }
+{
     for byte in bytes {
         cursor.expect(sign_of(*byte))?;
     }

@@ -1,17 +1,18 @@
 use Rattle.std.proofs.Common.{◌≡◌, ◌-◌, length, refl, ap, ◌∙◌, rules}
 use Rattle.std.specs.Prelude.{Ok}
 use Rattle.proof_text.specs.LinesOfText.{fed}
+use Rattle.proof_text.specs.Over.{line_over}
 use Rattle.proof_text.specs.Reading.{Rest, Stops, line_at, alone}
 use Rattle.proof_text.proofs.LineAnswers.{read_told, halted_told}
 use Rattle.proof_text.proofs.OneAnswer.{spelled}
-use Rattle.proof_text.proofs.line.read_step.Goals as goal
+use Rattle.proof_text.proofs.line.read_step_over.Goals as goal
 
 pub returns-in-Ok : goal.returns-in-Ok
 returns-in-Ok c =
     let text = fed c.args.line.now c.args.ended in
-    let e : alone line_at (record { nodes = 0; text = fed c.args.line.now c.args.ended }) ≡ (Ok c.in-Ok.says, c.whole_line.new.cursor) = search rules in
-    let read = read_told text c.in-Ok.says c.whole_line.new.cursor e in
-    record { answer = read; text = spelled text c.in-Ok.says read }
+    let e : alone line_at (record { nodes = 0; text = fed c.args.line.now c.args.ended }) ≡ (Ok (line_over c.in-Ok.kind c.whole_line.new.kept), c.whole_line.new.cursor) = search rules in
+    let read = read_told text (line_over c.in-Ok.kind c.whole_line.new.kept) c.whole_line.new.cursor e in
+    record { answer = read; text = spelled text (line_over c.in-Ok.kind c.whole_line.new.kept) read }
 
 pub returns-in-Err : goal.returns-in-Err
 returns-in-Err c =
