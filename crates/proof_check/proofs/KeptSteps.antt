@@ -31,6 +31,7 @@ use Rattle.proof_check.specs.declared.steps.Steps.{Steps}
 use Rattle.proof_check.specs.declared.steps.Waiting.{Waiting as KeptWaiting}
 use Rattle.proof_check.specs.Judging.{Level, Waiting, among, ended, step_line, behind_step, square_of, HasRoom, IsAdmitted, Takes, Stops, makes, opens, closes, ends, bad, argument_passes, closes_nothing, ends_within, too_many, too_nested, side_passes, fails, opens_nothing, passes, inner_end_differs, passes_behind}
 use Rattle.proof_check.specs.Kept.{waiting_of, waiting_in, most_outs, AreNear, AreKept, CanStep, GoOn, GoesOut, refused_line, misplaced_line}
+use Rattle.proof_text.specs.Limits.{most_depth}
 use Rattle.proof_check.specs.Limits.{IsSmall, SidesAreSmall, sizes_for, most_steps, most_nesting}
 use Rattle.proof_check.specs.Refusing.{LeavesRoom, KeepsTerm, KeepsSides, ExchangesAt}
 use Rattle.proof_check.proofs.SizedTerms.{steppable-depth, few-binders}
@@ -67,7 +68,7 @@ near-outs outs (w ∷ waiting) near = omega (arith, near-outs w.behind.outs wait
 pub few-outs : (level : Level) (waiting : List Waiting) → CanStep level waiting → level.outs ≤ 133120
 few-outs level waiting can = omega (arith, near-outs level.outs waiting can.names, can.few)
 
-pub shallow : (level : Level) (waiting : List Waiting) → CanStep level waiting → level.outs + depth level.term < 2 ^ 32
+pub shallow : (level : Level) (waiting : List Waiting) → CanStep level waiting → level.outs + depth level.term + most_depth ≤ 2 ^ 32
 shallow level waiting can = omega (arith, few-outs level waiting can, steppable-depth level.term can.term)
 
 -- ---- what a line of a step says

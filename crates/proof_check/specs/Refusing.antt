@@ -4,6 +4,7 @@ use Rattle.u_terms.specs.Syntax.{U}
 use Rattle.u_terms.specs.declared.facts.Facts.{Facts}
 use Rattle.u_rules.specs.declared.side_sizes.Sizes.{Sizes}
 use Rattle.u_deriv.specs.declared.place.Place.{Place}
+use Rattle.u_deriv.specs.declared.spending.Measured.{Measured}
 use Rattle.u_deriv.specs.declared.step.Step.{Step}
 use Rattle.u_deriv.specs.Applying.{place_of}
 use Rattle.u_deriv.specs.Steps.{Exchanged}
@@ -30,7 +31,7 @@ KeepsTerm u (Ok _) = IsSmall u
 KeepsTerm u (Err passed) = TermPasses u passed.what passed.count
 
 -- those of both sides
-abbrev pub KeepsSides : Sizes → Result Sizes Passed → Type 0
+abbrev pub KeepsSides : Sizes → Result Measured Passed → Type 0
 KeepsSides sizes (Ok _) = SidesAreSmall sizes
 KeepsSides sizes (Err passed) = SidesPass sizes passed.what passed.count
 

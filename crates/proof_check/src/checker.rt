@@ -19,10 +19,12 @@ use crate::steps::Steps;
 use proof_text::Line;
 use std::alloc::Global;
 use std::marker::Model;
-use u_terms::{Facts, U, same};
+use u_deriv::{Path, Step};
+use u_rules::Rule;
+use u_terms::{Facts, List, U, same};
 
-/// A check of a proof that is fed line by line. No line is kept, and no step: a step costs what its path, the part that it
-/// compares and the part that it writes take.
+/// A check of a proof that is fed line by line. No line is kept, and of the steps only the last one, in whose memory the next one is
+/// read: a step costs what its path, the part that it compares and the part that it writes take.
 #[derive(Drop)]
 pub struct Checker<'f> {
     alloc: Global,
@@ -75,6 +77,7 @@ impl<'f> Checker<'f> {
             level,
             waiting: Vec::new(alloc),
             count: 0,
+            step: no_step(alloc),
         };
         Ok(Checker {
             alloc,
@@ -158,6 +161,17 @@ impl<'f> Checker<'f> {
                 Part::Ended => Ok(end_verdict(self.steps.level.term.term(), right)),
             },
         }
+    }
+}
+
+// A step in whose place the first one is read.
+fn no_step(alloc: Global) -> Step {
+    Step {
+        path: Path::new(alloc),
+        forward: true,
+        rule: Rule::AddAc,
+        args: List::new(alloc),
+        inner: List::new(alloc),
     }
 }
 

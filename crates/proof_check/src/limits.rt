@@ -1,11 +1,11 @@
 //! The limits of a proof, and what passes them.
 ghost use Rattle.std.specs.Prelude.{◌≡◌, ◌<◌, IfOk};
+ghost use Rattle.u_deriv.specs.Spending.{IsMeasured};
 ghost use Rattle.proof_check.specs.Limits.{sizes_for};
 ghost use Rattle.proof_check.specs.Refusing.{Keeps, KeepsSides, LeavesRoom};
 
 use proof_text::LimitKind;
-use u_deriv::Step;
-use u_rules::{Sizes, sizes};
+use u_deriv::{Measured, Step, measure};
 use u_terms::Facts;
 
 /// The most steps, inner ones too.
@@ -60,13 +60,14 @@ pub fn keep(nodes: u64, depth: u64) -> Result<(), Passed>
     Ok(())
 }
 
-/// Refuses a step with a side that passes a limit, the left one first, and else tells the sizes of both.
-pub fn keep_sides(facts: &Facts, step: &Step) -> Result<Sizes, Passed>
-    ensures sizes { IfOk result (λ sizes. sizes ≡ sizes_for facts.now step.now) }
+/// Refuses a step with a side that passes a limit, the left one first, and else tells what it measures.
+pub fn keep_sides(facts: &Facts, step: &Step) -> Result<Measured, Passed>
+    ensures measured { IfOk result (λ measured. IsMeasured facts.now step.now measured) }
     ensures limits { KeepsSides (sizes_for facts.now step.now) result }
 {
-    let sizes = sizes(facts, step.rule, step.args.as_slice());
+    let measured = measure(facts, step);
+    let sizes = measured.sizes;
     keep(sizes.left_nodes, sizes.left_depth)?;
     keep(sizes.right_nodes, sizes.right_depth)?;
-    Ok(sizes)
+    Ok(measured)
 }

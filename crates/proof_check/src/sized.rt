@@ -3,6 +3,8 @@ ghost use Rattle.std.specs.Prelude.{◌≡◌, ◌+◌, ◌-◌, ◌≤◌, ◌<
 ghost use Rattle.u_terms.specs.Size.{depth as depth_of};
 ghost use Rattle.u_rules.specs.Terms.{◌⊗◌};
 ghost use Rattle.u_deriv.specs.Applying as applying;
+ghost use Rattle.u_deriv.specs.Spending.{IsMeasured};
+ghost use Rattle.proof_text.specs.Limits.{most_depth};
 ghost use Rattle.proof_check.specs.Limits.{IsSmall, SidesAreSmall, sizes_for};
 ghost use Rattle.proof_check.specs.Refusing.{KeepsTerm};
 ghost use Rattle.proof_check.specs.TermSize as size;
@@ -11,7 +13,7 @@ ghost use Rattle.proof_check.specs.TermSize.{IsSteppable};
 use crate::limits::{Passed, keep};
 use std::alloc::{AllocError, Global};
 use std::marker::Model;
-use u_deriv::{Place, Step, StepFault, exchange};
+use u_deriv::{Measured, Place, Step, StepFault, exchange_spending};
 use u_rules::Sizes;
 use u_terms::{Boxed, Facts, U, depth, nodes};
 
@@ -83,25 +85,25 @@ impl SizedTerm {
         keep(self.nodes, self.depth)
     }
 
-    /// Exchanges the sides of the step's instance at the end of its path, and tells where that is; `sizes` are those of the
-    /// sides. After a refusal the term is as before.
+    /// Exchanges the sides of the step's instance at the end of its path, and tells where that is. The step's arguments are used
+    /// up. After a refusal the term is as before.
     pub fn exchange(
         &mut self,
         alloc: Global,
         facts: &Facts,
         outs: u32,
-        step: &Step,
-        sizes: Sizes,
+        step: &mut Step,
+        measured: Measured,
     ) -> Result<Place, StepFault>
         requires steppable { IsSteppable self.old }
-        requires shallow { outs + depth_of self.old < 2 ^ 32 }
-        requires sizes { sizes ≡ sizes_for facts.now step.now }
-        requires small { SidesAreSmall (sizes_for facts.now step.now) }
-        ensures { applying.IsExchanged facts.now outs self.old step.now self.new result }
+        requires shallow { outs + depth_of self.old + most_depth ≤ 2 ^ 32 }
+        requires measured { IsMeasured facts.now step.old measured }
+        requires small { SidesAreSmall (sizes_for facts.now step.old) }
+        ensures { applying.IsExchanged facts.now outs self.old step.old self.new result }
     {
-        match exchange(alloc, facts, outs, &mut self.term, step) {
+        let sizes = directed(step.forward, measured.sizes);
+        match exchange_spending(alloc, facts, outs, &mut self.term, step, measured) {
             Ok(place) => {
-                let sizes = directed(step.forward, sizes);
                 self.nodes = self.nodes + sizes.right_nodes - sizes.left_nodes;
                 self.depth = depth_after(place.turns, self.depth, sizes.right_depth);
                 Ok(place)

@@ -16,7 +16,7 @@ use crate::level::Level;
 use crate::limits::{MOST_NESTING, MOST_STEPS, keep_sides, leave_room};
 use crate::part::Part;
 use crate::sized::SizedTerm;
-use proof_text::{LimitKind, Line, LineFault, LineStep, read_step};
+use proof_text::{LimitKind, Line, LineFault, LineKind, read_step_over};
 use std::alloc::{AllocError, Global};
 use std::mem;
 use u_deriv::Step;
@@ -39,6 +39,8 @@ pub struct Steps {
     pub level: Level,
     pub waiting: Vec<Waiting>,
     pub count: u64,
+    /// What the last line said, in whose memory the next one is read.
+    pub step: Step,
 }
 
 impl Steps {
@@ -48,44 +50,49 @@ impl Steps {
         ensures taken { (outs : ℕ) → IsTaken facts.now outs line.entry.number (progress_of the_part.Steps self.old) (fed line.entry.text.now line.entry.ended) self.new result }
         ensures kept { IfOk result (λ part. GoOn part self.new) }
     {
-        match read_step(alloc, line.text, line.ended) {
-            Ok(LineStep::Whole(step)) => self.make(alloc, facts, &step, line.number),
-            Ok(LineStep::Opens(step)) => self.open(alloc, facts, &step, line.number),
-            Ok(LineStep::Closes) => self.close(line.number),
-            Ok(LineStep::Ends) => self.end(line.number),
+        match read_step_over(alloc, line.text, line.ended, &mut self.step) {
+            Ok(LineKind::Whole) => self.make(alloc, facts, line.number),
+            Ok(LineKind::Opens) => self.open(alloc, facts, line.number),
+            Ok(LineKind::Closes) => self.close(line.number),
+            Ok(LineKind::Ends) => self.end(line.number),
             Err(fault) => Err(refused(fault, line.number)),
         }
     }
 
-    // Makes a step.
-    fn make(&mut self, alloc: Global, facts: &Facts, step: &Step, line: u64) -> Result<Part, Stop>
-        requires says { Says (says.Whole step.now) }
+    // Makes the step that was read.
+    fn make(&mut self, alloc: Global, facts: &Facts, line: u64) -> Result<Part, Stop>
+        requires says { Says (says.Whole self.old.step) }
         requires steppable { AreSteppable self.old }
-        ensures taken { (outs : ℕ) (text : List ℕ) → IsRead text (says.Whole step.now) → IsTaken facts.now outs line (progress_of the_part.Steps self.old) text self.new result }
+        ensures taken { (outs : ℕ) (text : List ℕ) → IsRead text (says.Whole self.old.step) → IsTaken facts.now outs line (progress_of the_part.Steps self.old) text self.new result }
         ensures kept { IfOk result (λ part. GoOn part self.new) }
     {
         leave_room(LimitKind::Steps, self.count, MOST_STEPS)?;
-        let sizes = keep_sides(facts, step)?;
-        self.level.exchange(alloc, facts, step, sizes, line)?;
+        let measured = keep_sides(facts, &self.step)?;
+        self.level
+            .exchange(alloc, facts, &mut self.step, measured, line)?;
         self.level.term.keep_limits()?;
         self.count += 1;
         Ok(Part::Steps)
     }
 
-    // Makes a step of `sq_fix` but for its inner steps, which come next.
-    fn open(&mut self, alloc: Global, facts: &Facts, step: &Step, line: u64) -> Result<Part, Stop>
-        requires says { Says (says.Opens step.now) }
+    // Makes the step of `sq_fix` that was read but for its inner steps, which come next. Its argument is copied first, since making it uses
+    // the step up.
+    fn open(&mut self, alloc: Global, facts: &Facts, line: u64) -> Result<Part, Stop>
+        requires says { Says (says.Opens self.old.step) }
         requires steppable { AreSteppable self.old }
-        ensures taken { (outs : ℕ) (text : List ℕ) → IsRead text (says.Opens step.now) → IsTaken facts.now outs line (progress_of the_part.Steps self.old) text self.new result }
+        ensures taken { (outs : ℕ) (text : List ℕ) → IsRead text (says.Opens self.old.step) → IsTaken facts.now outs line (progress_of the_part.Steps self.old) text self.new result }
         ensures kept { IfOk result (λ part. GoOn part self.new) }
     {
         leave_room(LimitKind::Steps, self.count, MOST_STEPS)?;
         leave_room(LimitKind::Nesting, self.waiting.len() as u64, MOST_NESTING)?;
-        let sizes = keep_sides(facts, step)?;
-        match only_term(step.args.as_slice()) {
+        let measured = keep_sides(facts, &self.step)?;
+        match only_term(self.step.args.as_slice()) {
             Some(x) => {
-                let place = self.level.exchange(alloc, facts, step, sizes, line)?;
-                self.go_in(alloc, x, place.binders)?;
+                let root = copied(alloc, x)?;
+                let place = self
+                    .level
+                    .exchange(alloc, facts, &mut self.step, measured, line)?;
+                self.go_in(alloc, root, place.binders)?;
                 self.count += 1;
                 Ok(Part::Steps)
             }
@@ -93,19 +100,18 @@ impl Steps {
         }
     }
 
-    // Lets the level wait for steps that lead from the square of the term to the term, under so many binders.
-    fn go_in(&mut self, alloc: Global, x: &U, binders: u32) -> Result<(), AllocError>
-        requires small { IsSmall x.now }
+    // Lets the level wait for steps that lead from the square of the root to the root, under so many binders.
+    fn go_in(&mut self, alloc: Global, root: Boxed<U>, binders: u32) -> Result<(), AllocError>
+        requires small { IsSmall root }
         requires names { self.old.level.outs + binders < 2 ^ 32 }
-        ensures level { OnOk result (level_of self.new.level ≡ square_of x.now (self.old.level.outs + binders)) }
-        ensures waiting { OnOk result (waiting_in self.new.waiting.items ≡ record { behind = level_of self.old.level; root = x.now } ∷ waiting_in self.old.waiting.items) }
+        ensures level { OnOk result (level_of self.new.level ≡ square_of root (self.old.level.outs + binders)) }
+        ensures waiting { OnOk result (waiting_in self.new.waiting.items ≡ record { behind = level_of self.old.level; root = root } ∷ waiting_in self.old.waiting.items) }
         ensures count { self.new.count ≡ self.old.count }
     {
         let inner = Level {
             outs: self.level.outs + binders,
-            term: SizedTerm::square_of(alloc, x)?,
+            term: SizedTerm::square_of(alloc, root.get())?,
         };
-        let root = Boxed::new(alloc, x.copy(alloc)?)?;
         let behind = mem::replace(&mut self.level, inner);
         self.waiting.push(Waiting { behind, root })?;
         Ok(())
@@ -149,6 +155,12 @@ fn only_term(args: &[Arg]) -> Option<&U>
         [Arg::Term(x)] => Some(x),
         _ => None,
     }
+}
+
+fn copied(alloc: Global, x: &U) -> Result<Boxed<U>, AllocError>
+    ensures { IfOk result (λ root. root ≡ x.now) }
+{
+    Boxed::new(alloc, x.copy(alloc)?)
 }
 
 // Whether the inner steps lead to the root of the step that waits, and the term behind it passes no limit.
