@@ -9,7 +9,8 @@ from pathlib import Path
 
 MOST_ENTRIES = 31
 MOST_BYTES = 1_048_576
-WIDEST = 2_040
+MOST_LISTED = 256
+MOST_OPERANDS = 64
 DEEPEST = 60
 
 TABLE = "CREATE TABLE r (a INT, z INT);\n"
@@ -20,8 +21,19 @@ def view(name, columns):
     return f"CREATE VIEW {name} AS SELECT {', '.join(f'a AS {column}' for column in columns)} FROM r;\n"
 
 
-def wide_view(name):
-    return view(name, [f"c{number}" for number in range(WIDEST)])
+def wide_view(name, parts=8):
+    """A view of as many columns as there may be: all columns of views that list as many as a list may have."""
+    names = [f"{name}{part}" for part in range(parts)]
+    listed = (view(own, [f"c{part * MOST_LISTED + column}" for column in range(MOST_LISTED)]) for part, own in enumerate(names))
+    return "".join(listed) + f"CREATE VIEW {name} AS SELECT * FROM {', '.join(names)};\n"
+
+
+def conjunction(conditions):
+    """An AND of all of these, in parentheses where a chain would be too long."""
+    if len(conditions) <= MOST_LISTED:
+        return " AND ".join(conditions)
+    chains = [conditions[start : start + MOST_LISTED] for start in range(0, len(conditions), MOST_LISTED)]
+    return conjunction([f"({' AND '.join(chain)})" for chain in chains])
 
 
 def case(schema, query):
@@ -31,7 +43,7 @@ def case(schema, query):
 def sought_outwards(uses=1_000):
     """A name of the outermost block, used in the innermost of nested blocks over as many wide entries as there may be."""
     entries = ", ".join(f"w e{number}" for number in range(MOST_ENTRIES))
-    equal = " AND ".join("z = z" for _ in range(uses // 2))
+    equal = conjunction(["z = z"] * (uses // 2))
     nested = f"SELECT e0.c0 FROM {entries} WHERE "
     inner = f"EXISTS ({nested}" * DEEPEST + equal + ")" * DEEPEST
     return case(wide_view("w"), f"SELECT a FROM r WHERE {inner}")
@@ -41,20 +53,22 @@ def stars():
     """Stars over a wide view, as many as fit."""
     star = "EXISTS (SELECT * FROM w)"
     count = (MOST_BYTES - 64_000) // len(f"{star} AND ")
-    return case(wide_view("w"), "SELECT a FROM r WHERE " + " AND ".join([star] * count))
+    return case(wide_view("w"), "SELECT a FROM r WHERE " + conjunction([star] * count))
 
 
 def nested_sources(chains=500):
     """Derived tables within derived tables, each all of the next one."""
     chain = "(SELECT * FROM " * DEEPEST + "w" + " d)" * DEEPEST
-    exists = " AND ".join(f"EXISTS (SELECT d.c0 FROM {chain} d)" for _ in range(chains))
+    exists = conjunction([f"EXISTS (SELECT d.c0 FROM {chain} d)"] * chains)
     return case(wide_view("w"), f"SELECT a FROM r WHERE {exists}")
 
 
-def set_chains(chains=5, length=8_000):
-    """Left chains of set operators."""
-    chain = " UNION ALL ".join(["SELECT a FROM r"] * length)
-    return case("", "SELECT a FROM r WHERE " + " AND ".join(f"EXISTS ({chain})" for _ in range(chains)))
+def set_chains(chains=9):
+    """Left chains of set operators, whose first operand is a chain again."""
+    chain = "SELECT a FROM r"
+    for _ in range(DEEPEST):
+        chain = " UNION ALL ".join([f"({chain})"] + ["SELECT a FROM r"] * (MOST_OPERANDS - 1))
+    return case("", "SELECT a FROM r WHERE " + conjunction([f"EXISTS ({chain})"] * chains))
 
 
 def derived_from_sets(depth=20, length=8):

@@ -1,5 +1,5 @@
 -- How often a row is among those that a block makes of its frames.
-use Rattle.std.proofs.Common.{◌≡◌, ◌+◌, ◌*◌, Bool, true, List, [], ◌∷◌, map, filter, refl, ap, ◌∙◌, arith}
+use Rattle.std.proofs.Common.{◌≡◌, ◌*◌, Bool, true, List, [], ◌∷◌, map, filter, refl, ap, ◌∙◌, arith}
 use Rattle.data_model.specs.Numbers.{one_if}
 use Rattle.data_model.specs.Rows.{Row, same_row, occurrences}
 use Rattle.data_model.proofs.Occurrences.{occurrences-made}

@@ -12,13 +12,13 @@ use Rattle.sql_model.specs.declared.tree.Entry.{Entry, out-Entry, roll-Entry, ro
 use Rattle.sql_model.specs.Headings.{Heading, columns_of, item_columns, source_columns}
 use Rattle.scope_core.specs.Compute.{resolving}
 use Rattle.scope_core.specs.FirstFault.{fault_at}
-use Rattle.scope_core.specs.Lent.{entries_headings, entries_row, items_row}
+use Rattle.scope_core.specs.Lent.{entries_headings, entries_row, items_row, list_columns}
 use Rattle.scope_core.specs.Parts.{entries_fault, entries_listed, item_fault, items_fault, items_listed, on_fault, on_listed, source_fault, truth_fault, written_fault, written_listed}
 use Rattle.scope_core.specs.Resolving.{alias_star, entry_columns, star, entry_of, resolved_item, resolved_source}
 use Rattle.scope_core.specs.Scope.{AsRows, Known, heading, Level, Levels, headings_here, on_level}
 use Rattle.scope_core.specs.Sites.{AnAlias, Outputs, entry_sites, item_sites, items_sites, on_sites, source_sites, truth_sites}
 use Rattle.scope_core.proofs.Lists.{between-longer, between-one}
-use Rattle.scope_core.proofs.Outputs.{heading-at, length-entries_headings}
+use Rattle.scope_core.proofs.Outputs.{heading-at, length-entries_headings, list_columns-cons, list_columns-nil}
 use Rattle.scope_core.proofs.Walks.{first_fault-append}
 
 module _ (known : List Known) (levels : Levels) where
@@ -171,3 +171,15 @@ unfolding resolving
 length-resolved_item (n.Star at) known levels = length-star 0 (headings_here levels)
 length-resolved_item (n.AliasStar alias at) known levels = length-alias_star alias 0 (headings_here levels)
 length-resolved_item (n.Value expr name) known levels = refl
+
+-- as many values as columns
+pub length-items_listed : (items : List n.Item) (known : List Known) (levels : Levels)
+    → length (items_listed known levels items) ≡ length (list_columns items (headings_here levels))
+length-items_listed [] known levels =
+    ap (λ vs. length vs) (items_listed-nil known levels tt) ∙ sym (ap (λ cs. length cs) (list_columns-nil (headings_here levels)))
+length-items_listed (item ∷ items) known levels =
+    let H = headings_here levels in
+    ap (λ vs. length vs) (items_listed-cons known levels item items)
+    ∙ (length-append (resolved_item item known levels) (items_listed known levels items)
+    ∙ (rw (length-resolved_item item known levels, length-items_listed items known levels)
+    (sym (ap (λ cs. length cs) (list_columns-cons item items H) ∙ length-append (item_columns item H) (list_columns items H)))))

@@ -1,6 +1,10 @@
 -- The columns of a query, as code builds it.
-use Rattle.std.proofs.Common.{◌≡◌, ℕ, zero, suc, ◌<◌, Bool, List, [], ◌∷◌, ◌++◌, length, get_or, Option, Some, None, refl, ap, sym, subst, ◌∙◌, arith}
+use Rattle.std.proofs.Common.{◌≡◌, ℕ, zero, suc, ◌<◌, Bool, true, List, [], ◌∷◌, ◌++◌, length, get_or, Option, Some, None, refl, ap, sym, subst, ◌∙◌, arith}
+use Rattle.std.specs.List.{flat_map}
+use Rattle.std.proofs.lemmas.List.{append-nil}
 use Rattle.sql_model.specs.Syntax as n
+use Rattle.sql_model.specs.Columns.{same_name}
+use Rattle.sql_model.specs.declared.tree.Item.TheVariants as item
 use Rattle.sql_model.specs.declared.tree.Query.TheVariants as q
 use Rattle.sql_model.specs.declared.tree.Source.TheVariants as source
 use Rattle.sql_model.specs.declared.tree.Entry.{Entry}
@@ -25,6 +29,13 @@ source-Query query relations = refl
 pub source-Named : (name : n.Name) (at : ℕ) (relations : List Heading) → source_columns (source.Named name at) relations ≡ columns_of name relations
 unfolding everything
 source-Named name at relations = refl
+
+-- ---- items that are all columns of one source
+pub all-Star : (at : ℕ) (h : Heading) → item_columns (item.Star at) (h ∷ []) ≡ h.columns
+all-Star at h = append-nil h.columns
+
+pub all-AliasStar : (alias : n.Name) (at : ℕ) (h : Heading) → same_name alias h.alias ≡ true → item_columns (item.AliasStar alias at) (h ∷ []) ≡ h.columns
+all-AliasStar alias at h same = rw same refl
 
 -- ---- blocks
 block_columns-rolled : (d : Bool) (items : List n.Item) (entries : List Entry) (c : Option n.Expr) (g : Option (List n.Expr)) (h : Option n.Expr)
@@ -79,6 +90,21 @@ heading-at (x ∷ es) relations (suc i) e d h is =
 pub list_columns-nil : (from : List Heading) → list_columns [] from ≡ []
 unfolding everything list_columns entries_headings
 list_columns-nil from = refl
+
+-- where the one item is all columns of the one source
+pub all-of-one : (items : List n.Item) (hs : List Heading) (item : n.Item) (h : Heading) → length items ≡ 1 → length hs ≡ 1
+    → item ≡ get_or items 0 item → h ≡ get_or hs 0 h → item_columns item (h ∷ []) ≡ h.columns
+    → list_columns items hs ≡ flat_map (λ h. h.columns) hs
+all-of-one [] hs item h one single item-is h-is all = absurd (omega (arith, one))
+all-of-one (x ∷ y ∷ items) hs item h one single item-is h-is all = absurd (omega (arith, one))
+all-of-one (x ∷ []) [] item h one single item-is h-is all = absurd (omega (arith, single))
+all-of-one (x ∷ []) (k ∷ l ∷ hs) item h one single item-is h-is all = absurd (omega (arith, single))
+all-of-one (x ∷ []) (k ∷ []) item h one single item-is h-is all =
+    let here : item_columns x (k ∷ []) ≡ k.columns =
+    sym (λ j. item_columns (item-is j) (h-is j ∷ [])) ∙ (all ∙ ap (λ h. h.columns) h-is) in
+    list_columns-cons x [] (k ∷ []) ∙ (ap (λ cs. item_columns x (k ∷ []) ++ cs) (list_columns-nil (k ∷ [])) ∙ ap (λ cs. cs ++ []) here)
+
+pub ruleset items = (all-Star, all-AliasStar)
 
 pub ruleset outputs =
     (output-Block, output-Set, source-Named, source-Query, block_columns-fields, list_columns-cons, list_columns-nil, entries_headings-cons, entries_headings-nil)

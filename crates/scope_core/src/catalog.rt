@@ -93,7 +93,7 @@ pub fn known_view<'a>(
     let place = number(views)?;
     Ok(Known {
         name,
-        columns: output_columns(alloc, query, known)?,
+        columns: output_columns(alloc, query, known)?.into_owned(alloc)?,
         stored: Stored::View { place },
     })
 }

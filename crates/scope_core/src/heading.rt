@@ -1,10 +1,12 @@
 //! What stands behind a name of FROM, and the relations that a query can name.
-ghost use Rattle.std.specs.Prelude.{◌≡◌};
+ghost use Rattle.std.specs.Prelude.{◌≡◌, IfOk};
 ghost use Rattle.sql_model.specs.Columns.{same_name};
 ghost use Rattle.scope_core.specs.Held.{columns_held};
 
+use crate::NoMemory;
 use crate::names::Columns;
 use sql_model::Name;
+use std::alloc::Global;
 use std::marker::Model;
 
 /// The columns of a source: those of a relation, lent with their index, or those of a derived table.
@@ -22,6 +24,16 @@ impl<'k, 'a> Held<'k, 'a> {
         match self {
             Held::Lent { columns } => *columns,
             Held::Own { columns } => columns,
+        }
+    }
+
+    /// The columns to keep: lent ones are copied.
+    pub fn into_owned(self, alloc: Global) -> Result<Columns<'a>, NoMemory>
+        ensures { IfOk result (λ columns. columns ≡ columns_held self.entry) }
+    {
+        match self {
+            Held::Lent { columns } => columns.copy(alloc),
+            Held::Own { columns } => Ok(columns),
         }
     }
 }
@@ -55,6 +67,14 @@ impl<'k, 'a> Heading<'k, 'a> {
         ensures { result.now ≡ self.now.columns }
     {
         self.columns.columns()
+    }
+
+    /// Its columns, handed on.
+    pub fn into_columns(self) -> Held<'k, 'a>
+        ensures { columns_held result ≡ self.entry.columns }
+    {
+        let Heading { columns, .. } = self;
+        columns
     }
 
     /// Whether this is its alias.

@@ -98,6 +98,15 @@ impl<'a> Columns<'a> {
         Ok(columns)
     }
 
+    /// The same columns once more.
+    pub fn copy(&self, alloc: Global) -> Result<Columns<'a>, NoMemory>
+        ensures { IfOk result (λ columns. columns ≡ self.now) }
+    {
+        let mut columns = Columns::new(alloc);
+        columns.append(self)?;
+        Ok(columns)
+    }
+
     /// How many columns there are.
     pub fn len(&self) -> usize
         ensures { result ≡ length self.now }

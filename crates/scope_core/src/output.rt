@@ -1,5 +1,5 @@
 //! The columns of a query's answer, by name.
-ghost use Rattle.std.specs.Prelude.{◌≡◌, ◌++◌, ◌∷◌, [], IfOk, OnOk, IfSome, OnErr, map, Some, None, find, option_map};
+ghost use Rattle.std.specs.Prelude.{◌≡◌, ◌++◌, ◌∷◌, [], true, IfOk, OnOk, IfSome, OnErr, map, Some, None, find, length, option_map};
 ghost use Rattle.std.specs.List.{flat_map};
 ghost use Rattle.std.specs.Option.{option_or};
 ghost use Rattle.sql_model.specs.Columns.{same_name};
@@ -12,16 +12,75 @@ use crate::heading::{Heading, Held, Known};
 use crate::names::Columns;
 use sql_model::{Block, Entry, Expr, Item, Name, Query, Source};
 use std::alloc::Global;
+use std::marker::Model;
+
+/// What the columns of a query's answer are made of: the items of the block that names them, over what stands behind the names of its FROM.
+/// They are made where they are wanted, once.
+#[derive(Drop)]
+pub struct Projection<'k, 'a> {
+    items: &'a [Item],
+    headings: Vec<Heading<'k, 'a>>,
+    width: usize,
+}
+
+impl<'k, 'a> Model for Projection<'k, 'a> {
+    ghost use Rattle.std.specs.Prelude.{◌≡◌, List, length};
+    ghost use Rattle.sql_model.specs.Frames.{ColumnName};
+    ghost use Rattle.scope_core.specs.Lent.{list_columns};
+
+    ghost Value = { List ColumnName };
+
+    ghost view = { λ p. list_columns p.items.now p.headings.items };
+
+    ghost invariant = { λ p. p.width ≡ length (list_columns p.items.now p.headings.items) };
+}
+
+impl<'k, 'a> Projection<'k, 'a> {
+    /// These items over these headings; `width` is how many columns they have.
+    pub fn new(
+        items: &'a [Item],
+        headings: Vec<Heading<'k, 'a>>,
+        width: usize,
+    ) -> Projection<'k, 'a>
+        requires { width ≡ length (list_columns items.now headings.items) }
+        ensures { result ≡ list_columns items.entry.now headings.entry.items }
+    {
+        Projection {
+            items,
+            headings,
+            width,
+        }
+    }
+
+    /// How many columns there are.
+    pub fn width(&self) -> usize
+        ensures { result ≡ length self.now }
+    {
+        self.width
+    }
+
+    /// The columns.
+    pub fn into_columns(self, alloc: Global) -> Result<Held<'k, 'a>, NoMemory>
+        ensures { IfOk result (λ c. columns_held c ≡ self.entry) }
+    {
+        let Projection {
+            items,
+            headings,
+            ..
+        } = self;
+        columns_of_items(alloc, items, headings)
+    }
+}
 
 /// The columns of a query, over the relations that it can name.
 #[cycle(output)]
 #[tactic(auto, using(crate::proofs::Outputs::outputs))]
-pub fn output_columns<'a>(
+pub fn output_columns<'k, 'a>(
     alloc: Global,
     query: &'a Query,
-    known: &[Known<'a>],
-) -> Result<Columns<'a>, NoMemory>
-    ensures { IfOk result (λ c. c ≡ output_columns query.now (headings_of known.now)) }
+    known: &'k [Known<'a>],
+) -> Result<Held<'k, 'a>, NoMemory>
+    ensures { IfOk result (λ c. columns_held c ≡ output_columns query.now (headings_of known.now)) }
 {
     match query {
         Query::Block { block } => block_columns(alloc, block.get(), known),
@@ -32,19 +91,15 @@ pub fn output_columns<'a>(
 #[cycle(output)]
 #[inline(never)]
 #[tactic(auto, using(crate::proofs::Outputs::outputs))]
-fn block_columns<'a>(
+fn block_columns<'k, 'a>(
     alloc: Global,
     block: &'a Block,
-    known: &[Known<'a>],
-) -> Result<Columns<'a>, NoMemory>
-    ensures { IfOk result (λ c. c ≡ block_columns block.now (headings_of known.now)) }
+    known: &'k [Known<'a>],
+) -> Result<Held<'k, 'a>, NoMemory>
+    ensures { IfOk result (λ c. columns_held c ≡ block_columns block.now (headings_of known.now)) }
 {
     let headings = entries_headings(alloc, block.entries.as_slice(), known)?;
-    let mut columns = Columns::new(alloc);
-    for item in block.items.as_slice() {
-        add_item(&mut columns, item, headings.as_slice())?;
-    }
-    Ok(columns)
+    columns_of_items(alloc, block.items.as_slice(), headings)
 }
 
 #[cycle(output)]
@@ -69,7 +124,7 @@ fn entries_headings<'k, 'a>(
 #[cycle(output)]
 #[inline(never)]
 #[tactic(auto, using(crate::proofs::Outputs::outputs))]
-pub fn source_columns<'k, 'a>(
+fn source_columns<'k, 'a>(
     alloc: Global,
     source: &'a Source,
     known: &'k [Known<'a>],
@@ -78,14 +133,12 @@ pub fn source_columns<'k, 'a>(
 {
     match source {
         Source::Named { name, .. } => Ok(named_columns(alloc, name, known)),
-        Source::Query { query } => Ok(Held::Own {
-            columns: output_columns(alloc, query.get(), known)?,
-        }),
+        Source::Query { query } => output_columns(alloc, query.get(), known),
     }
 }
 
 /// The columns of the relation of this name, or none.
-fn named_columns<'k, 'a>(alloc: Global, name: &Name, known: &'k [Known<'a>]) -> Held<'k, 'a>
+pub fn named_columns<'k, 'a>(alloc: Global, name: &Name, known: &'k [Known<'a>]) -> Held<'k, 'a>
     ensures { columns_held result ≡ columns_of name.now (headings_of known.entry.now) }
 {
     for relation in known {
@@ -100,8 +153,66 @@ fn named_columns<'k, 'a>(alloc: Global, name: &Name, known: &'k [Known<'a>]) -> 
     }
 }
 
+/// The columns of items over headings. Where they are all columns of one source, its own are handed on.
+#[tactic(auto, using(crate::proofs::Outputs::items))]
+fn columns_of_items<'k, 'a>(
+    alloc: Global,
+    items: &'a [Item],
+    mut headings: Vec<Heading<'k, 'a>>,
+) -> Result<Held<'k, 'a>, NoMemory>
+    ensures { IfOk result (λ c. columns_held c ≡ list_columns items.entry.now headings.entry.items) }
+{
+    if are_all_of_one(items, headings.as_slice()) {
+        if let Some(heading) = headings.pop() {
+            return Ok(heading.into_columns());
+        }
+    }
+    Ok(Held::Own {
+        columns: written_columns(alloc, items, headings.as_slice())?,
+    })
+}
+
+/// Whether items are all columns of a block's only source.
+#[tactic(auto, using(crate::proofs::Outputs::items))]
+fn are_all_of_one(items: &[Item], headings: &[Heading]) -> bool
+    ensures one { result ≡ true → length headings.now ≡ 1 }
+    ensures all { result ≡ true → list_columns items.now headings.now ≡ flat_map (λ h. h.columns) headings.now }
+{
+    if items.len() != 1 {
+        return false;
+    }
+    headings.len() == 1 && is_all(&items[0], &headings[0])
+}
+
+/// Whether an item is all columns of its block's only source.
+#[tactic(auto, using(crate::proofs::Outputs::items))]
+fn is_all(item: &Item, source: &Heading) -> bool
+    ensures { result ≡ true → item_columns item.now (source.now ∷ []) ≡ source.now.columns }
+{
+    match item {
+        Item::Star { .. } => true,
+        Item::AliasStar { alias, .. } => source.is_alias(alias),
+        Item::Value { .. } => false,
+    }
+}
+
+/// The columns of items over headings, one after the other.
+fn written_columns<'a>(
+    alloc: Global,
+    items: &'a [Item],
+    headings: &[Heading<'_, 'a>],
+) -> Result<Columns<'a>, NoMemory>
+    ensures { IfOk result (λ c. c ≡ list_columns items.now headings.now) }
+{
+    let mut columns = Columns::new(alloc);
+    for item in items {
+        add_item(&mut columns, item, headings)?;
+    }
+    Ok(columns)
+}
+
 /// Appends the columns of an item, over the headings of FROM.
-pub fn add_item<'a>(
+fn add_item<'a>(
     columns: &mut Columns<'a>,
     item: &'a Item,
     headings: &[Heading<'_, 'a>],

@@ -4,13 +4,14 @@
 //! small frames: what needs room of its own is kept out of them by `inline(never)`.
 ghost use Rattle.std.specs.Prelude.{◌≡◌, ◌++◌, ◌∷◌, [], ℕ, OnOk, OnErr, IfOk, IfErr, false, true, None, length};
 ghost use Rattle.sql_model.specs.declared.tree.Expr.TheVariants as expr;
-ghost use Rattle.sql_model.specs.Headings.{output_columns};
+ghost use Rattle.sql_model.specs.Headings.{block_columns, output_columns, source_columns};
 ghost use Rattle.scope_core.specs.declared.fault.ScopeFault.TheVariants as fault;
 ghost use Rattle.scope_core.specs.declared.tree.RCond.TheVariants as condition;
 ghost use Rattle.scope_core.specs.declared.fault.ScopeCode.TheVariants as code;
 ghost use Rattle.scope_core.specs.Answer.{IsCause};
 ghost use Rattle.scope_core.specs.Faults.{is_in_group};
 ghost use Rattle.scope_core.specs.FirstFault.{fault_at};
+ghost use Rattle.scope_core.specs.Held.{columns_held};
 ghost use Rattle.scope_core.specs.Lent.{entries_headings, headings_of, levels_of, relations_of};
 ghost use Rattle.scope_core.specs.Parts.{block_fault, conditions_listed, conjuncts_listed, entries_fault, entries_listed, fault_within, item_fault, items_fault, items_listed, on_fault, on_listed, source_fault, truth_fault, truths_fault, value_fault, values_fault, values_listed, written_fault, written_listed, having_listed};
 ghost use Rattle.scope_core.specs.Resolving.{conjunction, conjuncts, conjuncts_written, resolved, resolved_block, resolved_having, resolved_item, resolved_source, resolved_value};
@@ -23,14 +24,21 @@ use crate::checks::{
 use crate::column::resolve_column;
 use crate::fault::{ScopeCode, ScopeFault, number, refused};
 use crate::grouping::{conjunction, resolve_grouping, sight_by};
-use crate::heading::{Heading, Known};
+use crate::heading::{Heading, Held, Known};
 use crate::level::{Levels, Sight};
-use crate::output::{output_columns, source_columns};
+use crate::output::{Projection, named_columns};
 use crate::star::{add_alias_star, add_star};
 use crate::tree::{RBlock, RCond, REntry, RQuery, RSource, RVal};
 use plain_data::{Boxed, List};
 use sql_model::{AggFun, Block, Entry, Expr, Item, Query, SetOp, Source};
 use std::alloc::Global;
+
+/// A resolved tree, and the columns of its answer.
+#[derive(Drop)]
+pub struct Projected<'k, 'a, T> {
+    pub tree: T,
+    pub columns: Projection<'k, 'a>,
+}
 
 /// A value.
 #[cycle(resolve)]
@@ -151,7 +159,7 @@ fn resolve_scalar<'k, 'a>(
                 return Err(refused(ScopeCode::ScalarNotAggregate, at));
             }
             let block = resolve_boxed_block(alloc, block, known, levels)?;
-            Ok(RVal::Sub { block })
+            Ok(RVal::Sub { block: block.tree })
         }
         Query::Set { .. } => Err(refused(ScopeCode::ScalarNotAggregate, at)),
     }
@@ -165,13 +173,17 @@ fn resolve_boxed_block<'k, 'a>(
     block: &'a Boxed<Block>,
     known: &'k [Known<'a>],
     levels: &Levels<'_, 'k, 'a>,
-) -> Result<Boxed<RBlock>, ScopeFault>
+) -> Result<Projected<'k, 'a, Boxed<RBlock>>, ScopeFault>
     ensures fine { IfOk result (λ v. block_fault (relations_of known.now) (levels_of levels.now) block.now ≡ None) }
-    ensures value { IfOk result (λ v. v ≡ resolved_block block.now (relations_of known.now) (levels_of levels.now)) }
+    ensures value { IfOk result (λ v. v.tree ≡ resolved_block block.now (relations_of known.now) (levels_of levels.now)) }
+    ensures columns { IfOk result (λ v. v.columns ≡ block_columns block.now (headings_of known.now)) }
     ensures err { IfErr result (λ f. IsCause f (block_fault (relations_of known.now) (levels_of levels.now) block.now)) }
 {
     let block = resolve_block(alloc, block.get(), known, levels)?;
-    Ok(Boxed::new(alloc, block)?)
+    Ok(Projected {
+        tree: Boxed::new(alloc, block.tree)?,
+        columns: block.columns,
+    })
 }
 
 /// A condition: an AND of its conjuncts, where it has more than one.
@@ -211,11 +223,11 @@ fn resolve_condition<'k, 'a>(
         } => {
             check_subquery(*at, levels)?;
             let value = resolve_value(alloc, value.get(), known, levels)?;
-            let resolved = resolve_boxed_query(alloc, query, known, levels)?;
-            check_one_column(alloc, query, *in_at, known)?;
+            let query = resolve_boxed_query(alloc, query, known, levels)?;
+            check_widths(1, query.columns.width(), *in_at)?;
             Ok(RCond::In {
                 value,
-                query: resolved,
+                query: query.tree,
             })
         }
         Expr::Col { at, .. } => Err(refused(ScopeCode::NotTruth, *at)),
@@ -264,7 +276,7 @@ fn resolve_exists<'k, 'a>(
 {
     check_subquery(at, levels)?;
     let query = resolve_boxed_query(alloc, query, known, levels)?;
-    Ok(RCond::Exists { query })
+    Ok(RCond::Exists { query: query.tree })
 }
 
 #[cycle(resolve)]
@@ -385,82 +397,60 @@ fn resolve_boxed_query<'k, 'a>(
     query: &'a Boxed<Query>,
     known: &'k [Known<'a>],
     levels: &Levels<'_, 'k, 'a>,
-) -> Result<Boxed<RQuery>, ScopeFault>
+) -> Result<Projected<'k, 'a, Boxed<RQuery>>, ScopeFault>
     ensures fine { IfOk result (λ v. fault_within (relations_of known.now) (levels_of levels.now) query.now ≡ None) }
-    ensures value { IfOk result (λ v. v ≡ resolved query.now (relations_of known.now) (levels_of levels.now)) }
+    ensures value { IfOk result (λ v. v.tree ≡ resolved query.now (relations_of known.now) (levels_of levels.now)) }
+    ensures columns { IfOk result (λ v. v.columns ≡ output_columns query.now (headings_of known.now)) }
     ensures err { IfErr result (λ f. IsCause f (fault_within (relations_of known.now) (levels_of levels.now) query.now)) }
 {
     let query = resolve_query(alloc, query.get(), known, levels)?;
-    Ok(Boxed::new(alloc, query)?)
+    Ok(Projected {
+        tree: Boxed::new(alloc, query.tree)?,
+        columns: query.columns,
+    })
 }
 
-/// A query within the blocks around it.
+/// A query within the blocks around it. The columns of a set are those of its left operand.
 #[cycle(resolve)]
-#[tactic(auto, using(crate::proofs::Queries::laws))]
+#[tactic(auto, using(crate::proofs::Queries::laws, crate::proofs::Outputs::outputs))]
 pub fn resolve_query<'k, 'a>(
     alloc: Global,
     query: &'a Query,
     known: &'k [Known<'a>],
     levels: &Levels<'_, 'k, 'a>,
-) -> Result<RQuery, ScopeFault>
+) -> Result<Projected<'k, 'a, RQuery>, ScopeFault>
     ensures fine { IfOk result (λ v. fault_within (relations_of known.now) (levels_of levels.now) query.now ≡ None) }
-    ensures value { IfOk result (λ v. v ≡ resolved query.now (relations_of known.now) (levels_of levels.now)) }
+    ensures value { IfOk result (λ v. v.tree ≡ resolved query.now (relations_of known.now) (levels_of levels.now)) }
+    ensures columns { IfOk result (λ v. v.columns ≡ output_columns query.now (headings_of known.now)) }
     ensures err { IfErr result (λ f. IsCause f (fault_within (relations_of known.now) (levels_of levels.now) query.now)) }
 {
     match query {
-        Query::Block { block } => Ok(RQuery::Block {
-            block: resolve_boxed_block(alloc, block, known, levels)?,
-        }),
+        Query::Block { block } => {
+            let block = resolve_boxed_block(alloc, block, known, levels)?;
+            Ok(Projected {
+                tree: RQuery::Block { block: block.tree },
+                columns: block.columns,
+            })
+        }
         Query::Set {
             op,
             left,
             right,
             at,
         } => {
-            let resolved_left = resolve_boxed_query(alloc, left, known, levels)?;
-            let resolved_right = resolve_boxed_query(alloc, right, known, levels)?;
-            check_operands(alloc, left, right, *at, known)?;
-            Ok(RQuery::Set {
-                op: *op,
-                left: resolved_left,
-                right: resolved_right,
+            let left = resolve_boxed_query(alloc, left, known, levels)?;
+            let right = resolve_boxed_query(alloc, right, known, levels)?;
+            check_widths(left.columns.width(), right.columns.width(), *at)?;
+            Ok(Projected {
+                tree: RQuery::Set {
+                    op: *op,
+                    left: left.tree,
+                    right: right.tree,
+                },
+                columns: left.columns,
             })
         }
     }
-}
-
-/// That the operands of a set operator have one width.
-#[inline(never)]
-#[tactic(auto, using(crate::proofs::Columns::causes))]
-fn check_operands<'k, 'a>(
-    alloc: Global,
-    left: &'a Boxed<Query>,
-    right: &'a Boxed<Query>,
-    at: u32,
-    known: &'k [Known<'a>],
-) -> Result<(), ScopeFault>
-    ensures fine { OnOk result (fault_at (TwoWidths (length (output_columns left.now (headings_of known.now))) (length (output_columns right.now (headings_of known.now))) at) ≡ None) }
-    ensures err { IfErr result (λ f. IsCause f (fault_at (TwoWidths (length (output_columns left.now (headings_of known.now))) (length (output_columns right.now (headings_of known.now))) at))) }
-{
-    let left_columns = output_columns(alloc, left.get(), known)?;
-    let right_columns = output_columns(alloc, right.get(), known)?;
-    check_widths(left_columns.len(), right_columns.len(), at)
-}
-
-/// That the query of an IN has one column.
-#[inline(never)]
-#[tactic(auto, using(crate::proofs::Columns::causes))]
-fn check_one_column<'k, 'a>(
-    alloc: Global,
-    query: &'a Boxed<Query>,
-    at: u32,
-    known: &'k [Known<'a>],
-) -> Result<(), ScopeFault>
-    ensures fine { OnOk result (fault_at (TwoWidths 1 (length (output_columns query.now (headings_of known.now))) at) ≡ None) }
-    ensures err { IfErr result (λ f. IsCause f (fault_at (TwoWidths 1 (length (output_columns query.now (headings_of known.now))) at))) }
-{
-    let columns = output_columns(alloc, query.get(), known)?;
-    check_widths(1, columns.len(), at)
 }
 
 /// A block: its entries, then what stands in ON and WHERE, GROUP BY, the items and HAVING.
@@ -472,9 +462,10 @@ fn resolve_block<'k, 'a>(
     block: &'a Block,
     known: &'k [Known<'a>],
     levels: &Levels<'_, 'k, 'a>,
-) -> Result<RBlock, ScopeFault>
+) -> Result<Projected<'k, 'a, RBlock>, ScopeFault>
     ensures fine { IfOk result (λ v. block_fault (relations_of known.now) (levels_of levels.now) block.now ≡ None) }
-    ensures value { IfOk result (λ v. v ≡ resolved_block block.now (relations_of known.now) (levels_of levels.now)) }
+    ensures value { IfOk result (λ v. v.tree ≡ resolved_block block.now (relations_of known.now) (levels_of levels.now)) }
+    ensures columns { IfOk result (λ v. v.columns ≡ block_columns block.now (headings_of known.now)) }
     ensures err { IfErr result (λ f. IsCause f (block_fault (relations_of known.now) (levels_of levels.now) block.now)) }
 {
     let entries = block.entries.as_slice();
@@ -499,13 +490,18 @@ fn resolve_block<'k, 'a>(
     };
     let items = resolve_items(alloc, block.items.as_slice(), &*known, &output)?;
     let having = resolve_having(alloc, &block.having, &*known, &output)?;
-    Ok(RBlock {
+    let width = items.len();
+    let tree = RBlock {
         distinct: block.distinct,
         entries: from.entries,
         conds: List::from_vec(conds),
         grouping,
         having,
         items,
+    };
+    Ok(Projected {
+        tree,
+        columns: Projection::new(block.items.as_slice(), from.headings, width),
     })
 }
 
@@ -535,10 +531,12 @@ fn resolve_entries<'k, 'a>(
     for entry in entries {
         let source = resolve_source(alloc, &entry.source, known, levels)?;
         check_alias(&entry.alias, entry.at, headings.as_slice())?;
-        let columns = source_columns(alloc, &entry.source, known)?;
-        let width = number(columns.columns().len())?;
-        resolved.push(REntry { source, width })?;
-        headings.push(Heading::new(&entry.alias, columns))?;
+        let width = number(source.columns.columns().len())?;
+        resolved.push(REntry {
+            source: source.tree,
+            width,
+        })?;
+        headings.push(Heading::new(&entry.alias, source.columns))?;
     }
     Ok(FromClause {
         entries: List::from_vec(resolved),
@@ -546,24 +544,39 @@ fn resolve_entries<'k, 'a>(
     })
 }
 
+/// What an entry takes its rows from, and its columns.
+#[derive(Drop)]
+struct FromSource<'k, 'a> {
+    tree: RSource,
+    columns: Held<'k, 'a>,
+}
+
 #[cycle(resolve)]
 #[inline(never)]
-#[tactic(auto, using(crate::proofs::Queries::laws))]
+#[tactic(auto, using(crate::proofs::Queries::laws, crate::proofs::Outputs::outputs))]
 fn resolve_source<'k, 'a>(
     alloc: Global,
     source: &'a Source,
     known: &'k [Known<'a>],
     levels: &Levels<'_, 'k, 'a>,
-) -> Result<RSource, ScopeFault>
+) -> Result<FromSource<'k, 'a>, ScopeFault>
     ensures fine { IfOk result (λ v. source_fault (relations_of known.now) (levels_of levels.now) source.now ≡ None) }
-    ensures value { IfOk result (λ v. v ≡ resolved_source source.now (relations_of known.now) (levels_of levels.now)) }
+    ensures value { IfOk result (λ v. v.tree ≡ resolved_source source.now (relations_of known.now) (levels_of levels.now)) }
+    ensures columns { IfOk result (λ v. columns_held v.columns ≡ source_columns source.now (headings_of known.now)) }
     ensures err { IfErr result (λ f. IsCause f (source_fault (relations_of known.now) (levels_of levels.now) source.now)) }
 {
     match source {
-        Source::Named { name, at } => resolve_name(name, *at, known),
-        Source::Query { query } => Ok(RSource::Query {
-            query: resolve_boxed_query(alloc, query, known, levels)?,
+        Source::Named { name, at } => Ok(FromSource {
+            tree: resolve_name(name, *at, known)?,
+            columns: named_columns(alloc, name, known),
         }),
+        Source::Query { query } => {
+            let query = resolve_boxed_query(alloc, query, known, levels)?;
+            Ok(FromSource {
+                columns: query.columns.into_columns(alloc)?,
+                tree: RSource::Query { query: query.tree },
+            })
+        }
     }
 }
 

@@ -81,8 +81,8 @@ fn resolve_over<'k, 'a>(
     ensures err { IfErr result (λ f. IsCause f (fault_within (relations_of known.now) [] query.now)) }
 {
     let outside: Levels<'k, 'k, 'a> = Levels::Outside;
-    let tree = resolve_query(alloc, query, known, &outside)?;
-    Resolved::new(tree)
+    let query = resolve_query(alloc, query, known, &outside)?;
+    Resolved::new(query.tree)
 }
 
 /// Appends a relation to those that are known, and its tree where it is a view.

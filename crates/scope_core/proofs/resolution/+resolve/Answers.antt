@@ -5,11 +5,11 @@ use Rattle.sql_model.specs.Headings.{item_columns, source_columns}
 use Rattle.sql_model.specs.Headings.{Heading as TheHeading}
 use Rattle.scope_core.specs.FirstFault.{fault_at}
 use Rattle.scope_core.specs.Sites.{AnAlias, Outputs}
-use Rattle.scope_core.proofs.Fronts.{entries_fault-cons, entries_fault-nil, entries_listed-cons, entries_listed-nil, items_fault-cons, items_fault-nil, items_listed-cons, items_listed-nil, length-resolved_item, on_fault-cons, on_fault-nil, on_listed-cons, on_listed-nil, seen-apart, seen-joined, seen_by}
+use Rattle.scope_core.proofs.Fronts.{entries_fault-cons, entries_fault-nil, entries_listed-cons, entries_listed-nil, items_fault-cons, items_fault-nil, items_listed-cons, items_listed-nil, length-items_listed, length-resolved_item, on_fault-cons, on_fault-nil, on_listed-cons, on_listed-nil, seen-apart, seen-joined, seen_by}
 use Rattle.scope_core.specs.Scope.{AsRows, Level, headings_here, no_entry}
-use Rattle.scope_core.proofs.Outputs.{entries_headings-cons, entries_headings-nil, length-entries_headings}
+use Rattle.scope_core.proofs.Outputs.{block_columns-fields, entries_headings-cons, entries_headings-nil, length-entries_headings}
 use Rattle.scope_core.specs.Answer.{IsCause}
-use Rattle.scope_core.specs.Lent.{entries_headings, headings_of, levels_of, relations_of}
+use Rattle.scope_core.specs.Lent.{entries_headings, headings_of, levels_of, list_columns, relations_of}
 use Rattle.scope_core.specs.Parts.{conditions_listed, conjuncts_listed, entries_fault, entries_listed, items_fault, items_listed, on_fault, on_listed, truths_fault, values_fault, values_listed, written_fault, written_listed}
 use Rattle.scope_core.specs.Resolving.{conjunction, conjuncts, entry_of, resolved_item, resolved_source, resolved_value}
 use Rattle.scope_core.proofs.Lists.{at-head, at-end, between, walk-step, walk-end}
@@ -185,7 +185,7 @@ resolve_entries-loop-entry-preserved t c =
     let alias_is_new = subst P c.as_slice.ensures.value c.in_ok-check_alias.ensures.fine in
     let aliases = ap (λ hs. map (λ h. h.alias) hs) (c.in_ok-push-2.ensures.items ∙ ap (λ h. hs ++ h ∷ []) c.new.ensures) ∙ map-append (λ h. h.alias) hs _ in
     let wide : c.in_ok-width.width ≡ length (source_columns e.source relations) =
-    c.in_ok-width.ensures.fits ∙ (c.len.ensures ∙ ap (λ cs. length cs) (c.columns.ensures ∙ c.in_ok-columns.ensures)) in (
+    c.in_ok-width.ensures.fits ∙ (c.len.ensures ∙ ap (λ cs. length cs) (c.columns.ensures ∙ c.in_ok-source.ensures.columns)) in (
       ap (λ names. entries_fault K L names (drop (i + 1) xs)) aliases
           ∙ (sym (eq ∙ (ap (λ o. option_or o (option_or (fault_at (AnAlias e.alias before e.at)) rest)) c.in_ok-source.ensures.fine ∙ ap (λ o. option_or o rest) alias_is_new))
           ∙ c.loop-entry.invariant.0),
@@ -197,7 +197,7 @@ resolve_entries-loop-entry-preserved t c =
       walk-step (λ es. entries_headings es relations) xs i e _ _ (record { alias = e.alias; columns = source_columns e.source relations } ∷ []) _
           c.loop-entry-test.true c.entry-item.is (entries_headings-cons e _ relations)
           (c.in_ok-push-2.ensures.items
-          ∙ ap (λ h. hs ++ h ∷ []) (c.new.ensures ∙ ap (λ cs. record { alias = e.alias; columns = cs }) c.in_ok-columns.ensures)) c.loop-entry.invariant.2,
+          ∙ ap (λ h. hs ++ h ∷ []) (c.new.ensures ∙ ap (λ cs. record { alias = e.alias; columns = cs }) c.in_ok-source.ensures.columns)) c.loop-entry.invariant.2,
     )
 
 pub resolve_entries-returns-clause-fine : goal.resolve_entries-returns-clause-fine
@@ -379,3 +379,17 @@ add_on_conditions-loop-index-preserved t c =
           ∙ (append_assoc made _ _ ∙ (ap (λ r. made ++ r) (sym (listed ∙ (λ j. written_listed K (here j ∷ L) e.on ++ on_listed K L (more j) (next j) rest))) ∙ c.loop-index.invariant.1)),
       low,
     )
+
+pub resolve_block-new-requires : goal.resolve_block-new-requires
+resolve_block-new-requires t c =
+    let same = c.as_slice-2.ensures ∙ sym c.as_slice-3.ensures in
+    c.len-width.ensures
+    ∙ (ap (λ vs. length vs) c.in_ok-items.ensures.value
+    ∙ (length-items_listed c.as_slice-2.result.now (relations_of c.args.known.now) _
+    ∙ (λ i. length (list_columns (same i) (c.as_slice-headings.ensures.value i)))))
+
+pub resolve_block-returns-clause-columns : goal.resolve_block-returns-clause-columns
+resolve_block-returns-clause-columns t c =
+    c.new.ensures
+    ∙ (rw (c.as_slice-3.ensures, c.in_ok-from.ensures.headings, c.as_slice-entries.ensures)
+    (sym (block_columns-fields c.args.block.now (headings_of c.args.known.now))))
