@@ -30,6 +30,8 @@ ROWS = [
     ("opposite leaves, once", inputs.opposite_leaves, 1),
     ("opposite leaves, 20 times", inputs.opposite_leaves, 20),
     ("depth 2,048, 500 times", inputs.deep_sums, 500),
+    ("long lists, once", inputs.long_lists, 1),
+    ("long lists, in 60 places", inputs.long_lists, 60),
     ("widest case", inputs.widest_case, 114),
 ]
 

@@ -121,6 +121,16 @@ def deep_sums(case, proof, times):
     write_proof(proof, 1, there_and_back(ROW, left, right, ROW, times))
 
 
+def long_lists(case, proof, places):
+    """Steps whose argument has a list of 131,073 values, in each line one place further."""
+    write_case(case, [("r", ["a"])], [["r"], ["r"]])
+    long = f"F0({','.join(['f0'] * 131_073)})"
+    terms = (f"P0({'F0(f0),' * place}{long})" for place in range(places))
+    steps = (f"/r {way} sq_one {term}\n" for term in terms for way in "<>")
+    there, back = f"/ > mul_ac {ROW} *({ROW},1)\n", f"/ > mul_ac *({ROW},1) {ROW}\n"
+    write_proof(proof, 1, [there, *steps, back])
+
+
 def widest_case(case, proof, name_length):
     """As many tables, columns and blocks as a case has, under long names, and one step that turns the blocks round."""
     named = lambda letter, number: f"{letter}{number:0{name_length - 1}}"
