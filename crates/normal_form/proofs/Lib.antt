@@ -1,0 +1,9 @@
+pub mod Rows
+pub mod KindsAt
+pub mod WaysAt
+pub mod Lists
+pub mod Leaves
+pub mod Ordered
+pub mod Renamed
+pub mod Loose
+pub mod Merged

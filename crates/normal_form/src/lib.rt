@@ -1,0 +1,12 @@
+//! The sum-product normal form of terms: what it is, how many blocks a term may have in it, and the two steps that put a term in order:
+//! a sum of blocks in one row, and the factors of a product by their kinds.
+#![tactic(auto)]
+
+mod counting;
+mod kind;
+mod order;
+
+pub use counting::ways;
+pub use kind::{Kind, kind_of};
+pub use order::{Groups, count_of, in_groups, in_order, in_row};
+pub use std::alloc::AllocError as NoMemory;
