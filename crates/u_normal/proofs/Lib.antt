@@ -1,0 +1,3 @@
+pub mod KnownParts
+pub mod Led
+pub mod Merged
