@@ -1,0 +1,78 @@
+-- How large the terms are in which an equality is gained.
+use Rattle.std.proofs.Common.{◌≡◌, ℕ, zero, suc, ◌+◌, ◌≤◌, max, List, [], ◌∷◌, ◌++◌, length, ap, arith}
+use Rattle.std.specs.Prelude.{Some, slice_get}
+use Rattle.std.proofs.lemmas.List.{length-append}
+use Rattle.std.proofs.lemmas.List.Sums.{sum_by-cons, sum_by-append}
+use Rattle.std.proofs.lemmas.Option.{none-some, same_Some}
+use Rattle.data_model.specs.Lists.{Each}
+use Rattle.u_terms.specs.Syntax.{U, Zero, One, Add, Mul, Squash, Not, Sum, Rel, Eq, Pred}
+use Rattle.u_terms.specs.Products.{product_of}
+use Rattle.u_terms.specs.Size.{nodes, depth}
+use Rattle.u_terms.proofs.Sizes.{nodes-Mul, depth-Mul}
+use Rattle.u_rules.specs.Terms.{mul_leaves}
+use Rattle.u_entail.specs.Spines.{spine, weight}
+use Rattle.u_entail.proofs.Parts.{each-weaker, each-append}
+
+weight-append : (xs ys : List U) → weight (xs ++ ys) ≡ weight xs + weight ys
+weight-append xs ys = omega (arith, sum_by-append nodes xs ys, length-append xs ys)
+
+weight-one : (x : U) → weight (x ∷ []) ≡ nodes x + 1
+weight-one x = omega (arith, sum_by-cons nodes x [])
+
+-- the leaves of a product weigh as much as the product, and one more where there are any
+pub weight-leaves : (u : U) → weight (mul_leaves u) ≤ nodes u + 1
+unfolding mul_leaves nodes
+weight-leaves Zero = omega (arith, weight-one Zero)
+weight-leaves One = omega arith
+weight-leaves (Add a b) = omega (arith, weight-one (Add a b))
+weight-leaves (Mul a b) = omega (arith, weight-append (mul_leaves a) (mul_leaves b), weight-leaves a, weight-leaves b)
+weight-leaves (Squash a) = omega (arith, weight-one (Squash a))
+weight-leaves (Not a) = omega (arith, weight-one (Not a))
+weight-leaves (Sum body) = omega (arith, weight-one (Sum body))
+weight-leaves (Rel table shape arguments) = omega (arith, weight-one (Rel table shape arguments))
+weight-leaves (Eq a b) = omega (arith, weight-one (Eq a b))
+weight-leaves (Pred symbol shape arguments) = omega (arith, weight-one (Pred symbol shape arguments))
+
+abbrev pub AreWithin : ℕ → List U → Type 0
+AreWithin most = Each (λ x. depth x ≤ most)
+
+wider : (m n : ℕ) → m ≤ n → (xs : List U) → AreWithin m xs → AreWithin n xs
+wider m n le xs each = each-weaker (λ x. depth x ≤ m) (λ x. depth x ≤ n) (λ x h. omega (arith, h)) xs each
+
+pub depth-leaves : (u : U) → AreWithin (depth u) (mul_leaves u)
+unfolding mul_leaves depth
+depth-leaves Zero = (omega arith, tt)
+depth-leaves One = tt
+depth-leaves (Add a b) = (omega arith, tt)
+depth-leaves (Mul a b) =
+    each-append (λ x. depth x ≤ 1 + max (depth a) (depth b)) (mul_leaves a) (mul_leaves b) (wider (depth a) (1 + max (depth a) (depth b)) (omega arith) (mul_leaves a) (depth-leaves a))
+    (wider (depth b) (1 + max (depth a) (depth b)) (omega arith) (mul_leaves b) (depth-leaves b))
+depth-leaves (Squash a) = (omega arith, tt)
+depth-leaves (Not a) = (omega arith, tt)
+depth-leaves (Sum body) = (omega arith, tt)
+depth-leaves (Rel table shape arguments) = (omega arith, tt)
+depth-leaves (Eq a b) = (omega arith, tt)
+depth-leaves (Pred symbol shape arguments) = (omega arith, tt)
+
+pub depth-spine : (most : ℕ) (xs : List U) (last : U) → AreWithin most xs → depth (spine xs last) ≤ length xs + max most (depth last)
+depth-spine most [] last each = omega arith
+depth-spine most (x ∷ xs) last each = omega (arith, depth-Mul x (spine xs last), each.0, depth-spine most xs last each.1)
+
+-- ---- the factors of a product that leans to the right
+pub weight-product : (xs : List U) → weight xs ≤ nodes (product_of xs) + 1
+weight-product [] = omega arith
+weight-product (x ∷ []) = omega (arith, weight-one x)
+weight-product (x ∷ (y ∷ xs)) = omega (arith, nodes-Mul x (product_of (y ∷ xs)), sum_by-cons nodes x (y ∷ xs), weight-product (y ∷ xs))
+
+pub depth-product : (xs : List U) → AreWithin (depth (product_of xs)) xs
+depth-product [] = tt
+depth-product (x ∷ []) = (omega arith, tt)
+depth-product (x ∷ (y ∷ xs)) =
+    let d = depth-Mul x (product_of (y ∷ xs)) in
+    (omega (arith, d), wider (depth (product_of (y ∷ xs))) (depth (product_of (x ∷ (y ∷ xs)))) (omega (arith, d)) (y ∷ xs) (depth-product (y ∷ xs)))
+
+-- ---- one of the factors
+pub weight-at : (xs : List U) (i : ℕ) (x : U) → slice_get xs i ≡ Some x → nodes x + 1 ≤ weight xs
+weight-at [] i x at = absurd (none-some x at)
+weight-at (y ∷ ys) zero x at = omega (arith, ap nodes (same_Some y x at), sum_by-cons nodes y ys)
+weight-at (y ∷ ys) (suc i) x at = omega (arith, weight-at ys i x at, sum_by-cons nodes y ys)

@@ -1,0 +1,91 @@
+-- What a chain of the product's classes says of the answer.
+use Rattle.std.proofs.Common.{◌≡◌, ℕ, ◌<◌, ◌^◌, List, [], ◌∷◌, ◌++◌, Option, Some, None, length, true, false, ap, sym, ◌∙◌, subst, arith}
+use Rattle.std.specs.Prelude.{◌↔◌, IsTrue, Bool}
+use Rattle.std.proofs.lemmas.Bool.{true≢false}
+use Rattle.std.proofs.lemmas.List.{append-nil}
+use Rattle.data_model.specs.Lists.{Each}
+use Rattle.u_terms.specs.Syntax.{U, Zero, One, Add, Mul, Squash, Not, Sum, Rel, Eq, Pred, Val}
+use Rattle.u_terms.specs.Names.{EachName}
+use Rattle.u_terms.specs.Places.{IsClosed}
+use Rattle.u_terms.specs.Products.{product_of}
+use Rattle.u_terms.specs.declared.facts.Facts.{Facts}
+use Rattle.u_rules.specs.Terms.{◌⊗◌, ◌≐◌, mul_leaves}
+use Rattle.u_equal.specs.declared.link.Link.{Link}
+use Rattle.u_equal.specs.Entails.{Entails}
+use Rattle.u_equal.specs.Links.{IsChain}
+use Rattle.u_moves.specs.Derivations.{Derivation, IsKnown}
+use Rattle.u_moves.specs.Moving.{IsKnownValue}
+use Rattle.u_entail.specs.Following.{AreFactors, AreGiven, LeadsBy}
+use Rattle.u_entail.specs.Gaining.{IsThroughCalls, IsGainedBy, IsGained, IsWidened, Derives, Appends, Begins}
+use Rattle.u_entail.proofs.Leading.{leads-entail, leads-given, leads-by}
+use Rattle.u_entail.proofs.Gained.{by-links, by-chain, by-entailment, product-appended}
+use Rattle.u_entail.proofs.Parts.{each-append}
+
+module _ (product classes : U) (is : classes ≡ product) (a b : Val) (found : Option (List Link)) (chain : IsChain classes a b found) where
+  of_product : IsChain product a b found
+  of_product = subst (λ (p : U). IsChain p a b found) is chain
+
+  pub no-chain : found ≡ None → Entails product a b → ⊥
+  no-chain none = subst (λ (f : Option (List Link)). IsChain product a b f) none of_product
+
+  module _ (links : List Link) (some : found ≡ Some links) where
+    pub the-chain : IsChain product a b (Some links)
+    the-chain = subst (λ (f : Option (List Link)). IsChain product a b f) some of_product
+
+    pub through-calls : (AreGiven links → ⊥) → IsThroughCalls product a b
+    through-calls calls = (leads-entail product a b links the-chain.0, λ none. calls (leads-given product none a b links the-chain.0))
+
+    pub chain-leads : (factors : List U) → Begins product factors → LeadsBy factors a links b
+    chain-leads factors begins = leads-by product factors begins.rest begins.is a b links the-chain.0
+
+    pub derives : (facts : Facts) (outs : ℕ) (factors : List U) → factors ≡ mul_leaves product → (d : Derivation)
+        → IsGainedBy facts outs factors product (product ⊗ (a ≐ b)) a b links 3 d → Derives facts outs product a b d
+    derives facts outs factors leaves d g =
+        let h = subst (λ (xs : List U). IsGainedBy facts outs xs product (product ⊗ (a ≐ b)) a b links 3 d) leaves g in
+        record {
+          entailed = by-entailment facts outs product (mul_leaves product) product (product ⊗ (a ≐ b)) a b links 3 d the-chain h;
+          leads = h.leads;
+          links = by-links facts outs product (mul_leaves product) product (product ⊗ (a ≐ b)) a b links 3 d the-chain h;
+          short = by-chain facts outs product (mul_leaves product) product (product ⊗ (a ≐ b)) a b links 3 d the-chain h;
+        }
+
+    pub appends : (facts : Facts) (outs : ℕ) (factors : List U) → IsKnownValue outs a → (first d : Derivation) → IsWidened facts outs factors first → IsGained factors a b links first d
+        → Appends facts outs product factors a b d
+    appends facts outs factors known first d w g =
+        let last : U = product_of (factors ++ (a ≐ b) ∷ []) in
+        let h = product-appended facts outs factors a b known links first d w g in
+        record {
+          entailed = by-entailment facts outs product factors (product_of factors) last a b links 2 d the-chain h;
+          leads = h.leads;
+          links = by-links facts outs product factors (product_of factors) last a b links 2 d the-chain h;
+          short = by-chain facts outs product factors (product_of factors) last a b links 2 d the-chain h;
+        }
+
+pub all-leaves : (product : U) (factors : List U) → factors ≡ mul_leaves product → Begins product factors
+all-leaves product factors is = record { rest = []; is = is ∙ sym (append-nil (mul_leaves product)) }
+
+leaves-known : (outs : ℕ) (u : U) → IsKnown 0 outs u → Each (IsKnown 0 outs) (mul_leaves u)
+unfolding mul_leaves IsClosed EachName
+leaves-known outs Zero k = (k, tt)
+leaves-known outs One k = tt
+leaves-known outs (Add a b) k = (k, tt)
+leaves-known outs (Mul a b) k =
+    each-append (IsKnown 0 outs) (mul_leaves a) (mul_leaves b) (leaves-known outs a (record { closed = k.closed.0; named = k.named.0 })) (leaves-known outs b (record { closed = k.closed.1; named = k.named.1 }))
+leaves-known outs (Squash a) k = (k, tt)
+leaves-known outs (Not a) k = (k, tt)
+leaves-known outs (Sum body) k = (k, tt)
+leaves-known outs (Rel table shape arguments) k = (k, tt)
+leaves-known outs (Eq a b) k = (k, tt)
+leaves-known outs (Pred symbol shape arguments) k = (k, tt)
+
+pub are-factors : (outs : ℕ) (product : U) (factors : List U) → factors ≡ mul_leaves product → IsKnown 0 outs product → length (mul_leaves product) < 2 ^ 32 → AreFactors outs factors
+are-factors outs product factors is known few = record {
+  known = subst (λ (xs : List U). Each (IsKnown 0 outs) xs) (sym is) (leaves-known outs product known);
+  few = omega (arith, few, ap length is);
+}
+
+pub not-given : (b : Bool) (links : List Link) → IsTrue b ↔ AreGiven links → b ≡ false → AreGiven links → ⊥
+not-given b links tells is given = true≢false (sym (tells.1 given) ∙ is)
+
+pub all-given : (b : Bool) (links : List Link) → IsTrue b ↔ AreGiven links → b ≡ true → AreGiven links
+all-given b links tells is = tells.0 is

@@ -1,0 +1,309 @@
+-- An equality in the place of a last factor 1: how it is gained, and how large the terms on the way are.
+use Rattle.std.proofs.Common.{◌≡◌, ℕ, ◌+◌, ◌*◌, ◌^◌, ◌<◌, ◌≤◌, max, List, [], ◌∷◌, ◌++◌, length, refl, ap, sym, ◌∙◌, subst, arith}
+use Rattle.std.specs.Prelude.{Some, slice_get, IsPermutation}
+use Rattle.std.proofs.lemmas.List.{append-nil, length-append}
+use Rattle.std.proofs.lemmas.List.Sorted.{IsPermutation-refl}
+use Rattle.data_model.specs.Lists.{Each}
+use Rattle.u_terms.specs.Syntax.{U, Zero, One, Add, Mul, Squash, Not, Sum, Rel, Eq, Pred, Val}
+use Rattle.u_terms.specs.Products.{product_of}
+use Rattle.u_terms.specs.Size.{nodes, depth}
+use Rattle.u_terms.specs.declared.facts.Facts.{Facts}
+use Rattle.u_terms.proofs.Sizes.{nodes-Mul, nodes-Eq, nodes-One, depth-Mul, depth-Eq, depth-One}
+use Rattle.u_rules.specs.Terms.{◌⊗◌, ◌≐◌, I, put, mul_leaves}
+use Rattle.u_rules.proofs.LeavesAt.{mul_leaves-Mul, mul_leaves-One}
+use Rattle.u_deriv.specs.declared.step.Step.{Step}
+use Rattle.u_equal.specs.declared.link.Link.{Link}
+use Rattle.u_equal.specs.Entails.{Entails}
+use Rattle.u_equal.specs.Links.{IsChain}
+use Rattle.u_moves.specs.Derivations.{Derivation, IsKnown, IsWithin, IsOneStep, IsStill, IsJoined}
+use Rattle.u_moves.specs.Moving.{IsKnownValue}
+use Rattle.u_entail.specs.declared.following.Followed.{Followed}
+use Rattle.u_entail.specs.Following.{AreFactors, AreGiven, IsBounded, IsFollowed, LeadsBy, SidesWithin, Stands}
+use Rattle.u_entail.specs.Gaining.{with_place, IsGained, IsGainedBy, IsRegrouped, HasStepsOf, IsShort, IsWidened}
+use Rattle.u_entail.specs.Spines.{spine, weight, IsMadeBehind}
+use Rattle.u_entail.proofs.Bounds.{AreWithin, weight-at, weight-leaves, weight-product, depth-leaves, depth-product, depth-spine}
+use Rattle.u_entail.proofs.Leading.{leads-entail, leads-given, count-given}
+use Rattle.u_entail.proofs.Parts.{each-at, each-append, each-parts, place-put, spine-known}
+use Rattle.u_entail.proofs.Spines.{nodes-spine, depth-behind, spine-append, product-spine}
+
+-- ---- leaves
+abbrev IsLeaf : U → Type 0
+IsLeaf u = mul_leaves u ≡ u ∷ []
+
+pub leaves-leaves : (u : U) → Each IsLeaf (mul_leaves u)
+unfolding mul_leaves
+leaves-leaves Zero = (refl, tt)
+leaves-leaves One = tt
+leaves-leaves (Add a b) = (refl, tt)
+leaves-leaves (Mul a b) = each-append IsLeaf (mul_leaves a) (mul_leaves b) (leaves-leaves a) (leaves-leaves b)
+leaves-leaves (Squash a) = (refl, tt)
+leaves-leaves (Not a) = (refl, tt)
+leaves-leaves (Sum body) = (refl, tt)
+leaves-leaves (Rel table shape arguments) = (refl, tt)
+leaves-leaves (Eq a b) = (refl, tt)
+leaves-leaves (Pred symbol shape arguments) = (refl, tt)
+
+leaves-spine : (xs : List U) (last : U) → Each IsLeaf xs → mul_leaves (spine xs last) ≡ xs ++ mul_leaves last
+leaves-spine [] last each = refl
+leaves-spine (x ∷ xs) last each =
+    mul_leaves-Mul x (spine xs last) ∙ ap (λ us. us ++ mul_leaves (spine xs last)) each.0 ∙ ap (λ us. x ∷ us) (leaves-spine xs last each.1)
+
+as-often : (xs ys : List U) → xs ≡ ys → IsPermutation xs ys
+as-often xs ys e = subst (λ zs. IsPermutation xs zs) e (IsPermutation-refl xs)
+
+module _ (product : U) (factors : List U) (is : factors ≡ mul_leaves product) where
+  are-leaves : Each IsLeaf factors
+  are-leaves = subst (λ xs. Each IsLeaf xs) (sym is) (leaves-leaves product)
+
+  pub spread-leaves : (u : U) → u ≡ spine factors I → IsPermutation (mul_leaves product) (mul_leaves u)
+  spread-leaves u e =
+      as-often (mul_leaves product) (mul_leaves u)
+      (sym (ap mul_leaves e ∙ leaves-spine factors I are-leaves ∙ ap (λ xs. factors ++ xs) mul_leaves-One ∙ append-nil factors ∙ is))
+
+  pub gathered-leaves : (a b : Val) (u w : U) → u ≡ spine factors (a ≐ b) → w ≡ product ⊗ (a ≐ b) → IsPermutation (mul_leaves u) (mul_leaves w)
+  gathered-leaves a b u w e f =
+      as-often (mul_leaves u) (mul_leaves w)
+      (ap mul_leaves e ∙ leaves-spine factors (a ≐ b) are-leaves ∙ ap (λ xs. xs ++ mul_leaves (a ≐ b)) is ∙ sym (mul_leaves-Mul product (a ≐ b)) ∙ sym (ap mul_leaves f))
+
+pub widened-leaves : (x u : U) → u ≡ x ⊗ I → IsPermutation (mul_leaves x) (mul_leaves u)
+widened-leaves x u e =
+    as-often (mul_leaves x) (mul_leaves u) (sym (ap mul_leaves e ∙ mul_leaves-Mul x I ∙ ap (λ xs. mul_leaves x ++ xs) mul_leaves-One ∙ append-nil (mul_leaves x)))
+
+-- ---- one step
+module _ (facts : Facts) (outs : ℕ) where
+  pub regrouped : (l r first last : U) (step : Step) (d : Derivation) → l ≡ first → r ≡ last → IsOneStep facts outs l step r d → IsRegrouped facts outs first last d
+  regrouped l r first last step d el er one = record {
+    leads = record { facts = one.facts; outs = one.outs; from = one.from ∙ el; to = one.to ∙ er };
+    steps = ap length one.steps;
+    nodes = omega (arith, one.nodes, ap nodes el, ap nodes er);
+    depth = omega (arith, one.depth, ap depth el, ap depth er);
+  }
+
+  pub regrouped-back : (l r first last : U) (step : Step) (d e : Derivation) → l ≡ last → r ≡ first → IsOneStep facts outs l step r d → e.facts ≡ d.facts → e.outs ≡ d.outs → e.from ≡ d.to → e.to ≡ d.from
+      → length e.steps ≡ length d.steps → e.nodes ≡ d.nodes → e.depth ≡ d.depth → IsRegrouped facts outs first last e
+  regrouped-back l r first last step d e el er one ef eo ea eb es en em = record {
+    leads = record { facts = ef ∙ one.facts; outs = eo ∙ one.outs; from = ea ∙ one.to ∙ er; to = eb ∙ one.from ∙ el };
+    steps = es ∙ ap length one.steps;
+    nodes = omega (arith, en, one.nodes, ap nodes el, ap nodes er);
+    depth = omega (arith, em, one.depth, ap depth el, ap depth er);
+  }
+
+-- ---- the equality, from 1 to the value with itself and along the links
+module _ (facts : Facts) (outs : ℕ) (factors : List U) (a : Val) (known : IsKnownValue outs a) (first itself d : Derivation) (to : first.to ≡ spine factors I) (here : first.facts ≡ facts) (names : first.outs ≡ outs)
+    (one : IsRegrouped facts outs I (a ≐ a) itself) (made : IsMadeBehind factors first itself d) where
+  pub itself-stands : (body : U) → body ≡ with_place a → (w : Val) → w ≡ a → Stands facts outs factors body (record { deriv = d; value = w })
+  itself-stands body is w same = record {
+    facts = made.facts ∙ here;
+    outs = made.outs ∙ names;
+    to =
+        made.to
+        ∙ ap (λ (t : U). spine factors t)
+        (let l = one.leads in l.to ∙ sym (place-put outs a a known) ∙ sym (ap (λ (t : U). put a t) is) ∙ sym (ap (λ (c : Val). put c body) same));
+    value = subst (IsKnownValue outs) (sym same) known;
+  }
+
+  itself-bounded : (n m : ℕ) → IsWithin n m (spine factors I) → IsWithin n m (spine factors (a ≐ a)) → IsBounded n m first → IsBounded n m d
+  itself-bounded n m w x bounded = record {
+    few = omega (arith, made.nodes, one.nodes, nodes-spine factors I, nodes-spine factors (a ≐ a), w.few, x.few, bounded.few);
+    shallow = omega (arith, made.depth, one.depth, depth-behind factors I, depth-behind factors (a ≐ a), w.shallow, x.shallow, bounded.shallow);
+  }
+
+  pub equality-gained : (b : Val) (links : List Link) → LeadsBy factors a links b → (body : U) → body ≡ with_place a → (w : Val) → w ≡ a → (end : Followed) → Stands facts outs factors body end
+      → IsFollowed factors body links (record { deriv = d; value = w }) end → IsGained factors a b links first end.deriv
+  equality-gained b links leads body is w same end h f =
+      let there : end.value ≡ b = f.arrives b (subst (λ (c : Val). LeadsBy factors c links b) (sym same) leads) in
+      record {
+        facts = h.facts ∙ sym here;
+        outs = h.outs ∙ sym names;
+        from = f.from ∙ made.from;
+        to = h.to ∙ ap (λ (t : U). spine factors t) (ap (λ (c : Val). put c body) there ∙ ap (λ (t : U). put b t) is ∙ place-put outs a b known);
+        steps = λ n c. omega (arith, f.steps n c, made.steps, one.steps);
+        within = λ n m given sides w x bounded.
+            f.within n m given (subst (λ (t : U). SidesWithin n m factors t) (sym is) sides) (itself-bounded n m w x bounded);
+      }
+
+-- ---- how large
+module _ (outs : ℕ) (factors : List U) (first : U) (weighs : weight factors ≤ nodes first + 1) (deep : AreWithin (depth first) factors) (a b : Val) (known : IsKnownValue outs a) where
+  abbrev pub most_nodes : ℕ
+  most_nodes = 2 * (nodes first + nodes (a ≐ b))
+
+  abbrev pub most_depth : ℕ
+  most_depth = length factors + max (depth first) (depth (a ≐ b)) + 1
+
+  equal-within : (x y : Val) (i : ℕ) → slice_get factors i ≡ Some (x ≐ y) → IsWithin most_nodes most_depth (spine factors (a ≐ x)) × IsWithin most_nodes most_depth (spine factors (a ≐ y))
+  equal-within x y i at =
+      let level : depth (x ≐ y) ≤ depth first = each-at (λ u. depth u ≤ depth first) factors i (x ≐ y) deep at in
+      let heavy = weight-at factors i (x ≐ y) at in (
+        record {
+          few = omega (arith, weighs, heavy, nodes-spine factors (a ≐ x), nodes-Eq a x, nodes-Eq x y, nodes-Eq a b);
+          shallow = omega (arith, level, depth-spine (depth first) factors (a ≐ x) deep, depth-Eq a x, depth-Eq x y, depth-Eq a b);
+        },
+        record {
+          few = omega (arith, weighs, heavy, nodes-spine factors (a ≐ y), nodes-Eq a y, nodes-Eq x y, nodes-Eq a b);
+          shallow = omega (arith, level, depth-spine (depth first) factors (a ≐ y) deep, depth-Eq a y, depth-Eq x y, depth-Eq a b);
+        },
+      )
+
+  pub sides-within : SidesWithin most_nodes most_depth factors (with_place a)
+  sides-within i x y at =
+      let both = equal-within x y i at in (
+        subst (λ (t : U). IsWithin most_nodes most_depth (spine factors t)) (sym (place-put outs a x known)) both.0,
+        subst (λ (t : U). IsWithin most_nodes most_depth (spine factors t)) (sym (place-put outs a y known)) both.1,
+      )
+
+  pub one-within : IsWithin most_nodes most_depth (spine factors I)
+  one-within = record {
+    few = omega (arith, weighs, nodes-spine factors I, nodes-One, nodes-Eq a b);
+    shallow = omega (arith, depth-spine (depth first) factors I deep, depth-One, depth-Eq a b);
+  }
+
+  pub itself-within : IsWithin most_nodes most_depth (spine factors (a ≐ a))
+  itself-within = record {
+    few = omega (arith, weighs, nodes-spine factors (a ≐ a), nodes-Eq a a, nodes-Eq a b);
+    shallow = omega (arith, depth-spine (depth first) factors (a ≐ a) deep, depth-Eq a a, depth-Eq a b);
+  }
+
+  pub end-within : IsWithin most_nodes most_depth (spine factors (a ≐ b))
+  end-within = record {
+    few = omega (arith, weighs, nodes-spine factors (a ≐ b), nodes-Eq a b);
+    shallow = omega (arith, depth-spine (depth first) factors (a ≐ b) deep);
+  }
+
+  pub first-within : IsWithin most_nodes most_depth first
+  first-within = record { few = omega arith; shallow = omega arith }
+
+  pub whole-within : IsWithin most_nodes most_depth (first ⊗ (a ≐ b))
+  whole-within = record { few = omega (arith, nodes-Mul first (a ≐ b), nodes-Eq a b); shallow = omega (arith, depth-Mul first (a ≐ b)) }
+
+-- ---- the product times the equality
+module _ (facts : Facts) (outs : ℕ) (product : U) (factors : List U) (is : factors ≡ mul_leaves product) (a b : Val) (known : IsKnownValue outs a) (links : List Link) (spread gained gathered d : Derivation)
+    (s : IsRegrouped facts outs product (spine factors I) spread) (g : IsGained factors a b links spread gained)
+    (h : IsRegrouped facts outs (spine factors (a ≐ b)) (product ⊗ (a ≐ b)) gathered) where
+  weighs : weight factors ≤ nodes product + 1
+  weighs = omega (arith, ap weight is, weight-leaves product)
+
+  deep : AreWithin (depth product) factors
+  deep = subst (λ xs. AreWithin (depth product) xs) (sym is) (depth-leaves product)
+
+  spread-bounded : IsBounded (most_nodes outs factors product weighs deep a b known) (most_depth outs factors product weighs deep a b known) spread
+  spread-bounded =
+      let w = first-within outs factors product weighs deep a b known in
+      let x = one-within outs factors product weighs deep a b known in
+      record { few = omega (arith, s.nodes, w.few, x.few); shallow = omega (arith, s.depth, w.shallow, x.shallow) }
+
+  gained-bounded : AreGiven links → IsBounded (most_nodes outs factors product weighs deep a b known) (most_depth outs factors product weighs deep a b known) gained
+  gained-bounded given =
+      g.within (most_nodes outs factors product weighs deep a b known) (most_depth outs factors product weighs deep a b known) given (sides-within outs factors product weighs deep a b known)
+      (one-within outs factors product weighs deep a b known) (itself-within outs factors product weighs deep a b known) spread-bounded
+
+  pub product-gained : d.facts ≡ gained.facts → d.outs ≡ gained.outs → d.from ≡ gained.from → d.to ≡ gathered.to → d.steps ≡ gained.steps ++ gathered.steps → IsJoined gained gathered d
+      → IsGainedBy facts outs factors product (product ⊗ (a ≐ b)) a b links 3 d
+  product-gained ef eo ea eb es j =
+      let sl = s.leads in
+      let hl = h.leads in
+      record {
+        leads = record { facts = ef ∙ g.facts ∙ sl.facts; outs = eo ∙ g.outs ∙ sl.outs; from = ea ∙ g.from ∙ sl.from; to = eb ∙ hl.to };
+        steps = λ n c. omega (arith, g.steps n c, s.steps, h.steps, ap length es, length-append gained.steps gathered.steps);
+        nodes = λ given.
+            let w = gained-bounded given in
+            let x = end-within outs factors product weighs deep a b known in
+            let y = whole-within outs factors product weighs deep a b known in
+            omega (arith, j.nodes, w.few, h.nodes, x.few, y.few);
+        depth = λ given.
+            let w = gained-bounded given in
+            let x = end-within outs factors product weighs deep a b known in
+            let y = whole-within outs factors product weighs deep a b known in
+            omega (arith, j.depth, w.shallow, h.depth, x.shallow, y.shallow);
+      }
+
+-- ---- by a chain
+module _ (facts : Facts) (outs : ℕ) (product : U) (factors : List U) (first last : U) (a b : Val) (links : List Link) (more : ℕ) (d : Derivation)
+    (chain : IsChain product a b (Some links)) (g : IsGainedBy facts outs factors first last a b links more d) where
+  pub by-links : HasStepsOf product a b more d
+  by-links = record { links = links; leads = chain.0; each = g.steps }
+
+  pub by-chain : IsShort product factors first a b more d
+  by-chain = record {
+    steps = λ none. omega (arith, g.steps (length links) (count-given links (leads-given product none a b links chain.0)), chain.1 none);
+    nodes = λ none. g.nodes (leads-given product none a b links chain.0);
+    depth = λ none. g.depth (leads-given product none a b links chain.0);
+  }
+
+  pub by-entailment : Entails product a b
+  by-entailment = leads-entail product a b links chain.0
+
+-- ---- the factors, with a last factor 1
+module _ (facts : Facts) (outs : ℕ) (factors : List U) where
+  pub widened-none : factors ≡ [] → (d : Derivation) → IsStill facts outs I d → IsWidened facts outs factors d
+  widened-none none d s = record {
+    leads = record { facts = s.facts; outs = s.outs; from = s.from ∙ sym (ap product_of none); to = s.to ∙ sym (ap (λ (xs : List U). spine xs I) none) };
+    steps = omega (arith, ap length s.steps);
+    within = λ n m w x. record {
+      few = omega (arith, s.nodes, w.few, ap (λ (xs : List U). nodes (product_of xs)) none);
+      shallow = omega (arith, s.depth, w.shallow, ap (λ (xs : List U). depth (product_of xs)) none);
+    };
+  }
+
+  module _ (front : List U) (last : U) (parts : factors ≡ front ++ last ∷ []) where
+    whole-product : product_of factors ≡ spine front last
+    whole-product = ap product_of parts ∙ product-spine front last
+
+    whole-spine : spine factors I ≡ spine front (last ⊗ I)
+    whole-spine = ap (λ (xs : List U). spine xs I) parts ∙ spine-append front (last ∷ []) I
+
+    pub widened-more : (still wide d : Derivation) → IsStill facts outs (spine front last) still → IsRegrouped facts outs last (last ⊗ I) wide → IsMadeBehind front still wide d → IsWidened facts outs factors d
+    widened-more still wide d s r made =
+        let l = r.leads in
+        record {
+          leads = record {
+            facts = made.facts ∙ s.facts;
+            outs = made.outs ∙ s.outs;
+            from = made.from ∙ s.from ∙ sym whole-product;
+            to = made.to ∙ ap (λ (t : U). spine front t) l.to ∙ sym whole-spine;
+          };
+          steps = omega (arith, made.steps, r.steps, ap length s.steps);
+          within = λ n m w x. record {
+            few =
+                omega (arith, made.nodes, s.nodes, r.nodes, nodes-spine front last, nodes-spine front (last ⊗ I), ap nodes whole-product, ap nodes whole-spine, w.few, x.few);
+            shallow =
+                omega (arith, made.depth, s.depth, r.depth, depth-behind front last, depth-behind front (last ⊗ I), ap depth whole-product, ap depth whole-spine, w.shallow, x.shallow);
+          };
+        }
+
+module _ (outs : ℕ) (factors front : List U) (last : U) (parts : factors ≡ front ++ last ∷ []) (ready : AreFactors outs factors) where
+  both-known : Each (IsKnown 0 outs) front × Each (IsKnown 0 outs) (last ∷ [])
+  both-known = each-parts (IsKnown 0 outs) front (last ∷ []) (subst (λ (xs : List U). Each (IsKnown 0 outs) xs) parts ready.known)
+
+  pub last-known : IsKnown 0 outs last
+  last-known = both-known.1.0
+
+  pub whole-known : (w : U) → w ≡ spine front last → IsKnown 0 outs w
+  whole-known w is = subst (IsKnown 0 outs) (sym is) (spine-known outs 0 front last both-known.0 last-known)
+
+  pub whole-shallow : (w : U) → w ≡ spine front last → outs + depth (product_of factors) < 2 ^ 32 → outs + depth w < 2 ^ 32
+  whole-shallow w is room = omega (arith, room, ap depth is, ap (λ (xs : List U). depth (product_of xs)) parts, ap depth (product-spine front last))
+
+-- ---- the equality behind the factors
+module _ (facts : Facts) (outs : ℕ) (factors : List U) (a b : Val) (known : IsKnownValue outs a) (links : List Link) (first d : Derivation) (w : IsWidened facts outs factors first)
+    (g : IsGained factors a b links first d) where
+  abbrev whole : U
+  whole = product_of factors
+
+  appended-bounded : AreGiven links → IsBounded (most_nodes outs factors whole (weight-product factors) (depth-product factors) a b known) (most_depth outs factors whole (weight-product factors) (depth-product factors) a b known) d
+  appended-bounded given =
+      let n : ℕ = most_nodes outs factors whole (weight-product factors) (depth-product factors) a b known in
+      let m : ℕ = most_depth outs factors whole (weight-product factors) (depth-product factors) a b known in
+      let one = one-within outs factors whole (weight-product factors) (depth-product factors) a b known in
+      g.within n m given (sides-within outs factors whole (weight-product factors) (depth-product factors) a b known) one
+      (itself-within outs factors whole (weight-product factors) (depth-product factors) a b known)
+      (w.within n m (first-within outs factors whole (weight-product factors) (depth-product factors) a b known) one)
+
+  pub product-appended : IsGainedBy facts outs factors (product_of factors) (product_of (factors ++ (a ≐ b) ∷ [])) a b links 2 d
+  product-appended =
+      let l = w.leads in
+      record {
+        leads = record { facts = g.facts ∙ l.facts; outs = g.outs ∙ l.outs; from = g.from ∙ l.from; to = g.to ∙ sym (product-spine factors (a ≐ b)) };
+        steps = λ n c. omega (arith, g.steps n c, w.steps);
+        nodes = λ given. let h = appended-bounded given in h.few;
+        depth = λ given. let h = appended-bounded given in h.shallow;
+      }

@@ -1,0 +1,11 @@
+pub mod Places
+pub mod Spines
+pub mod Behind
+pub mod Parts
+pub mod Leading
+pub mod Exchanged
+pub mod Links
+pub mod Followed
+pub mod Bounds
+pub mod Gained
+pub mod Chained

@@ -1,0 +1,94 @@
+-- An equality that is entailed, gained as a factor.
+use Rattle.std.specs.Prelude.{◌≡◌, ℕ, ◌+◌, ◌*◌, ◌≤◌, max, List, [], ◌∷◌, ◌++◌, length, count_by}
+use Rattle.u_terms.specs.Syntax.{U, Val}
+use Rattle.u_terms.specs.Size as size
+use Rattle.u_terms.specs.Products.{product_of}
+use Rattle.u_terms.specs.declared.facts.Facts.{Facts}
+use Rattle.u_terms.specs.declared.term.Val.TheVariants as v
+use Rattle.u_rules.specs.Terms.{◌⊗◌, ◌≐◌, I, mul_leaves}
+use Rattle.u_moves.specs.Derivations.{Derivation, IsWithin}
+use Rattle.u_equal.specs.declared.link.Link.{Link}
+use Rattle.u_equal.specs.Standing.{standing}
+use Rattle.u_equal.specs.Entails.{Entails}
+use Rattle.u_equal.specs.Links.{Leads, HasCount, HasNoCall, is_equality}
+use Rattle.u_entail.specs.Spines.{spine}
+use Rattle.u_entail.specs.Following.{AreGiven, IsBounded, SidesWithin}
+
+-- the equality whose right side is still open
+abbrev pub with_place : Val → U
+with_place a = a ≐ v.Bound 0
+
+-- In the place of a last factor 1 stands the equality, by links that lead from its left side to its right one.
+pub record IsGained (factors : List U) (a b : Val) (links : List Link) (first d : Derivation) : Type 0 where
+  pub facts : d.facts ≡ first.facts
+  pub outs : d.outs ≡ first.outs
+  pub from : d.from ≡ first.from
+  pub to : d.to ≡ spine factors (a ≐ b)
+  pub steps : (n : ℕ) → HasCount links n → length d.steps ≤ length first.steps + 1 + n
+  pub within : (nodes depth : ℕ) → AreGiven links → SidesWithin nodes depth factors (with_place a) → IsWithin nodes depth (spine factors I) → IsWithin nodes depth (spine factors (a ≐ a))
+      → IsBounded nodes depth first → IsBounded nodes depth d
+
+-- a derivation by these facts, with the names from `outs` on for binders, that leads from the one term to the other
+pub record LeadsBetween (F : Facts) (names : ℕ) (first last : U) (d : Derivation) : Type 0 where
+  pub facts : d.facts ≡ F
+  pub outs : d.outs ≡ names
+  pub from : d.from ≡ first
+  pub to : d.to ≡ last
+
+-- ---- private functions alone cite this
+-- one step
+pub record IsRegrouped (facts : Facts) (outs : ℕ) (first last : U) (d : Derivation) : Type 0 where
+  pub leads : LeadsBetween facts outs first last d
+  pub steps : length d.steps ≡ 1
+  pub nodes : d.nodes ≡ max (size.nodes first) (size.nodes last)
+  pub depth : d.depth ≡ max (size.depth first) (size.depth last)
+
+-- the factors, with a last factor 1
+pub record IsWidened (facts : Facts) (outs : ℕ) (factors : List U) (d : Derivation) : Type 0 where
+  pub leads : LeadsBetween facts outs (product_of factors) (spine factors I) d
+  pub steps : length d.steps ≤ 1
+  pub within : (nodes depth : ℕ) → IsWithin nodes depth (product_of factors) → IsWithin nodes depth (spine factors I) → IsBounded nodes depth d
+
+-- by these links
+pub record IsGainedBy (facts : Facts) (outs : ℕ) (factors : List U) (first last : U) (a b : Val) (links : List Link) (more : ℕ) (d : Derivation) : Type 0 where
+  pub leads : LeadsBetween facts outs first last d
+  pub steps : (n : ℕ) → HasCount links n → length d.steps ≤ n + more
+  pub nodes : AreGiven links → d.nodes ≤ 2 * (size.nodes first + size.nodes (a ≐ b))
+  pub depth : AreGiven links → d.depth ≤ length factors + max (size.depth first) (size.depth (a ≐ b)) + 1
+
+-- ---- how many steps, and how large
+-- One step for each link of a chain, those of the arguments of calls too, and a few more.
+pub record HasStepsOf (product : U) (a b : Val) (more : ℕ) (d : Derivation) : Type 0 where
+  pub links : List Link
+  pub leads : Leads product a links b
+  pub each : (n : ℕ) → HasCount links n → length d.steps ≤ n + more
+
+-- Where no call stands in the product whose equalities are used, a chain has no more links than it has equalities, and no term on the way is
+-- much larger than the first one with the equality.
+pub record IsShort (product : U) (factors : List U) (first : U) (a b : Val) (more : ℕ) (d : Derivation) : Type 0 where
+  pub steps : HasNoCall (standing product) → length d.steps ≤ count_by is_equality (mul_leaves product) + more
+  pub nodes : HasNoCall (standing product) → d.nodes ≤ 2 * (size.nodes first + size.nodes (a ≐ b))
+  pub depth : HasNoCall (standing product) → d.depth ≤ length factors + max (size.depth first) (size.depth (a ≐ b)) + 1
+
+-- ---- the product times the equality
+pub record Derives (facts : Facts) (outs : ℕ) (product : U) (a b : Val) (d : Derivation) : Type 0 where
+  pub entailed : Entails product a b
+  pub leads : LeadsBetween facts outs product (product ⊗ (a ≐ b)) d
+  pub links : HasStepsOf product a b 3 d
+  pub short : IsShort product (mul_leaves product) product a b 3 d
+
+-- it is entailed, and a call stands in the product
+abbrev pub IsThroughCalls : U → Val → Val → Type 0
+IsThroughCalls product a b = Entails product a b × (HasNoCall (standing product) → ⊥)
+
+-- ---- the equality behind the factors
+-- the factors of the product are the first ones
+pub record Begins (product : U) (factors : List U) : Type 0 where
+  pub rest : List U
+  pub is : factors ≡ mul_leaves product ++ rest
+
+pub record Appends (facts : Facts) (outs : ℕ) (product : U) (factors : List U) (a b : Val) (d : Derivation) : Type 0 where
+  pub entailed : Entails product a b
+  pub leads : LeadsBetween facts outs (product_of factors) (product_of (factors ++ (a ≐ b) ∷ [])) d
+  pub links : HasStepsOf product a b 2 d
+  pub short : IsShort product factors (product_of factors) a b 2 d

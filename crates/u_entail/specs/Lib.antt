@@ -1,0 +1,3 @@
+pub mod Spines
+pub mod Following
+pub mod Gaining
