@@ -131,12 +131,7 @@ impl Builder {
             rules.as_slice(),
             &mut self.fkeys,
         )?;
-        declare(
-            alloc,
-            &mut self.relations,
-            &name.name,
-            Relation::Table { table },
-        )?;
+        declare(&mut self.relations, &name.name, Relation::Table { table })?;
         self.tables += 1;
         Ok(())
     }
@@ -150,7 +145,7 @@ impl Builder {
             query: query.copy(alloc)?,
             at: name.at,
         };
-        declare(alloc, &mut self.relations, &name.name, view)?;
+        declare(&mut self.relations, &name.name, view)?;
         Ok(())
     }
 
@@ -176,7 +171,7 @@ impl Builder {
             at: name.at,
         };
         let key = places_in(alloc, table.columns.as_slice(), columns.as_slice())?;
-        declare(alloc, &mut self.relations, &name.name, view)?;
+        declare(&mut self.relations, &name.name, view)?;
         add_index_key(&mut self.relations, unique, &on.name, key)?;
         Ok(())
     }

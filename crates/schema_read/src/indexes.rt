@@ -10,13 +10,13 @@ use sql_model::{Block, Entry, Expr, Item, Name, NameAt, Query, Source, Table};
 use std::alloc::{AllocError, Global};
 
 /// An item that is a bare column.
-fn column_item(alloc: Global, name: &Name, at: u32) -> Result<Item, AllocError>
+fn column_item(name: &Name, at: u32) -> Result<Item, AllocError>
     ensures { IfOk result (λ item. item ≡ bare_column name.now at) }
 {
     let expr = Expr::Col {
         qual: None,
         qual_at: 0,
-        name: name.copy(alloc)?,
+        name: name.copy()?,
         at,
     };
     Ok(Item::Value { expr, name: None })
@@ -27,14 +27,13 @@ fn column_items(alloc: Global, columns: &[NameAt]) -> Result<List<Item>, AllocEr
 {
     let mut items = List::new(alloc);
     for column in columns {
-        items.push(column_item(alloc, &column.name, column.at)?)?;
+        items.push(column_item(&column.name, column.at)?)?;
     }
     Ok(items)
 }
 
 /// Adds a column of the primary key that is not shown yet.
 fn add_key_item(
-    alloc: Global,
     items: &mut List<Item>,
     shown: &[NameAt],
     at: u32,
@@ -46,7 +45,7 @@ fn add_key_item(
     match table.columns.as_slice().get(place as usize) {
         Some(name) => {
             if !is_named(name, shown) {
-                items.push(column_item(alloc, name, at)?)?;
+                items.push(column_item(name, at)?)?;
             }
             Ok(())
         }
@@ -56,7 +55,6 @@ fn add_key_item(
 
 /// Adds the columns of the primary key that are not shown yet.
 fn add_key_items(
-    alloc: Global,
     items: &mut List<Item>,
     shown: &[NameAt],
     at: u32,
@@ -66,7 +64,7 @@ fn add_key_items(
     ensures { OnOk result (items.new ≡ items_with_key shown.now at table.now items.old key.now) }
 {
     for place in key {
-        add_key_item(alloc, items, shown, at, table, *place)?;
+        add_key_item(items, shown, at, table, *place)?;
     }
     Ok(())
 }
@@ -83,7 +81,7 @@ fn shown_items(
     let mut items = column_items(alloc, columns)?;
     match primary_key(table) {
         Some(key) => {
-            add_key_items(alloc, &mut items, columns, at, table, key)?;
+            add_key_items(&mut items, columns, at, table, key)?;
             Ok(items)
         }
         None => Ok(items),
@@ -102,10 +100,10 @@ pub(crate) fn index_query(
     let items = shown_items(alloc, on.at, columns, table)?;
     let entry = Entry {
         source: Source::Named {
-            name: on.name.copy(alloc)?,
+            name: on.name.copy()?,
             at: on.at,
         },
-        alias: on.name.copy(alloc)?,
+        alias: on.name.copy()?,
         at: on.at,
         joined: false,
         on: None,

@@ -103,7 +103,7 @@ pub(crate) fn names_of(alloc: Global, names: &[NameAt]) -> Result<List<Name>, Al
 {
     let mut copies = Vec::with_capacity(alloc, names.len())?;
     for name in names {
-        copies.push(name.name.copy(alloc)?)?;
+        copies.push(name.name.copy()?)?;
     }
     Ok(List::from_vec(copies))
 }

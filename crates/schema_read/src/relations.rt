@@ -11,7 +11,7 @@ use crate::keys::add_unique;
 use indexmap::IndexMap;
 use plain_data::List;
 use sql_model::{Name, NameAt, Relation, Table};
-use std::alloc::{AllocError, Global};
+use std::alloc::AllocError;
 
 /// Refuses a name that is declared already.
 pub(crate) fn check_new(
@@ -44,7 +44,6 @@ pub(crate) fn table_named<'a>(
 
 /// Adds a relation of a new name.
 pub(crate) fn declare(
-    alloc: Global,
     relations: &mut IndexMap<Name, Relation>,
     name: &Name,
     relation: Relation,
@@ -52,7 +51,7 @@ pub(crate) fn declare(
     requires { relation_named name.now relations.old.entries ≡ None }
     ensures { OnOk result (relations.new.entries ≡ relations.old.entries ++ (name.now, relation) ∷ []) }
 {
-    relations.insert(name.copy(alloc)?, relation)?;
+    relations.insert(name.copy()?, relation)?;
     Ok(())
 }
 

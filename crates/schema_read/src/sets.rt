@@ -74,7 +74,7 @@ fn learn(
 {
     let keys = sets_of(alloc, table.keys.as_slice())?;
     let found = has_set(&keys, columns);
-    known.insert(to.copy(alloc)?, keys)?;
+    known.insert(to.copy()?, keys)?;
     Ok(found)
 }
 

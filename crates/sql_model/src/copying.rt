@@ -145,12 +145,12 @@ impl Item {
         match self {
             Item::Star { at } => Ok(Item::Star { at: *at }),
             Item::AliasStar { alias, at } => Ok(Item::AliasStar {
-                alias: alias.copy(alloc)?,
+                alias: alias.copy()?,
                 at: *at,
             }),
             Item::Value { expr, name } => Ok(Item::Value {
                 expr: expr.copy(alloc)?,
-                name: copy_name(alloc, name)?,
+                name: copy_name(name)?,
             }),
         }
     }
@@ -164,7 +164,7 @@ impl Entry {
     {
         Ok(Entry {
             source: self.source.copy(alloc)?,
-            alias: self.alias.copy(alloc)?,
+            alias: self.alias.copy()?,
             at: self.at,
             joined: self.joined,
             on: copy_condition(alloc, &self.on)?,
@@ -180,7 +180,7 @@ impl Source {
     {
         match self {
             Source::Named { name, at } => Ok(Source::Named {
-                name: name.copy(alloc)?,
+                name: name.copy()?,
                 at: *at,
             }),
             Source::Query { query } => Ok(Source::Query {
@@ -201,18 +201,18 @@ fn copy_column(
     ensures { IfOk result (λ copy. copy ≡ expr.Col qual.now qual_at name.now at) }
 {
     Ok(Expr::Col {
-        qual: copy_name(alloc, qual)?,
+        qual: copy_name(qual)?,
         qual_at,
-        name: name.copy(alloc)?,
+        name: name.copy()?,
         at,
     })
 }
 
-fn copy_name(alloc: Global, name: &Option<Name>) -> Result<Option<Name>, NoMemory>
+fn copy_name(name: &Option<Name>) -> Result<Option<Name>, NoMemory>
     ensures { IfOk result (λ copy. copy ≡ name.now) }
 {
     match name {
-        Some(name) => Ok(Some(name.copy(alloc)?)),
+        Some(name) => Ok(Some(name.copy()?)),
         None => Ok(None),
     }
 }

@@ -9,8 +9,6 @@ pub mod name;
 pub mod schema;
 pub mod statement;
 pub mod symbols;
-#[cfg(test)]
-mod tests;
 pub mod tree;
 
 pub use name::Name;

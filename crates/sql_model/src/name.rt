@@ -5,23 +5,28 @@ ghost use Rattle.std.specs.Hash as fed;
 ghost use Rattle.std.specs.Cmp.Rules.{comparing, hashing};
 
 use crate::NoMemory;
+use smallvec::SmallVec;
 use std::alloc::Global;
 use std::hash::{Hash, Hasher};
 use std::marker::Model;
+use std::rc::Rc;
 
 /// A name of a table, a column, an alias or a function: its bytes after folding and unquoting
 /// (SQL, ISO/IEC 9075-2, 5.2 and 5.4, but with unquoted names folded to lower case).
 #[derive(Debug, Drop)]
 pub struct Name {
-    text: Vec<u8>,
+    text: Rc<SmallVec<u8, MOST_INLINE>>,
 }
+
+/// A name of at most so many bytes takes one allocation.
+const MOST_INLINE: usize = 16;
 
 impl Model for Name {
     ghost use Rattle.std.specs.Prelude.{List, ℕ};
 
     ghost Value = { List ℕ };
 
-    ghost view = { λ name. name.text.items };
+    ghost view = { λ name. name.text.value.items };
 }
 
 impl Name {
@@ -29,15 +34,16 @@ impl Name {
     pub fn new(alloc: Global, text: &[u8]) -> Result<Name, NoMemory>
         ensures { IfOk result (λ name. name ≡ text.now) }
     {
-        let text = Vec::from_slice(alloc, text)?;
+        let text = Rc::new(alloc, SmallVec::from_slice(alloc, text)?)?;
         Ok(Name { text })
     }
 
-    /// A name of its own with the same bytes.
-    pub fn copy(&self, alloc: Global) -> Result<Name, NoMemory>
+    /// The same name again. It shares the bytes of this one.
+    pub fn copy(&self) -> Result<Name, NoMemory>
         ensures { IfOk result (λ name. name ≡ self.now) }
     {
-        Name::new(alloc, self.as_bytes())
+        let text = self.text.clone()?;
+        Ok(Name { text })
     }
 
     /// The bytes of the name: of one written as a word those after folding, of a quoted one those between its quotes, a doubled
@@ -55,7 +61,7 @@ impl PartialEq for Name {
     ghost laws = { Prim.search (comparing, rules) };
 
     fn eq(&self, other: &Name) -> bool {
-        self.text == other.text
+        self.as_bytes() == other.as_bytes()
     }
 }
 
@@ -69,6 +75,6 @@ impl Hash for Name {
     ghost respects_eq = { Prim.search (hashing, rules) };
 
     fn hash<H: Hasher>(&self, state: &mut H) {
-        self.text.hash(state);
+        self.as_bytes().hash(state);
     }
 }

@@ -1,5 +1,7 @@
 //! The numbers of literals and symbols.
-ghost use Rattle.std.specs.Prelude.{◌≡◌, IfOk};
+ghost use Rattle.std.specs.Prelude.{◌≡◌, ◌∷◌, [], IfOk, OnOk};
+ghost use Rattle.indexmap.specs.IndexSet.{insert_all};
+ghost use Rattle.sql_model.specs.Columns.{same_name};
 ghost use Rattle.sql_model.specs.FixedSymbols.{fixed_literals, fixed_symbols};
 
 use crate::NoMemory;
@@ -42,8 +44,15 @@ impl Symbols {
         lits.insert(one)?;
         let mut syms = IndexSet::new(alloc);
         for text in ["<", "<=", "like", "+", "-", "*", "/", "||"] {
-            syms.insert(Name::new(alloc, text.as_bytes())?)?;
+            insert_symbol(alloc, &mut syms, text)?;
         }
         Ok(Symbols { lits, syms })
     }
+}
+
+fn insert_symbol(alloc: Global, syms: &mut IndexSet<Name>, text: &str) -> Result<(), NoMemory>
+    ensures { OnOk result (syms.new.keys ≡ insert_all same_name syms.old.keys (text.now ∷ [])) }
+{
+    syms.insert(Name::new(alloc, text.as_bytes())?)?;
+    Ok(())
 }

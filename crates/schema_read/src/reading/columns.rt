@@ -25,7 +25,7 @@ fn alone(alloc: Global, column: &NameAt) -> Result<List<NameAt>, NoMemory>
 {
     let mut columns = List::new(alloc);
     columns.push(NameAt {
-        name: column.name.copy(alloc)?,
+        name: column.name.copy()?,
         at: column.at,
     })?;
     Ok(columns)
