@@ -19,8 +19,7 @@ use crate::steps::Steps;
 use proof_text::Line;
 use std::alloc::Global;
 use std::marker::Model;
-use u_deriv::{Path, Step};
-use u_rules::Rule;
+use u_deriv::Step;
 use u_terms::{Facts, List, U, same};
 
 /// A check of a proof that is fed line by line. No line is kept, and of the steps only the last one, in whose memory the next one is
@@ -77,7 +76,7 @@ impl<'f> Checker<'f> {
             level,
             waiting: Vec::new(alloc),
             count: 0,
-            step: no_step(alloc),
+            step: Step::blank(alloc),
         };
         Ok(Checker {
             alloc,
@@ -161,17 +160,6 @@ impl<'f> Checker<'f> {
                 Part::Ended => Ok(end_verdict(self.steps.level.term.term(), right)),
             },
         }
-    }
-}
-
-// A step in whose place the first one is read.
-fn no_step(alloc: Global) -> Step {
-    Step {
-        path: Path::new(alloc),
-        forward: true,
-        rule: Rule::AddAc,
-        args: List::new(alloc),
-        inner: List::new(alloc),
     }
 }
 

@@ -39,7 +39,7 @@ pub struct Steps {
     pub level: Level,
     pub waiting: Vec<Waiting>,
     pub count: u64,
-    /// What the last line said, in whose memory the next one is read.
+    /// What is left of the last line's step, in whose memory the next one is read.
     pub step: Step,
 }
 

@@ -22,9 +22,10 @@ const PLACE: Term<'static> = Term::Rel(0, &[Value::Bound(0)]);
 /// `R0(f0)`
 const ROW: Term<'static> = Term::Rel(0, &[F0]);
 
-/// `R0(f1)` and `=(f1,f0)`
+/// `R0(f1)`
 const INNER_ROW: Term<'static> = Term::Rel(0, &[F1]);
 
+/// `=(f1,f0)`
 const EQUAL: Term<'static> = Term::Eq(&F1, &F0);
 
 /// Each rule once, with paths of every run.
@@ -317,7 +318,7 @@ pub const RULES: [(&[u8], Wanted); 36] = [
 /// `F3(f0,f1)`
 const PAIR: Value<'static> = Value::Fun(3, &[F0, F1]);
 
-/// Each form of a term and a value, with fewer and with more parts.
+/// Forms of terms and of closed values, with fewer and with more parts.
 pub const FORMS: [(&[u8], Wanted); 10] = [
     (
         b"/ > sq_one R0(f0,f1,f0)",

@@ -5,6 +5,7 @@
 pub mod answer;
 pub mod contents;
 pub mod fronts;
+pub mod headings;
 pub mod over;
 pub mod proofs;
 pub mod spelled;

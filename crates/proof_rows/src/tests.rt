@@ -1,6 +1,7 @@
 use crate::answer::{Answer, answer_of};
 use crate::contents::{FORMS, RULES};
 use crate::fronts::column_among_spelled;
+use crate::headings::is_read_as_spelled;
 use crate::over::{forms_are_read_over, is_read_over, rules_are_read_over};
 use crate::proofs::PROOFS;
 use crate::spelled::{CHANGED, OTHERS, SPELLED};
@@ -12,8 +13,7 @@ use proof_text::{
 };
 use std::alloc::Global;
 use std::test::Fail;
-use u_deriv::{Path, Step};
-use u_rules::Rule;
+use u_deriv::Step;
 use u_terms::List;
 use udp_io::{MemSink, SinkFault};
 
@@ -141,21 +141,11 @@ fn lines_over_the_steps_of_forms(rt: HostRuntime) {
 /// A step with an inner one.
 fn nested(alloc: Global) -> Result<Step, Fail> {
     let mut inner = List::new(alloc);
-    inner.push(blank(alloc))?;
+    inner.push(Step::blank(alloc))?;
     Ok(Step {
         inner,
-        ..blank(alloc)
+        ..Step::blank(alloc)
     })
-}
-
-fn blank(alloc: Global) -> Step {
-    Step {
-        path: Path::new(alloc),
-        forward: false,
-        rule: Rule::SqZero,
-        args: List::new(alloc),
-        inner: List::new(alloc),
-    }
 }
 
 #[test]
@@ -168,7 +158,7 @@ fn lines_over_a_step_with_inner_ones(rt: HostRuntime) -> Result<(), Fail> {
 
 #[test]
 fn faults_over_a_step(rt: HostRuntime) {
-    let mut kept = blank(rt.alloc());
+    let mut kept = Step::blank(rt.alloc());
     for (line, wanted) in LINES {
         let read = read_step_over(rt.alloc(), line, true, &mut kept);
         match read_step(rt.alloc(), line, true) {
@@ -209,7 +199,7 @@ const LARGE: [(&[(&[u8], usize)], Answer); 13] = [
         &[(b"/ > sq_one R0(f0", 1), (b",f0", 199_998), (b")", 1)],
         Answer::Whole,
     ),
-    // No node goes on with the comma.
+    // The comma begins no node.
     (
         &[(b"/ > sq_one R0(f0", 1), (b",f0", 199_998), (b",", 1)],
         Answer::Bad(600_012),
@@ -350,6 +340,41 @@ fn lines_of_heading(rt: HostRuntime) {
         assert_eq!(rt; read_version(line, ended), version);
         assert_eq!(rt; read_outs(line, ended), outs);
     }
+}
+
+/// A first line and a second one.
+const WHOLE_HEADINGS: [&[u8]; 2] = [b"udp-proof 10", b"outs 90"];
+
+/// What stands in these lines, and some other bytes.
+const HEADING_BYTES: &[u8] = b"udp-rofts 0129,\n";
+
+#[test]
+fn lines_of_heading_cut_after_each_byte(rt: HostRuntime) -> Result<(), Fail> {
+    for line in WHOLE_HEADINGS {
+        for place in 0..=line.len() {
+            let cut = line.get(..place).unwrap_or(line);
+            assert!(rt; is_read_as_spelled(rt.alloc(), cut)?);
+            assert_eq!(rt; read_version(cut, false), None);
+            assert_eq!(rt; read_outs(cut, false), None);
+        }
+    }
+    Ok(())
+}
+
+#[test]
+fn lines_of_heading_with_each_byte_changed(rt: HostRuntime) -> Result<(), Fail> {
+    for line in WHOLE_HEADINGS {
+        for place in 0..line.len() {
+            for other in HEADING_BYTES {
+                let mut changed = Vec::from_slice(rt.alloc(), line)?;
+                if let Some(byte) = changed.get_mut(place) {
+                    *byte = *other;
+                }
+                assert!(rt; is_read_as_spelled(rt.alloc(), changed.as_slice())?);
+            }
+        }
+    }
+    Ok(())
 }
 
 #[test]

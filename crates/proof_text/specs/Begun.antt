@@ -1,5 +1,5 @@
 -- How many nodes have begun in the argument that a front of a line ends in. An argument stands behind a space. A node begins with each byte
--- at the argument's start, behind `(` and behind `,`, but for parentheses.
+-- at the argument's start, behind `(` and behind `,`, but for parentheses; a number, and the brace of ` {`, count as one too.
 use Rattle.std.specs.Prelude.{ℕ, ◌+◌, ◌≤◌, ◌≡◌, ◌==◌, ◌&&◌, ◌||◌, Bool, true, false, not, if◌then◌else◌, List, ◌++◌, fold}
 use Rattle.proof_text.specs.Limits.{most_nodes}
 use Rattle.proof_text.specs.Signs.{Sign, code, sign}

@@ -11,9 +11,7 @@ use crate::limits::{LimitKind, MOST_DEPTH, MOST_NODES};
 use crate::step::whole_line;
 use std::alloc::Global;
 use thiserror::Error;
-use u_deriv::{Path, Step};
-use u_rules::Rule;
-use u_terms::List;
+use u_deriv::Step;
 
 /// What a line says.
 #[derive(Debug, Drop)]
@@ -74,17 +72,6 @@ fn fault(stop: Stop, passed: u64) -> LineFault
     }
 }
 
-// A step to read the first line over.
-fn blank(alloc: Global) -> Step {
-    Step {
-        path: Path::new(alloc),
-        forward: false,
-        rule: Rule::SqZero,
-        args: List::new(alloc),
-        inner: List::new(alloc),
-    }
-}
-
 // What a line of this kind says.
 fn line_of(kind: LineKind, step: Step) -> LineStep
     ensures { result ≡ line_over kind step }
@@ -97,22 +84,23 @@ fn line_of(kind: LineKind, step: Step) -> LineStep
     }
 }
 
-/// What the line says whose bytes these are; `ended` says that a line feed follows them. No byte is gone back to: each is looked at
-/// a fixed number of times at most. Nothing is built of an argument behind the byte at which it passes a limit.
+/// What the line says whose bytes these are; `ended` says that a line feed follows them. Each byte is looked at a fixed number of times
+/// at most. Nothing is built of an argument behind the byte at which it passes a limit.
 pub fn read_step(alloc: Global, line: &[u8], ended: bool) -> Result<LineStep, LineFault>
     ensures answer { IsAnswer (fed line.now ended) result }
     ensures text { IfOk result (λ says. (fed line.now ended ≡ text_of says) × Says says) }
 {
-    let mut step = blank(alloc);
+    let mut step = Step::blank(alloc);
     match read_step_over(alloc, line, ended, &mut step) {
         Ok(kind) => Ok(line_of(kind, step)),
         Err(fault) => Err(fault),
     }
 }
 
-/// The same, with the step that the line says written over the kept one. Where a part of that has the form of what is read in its
-/// place, or boxes or a list of the same sort, its memory serves again: a line like the one before it takes none. Of the kept step
-/// nothing is said after another line or a fault.
+/// The same, with the step that the line says written over the kept one. Where an argument has the form of what is read in its place, its
+/// boxes and lists serve again, and those of a term also for a term with parts of the same sort; but no list of more than 8 values. So a
+/// line of the same form as the one before it takes no memory, if no list in it has more than 8 values and its path has at most the 4
+/// runs that stand in the step itself. After a fault, or a line that says no step, nothing is said of the kept one.
 pub fn read_step_over(
     alloc: Global,
     line: &[u8],

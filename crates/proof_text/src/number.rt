@@ -1,5 +1,5 @@
 //! Numbers of 32 bits, without leading zeros.
-ghost use Rattle.std.specs.Prelude.{◌≡◌, ◌≤◌, ◌<◌, ◌*◌, ◌+◌, drop, length, Option, Some, None, Ok, IfOk, IsErrOf};
+ghost use Rattle.std.specs.Prelude.{◌≡◌, ◌≤◌, ◌<◌, ◌*◌, ◌+◌, Option, Some, None, Ok, IfOk, IsErrOf};
 ghost use Rattle.proof_text.specs.Reading.{Gives, count_at, longest_at, number_at, turns_at};
 ghost use Rattle.proof_text.specs.NumberSteps.{Longer};
 

@@ -1,5 +1,5 @@
 //! Paths.
-ghost use Rattle.std.specs.Prelude.{◌≡◌, ◌++◌, ◌∷◌, [], IsTrue, IfOk, OnOk, IfSome};
+ghost use Rattle.std.specs.Prelude.{◌≡◌, ◌++◌, ◌∷◌, [], IfOk, OnOk, IfSome};
 ghost use Rattle.u_deriv.specs.Normal.{IsCounted};
 ghost use Rattle.proof_text.specs.Reading.{Gives, may_be_inside, may_be_left, may_be_right, last_of, path_at, run_at};
 ghost use Rattle.proof_text.specs.Paths.{IsApart, kind_of_last};

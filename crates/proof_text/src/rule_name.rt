@@ -1,5 +1,4 @@
-//! The names of rules, told apart letter by letter, with no byte gone back to.
-ghost use Rattle.std.specs.Prelude.{◌≡◌};
+//! The names of rules, told apart letter by letter.
 ghost use Rattle.proof_text.specs.Reading.{Gives, rule_at, word_at};
 ghost use Rattle.proof_text.specs.RuleNames.{eq_names, found, mul_names, names, not_names, s_names, squash_names, sum_names, word};
 

@@ -1,5 +1,5 @@
 //! Lines, from their first byte to their last.
-ghost use Rattle.std.specs.Prelude.{◌≡◌, [], codes};
+ghost use Rattle.std.specs.Prelude.{◌≡◌};
 ghost use Rattle.u_deriv.specs.declared.step.Step.{out-Step};
 ghost use Rattle.proof_text.specs.Grammar.{made};
 ghost use Rattle.proof_text.specs.Over.{line_over, said_over};

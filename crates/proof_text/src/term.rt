@@ -1,10 +1,10 @@
 //! Terms and values, each read over a kept one: where that has the form of the one that is read, its boxes and lists serve again.
-ghost use Rattle.std.specs.Prelude.{◌≡◌, ◌<◌, ◌-◌, length};
+ghost use Rattle.std.specs.Prelude.{◌≡◌, ◌<◌, ◌-◌};
 ghost use Rattle.u_terms.specs.declared.term.U.TheVariants as u;
 ghost use Rattle.u_terms.specs.declared.term.Val.TheVariants as v;
 ghost use Rattle.proof_text.specs.Signs.{code};
 ghost use Rattle.proof_text.specs.Signs as s;
-ghost use Rattle.proof_text.specs.Reading.{Gives, list_of, number_at, numbered, pair_of, term_at, term_with, value_at, value_with, within};
+ghost use Rattle.proof_text.specs.Reading.{Gives, list_of, pair_of, term_at, term_with, value_at, value_with, within};
 ghost use Rattle.proof_text.specs.Over.{GivesOver};
 
 use crate::cursor::{Cursor, Stop};

@@ -28,7 +28,8 @@ pub enum Edit<'a> {
         facts: &'a Facts,
         step: &'a Step,
     },
-    /// A term of the caller's in the place of this one, where there are so many names.
+    /// A term of the caller's in the place of this one, where this number of names is at most that of the outputs and of the binders
+    /// on the way.
     Term {
         from: &'a U,
         names: u64,

@@ -101,8 +101,8 @@ fn of_terms(left: Outline, right: Outline) -> Measured
     }
 }
 
-/// Exchanges the sides of the step's instance at the end of its path, as `exchange` does. The step's arguments are used up: what they
-/// are afterwards is not said.
+/// Exchanges the sides of the step's instance at the end of its path, as `exchange` does. The step is used up: what it is afterwards is
+/// not said.
 pub fn exchange_spending(
     alloc: Global,
     facts: &Facts,
