@@ -20,6 +20,7 @@ use Rattle.case_core.specs.declared.fault.CaseFault.{CaseFault}
 use Rattle.case_core.specs.declared.fault.CaseFault.TheVariants.{Read, Schema as OfSchema, Scope as OfScope, QueriesDiffer, NotTwoQueries, NoMemory}
 use Rattle.case_core.specs.declared.text.CaseText.{CaseText}
 use Rattle.case_core.specs.Cases.{IsRead}
+use Rattle.case_core.specs.Fitting.{TreesFitSymbols}
 use Rattle.case_core.specs.Parts.{Parts}
 use Rattle.case_core.specs.Refusals.{IsNoCase}
 
@@ -41,7 +42,8 @@ pub record IsWellFormed (schema : Schema) (written : CaseText) : Type 0 where
 abbrev pub width_of : Schema → Query → ℕ
 width_of schema query = length (output_columns query (map heading (known_of schema)))
 
--- The text spells a schema and two queries of one width over it, and these are its parts.
+-- The text spells a schema and two queries of one width over it, and these are its parts; each literal in the trees has its number in the
+-- symbols.
 pub record IsCase (text : List ℕ) (parts : Parts) : Type 0 where
   pub written : CaseText
   pub has_schema : HasSchema text written (numbers_of parts.symbols) parts.schema
@@ -51,6 +53,7 @@ pub record IsCase (text : List ℕ) (parts : Parts) : Type 0 where
   pub right : Resolves parts.schema written.right parts.right
   pub one_width : width_of parts.schema written.left ≡ width_of parts.schema written.right
   pub facts : AreFactsOf parts.schema parts.facts
+  pub fit_symbols : TreesFitSymbols parts.symbols parts.views parts.left parts.right
 
 -- ---- the first fault
 

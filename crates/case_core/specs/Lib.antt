@@ -4,5 +4,6 @@ pub mod Cases
 pub mod Refusals
 pub mod ReadingCases
 pub mod Parts
+pub mod Fitting
 pub mod Answer
 pub mod Terms

@@ -1,5 +1,7 @@
 //! A case that was read.
 ghost use Rattle.std.specs.Prelude.{◌≡◌};
+ghost use Rattle.case_core.specs.Fitting.{FitsSymbols, TreesFitSymbols};
+ghost use Rattle.data_model.specs.Lists.{Each};
 ghost use Rattle.scope_core.specs.Fitting.{FitsViews};
 ghost use Rattle.scope_core.specs.Width.{width};
 
@@ -22,6 +24,7 @@ pub struct Case {
 impl Model for Case {
     ghost use Rattle.std.specs.Prelude.{◌≡◌};
     ghost use Rattle.std.specs.Coded.{codes};
+    ghost use Rattle.case_core.specs.Fitting.{TreesFitSymbols};
     ghost use Rattle.case_core.specs.Parts.{Parts};
     ghost use Rattle.scope_core.specs.Fitting.{FitsViews};
     ghost use Rattle.scope_core.specs.Width.{width as tree_width};
@@ -43,11 +46,11 @@ impl Model for Case {
       symbols = c.symbols;
     } };
 
-    ghost invariant = { λ c. (tree_width c.left ≡ tree_width c.right) × FitsViews c.views c.left × FitsViews c.views c.right };
+    ghost invariant = { λ c. (tree_width c.left ≡ tree_width c.right) × FitsViews c.views c.left × FitsViews c.views c.right × TreesFitSymbols c.symbols c.views c.left c.right };
 }
 
 impl Case {
-    /// Of two queries of one width over the views.
+    /// Of two queries of one width over the views, where the symbols have all their literals.
     pub(crate) fn new(
         schema: Schema,
         views: Views,
@@ -58,6 +61,7 @@ impl Case {
         requires one_width { width queries.0 ≡ width queries.1 }
         requires left { FitsViews views queries.0 }
         requires right { FitsViews views queries.1 }
+        requires symbols { TreesFitSymbols symbols views queries.0 queries.1 }
         ensures { result ≡ record { schema = schema; views = views; facts = facts; left = queries.0; right = queries.1; symbols = symbols } }
     {
         let (left, right) = queries;
@@ -80,7 +84,8 @@ impl Case {
 
     /// The resolved queries of the schema's views.
     pub fn views(&self) -> &Views
-        ensures { result.now ≡ self.now.views }
+        ensures value { result.now ≡ self.now.views }
+        ensures symbols { Each (FitsSymbols self.now.symbols) self.now.views }
     {
         &self.views
     }
@@ -96,6 +101,7 @@ impl Case {
     pub fn left(&self) -> &Resolved
         ensures value { result.now ≡ self.now.left }
         ensures fits { FitsViews self.now.views self.now.left }
+        ensures symbols { FitsSymbols self.now.symbols self.now.left }
     {
         &self.left
     }
@@ -104,6 +110,7 @@ impl Case {
     pub fn right(&self) -> &Resolved
         ensures value { result.now ≡ self.now.right }
         ensures fits { FitsViews self.now.views self.now.right }
+        ensures symbols { FitsSymbols self.now.symbols self.now.right }
     {
         &self.right
     }

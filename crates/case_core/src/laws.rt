@@ -1,5 +1,5 @@
 //! Laws of the definitions, each the contract of a function that does nothing.
-ghost use Rattle.std.specs.Prelude.{◌≡◌, ◌++◌, List, [], ℕ};
+ghost use Rattle.std.specs.Prelude.{◌≡◌, ◌++◌, List, [], length, ℕ};
 ghost use Rattle.data_model.specs.Lists.{Each};
 ghost use Rattle.grammar.specs.Form.{Room};
 ghost use Rattle.grammar.specs.Language.{HasFronts, Includes, IsUnambiguous};
@@ -11,6 +11,7 @@ ghost use Rattle.schema_read.specs.Statements.{of_form};
 ghost use Rattle.case_core.specs.declared.text.CaseText.{CaseText as Written};
 ghost use Rattle.case_core.specs.CaseGrammar as g;
 ghost use Rattle.case_core.specs.Cases.{BeginsCase, IsRead, SpellsCase, cases, shallow_cases};
+ghost use Rattle.case_core.specs.Fitting.{TextFits};
 ghost use Rattle.case_core.specs.Refusals.{PassesCopies, PassesCount, PassesDepth};
 
 /// No text spells two cases, and no list of tokens two values of one.
@@ -58,4 +59,9 @@ pub fn few_in_each_block()
     ensures views { (text : List ℕ) (written : Written) (numbers : Numbers) → IsRead text written numbers → Each (ViewHasFew 32) written.statements }
     ensures left { (text : List ℕ) (written : Written) (numbers : Numbers) → IsRead text written numbers → HasFewEntries 32 written.left }
     ensures right { (text : List ℕ) (written : Written) (numbers : Numbers) → IsRead text written numbers → HasFewEntries 32 written.right }
+{}
+
+/// The number of each literal in the views and the two queries that a text spells is that of one of the case's literals.
+pub fn literals_have_numbers()
+    ensures { (text : List ℕ) (written : Written) (numbers : Numbers) → SpellsCase text written numbers → TextFits (length numbers.literals) written }
 {}

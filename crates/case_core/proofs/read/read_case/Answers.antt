@@ -1,6 +1,7 @@
 use Rattle.std.proofs.Common.{subst, sym, ◌∙◌}
 use Rattle.sql_read.specs.Cursor.{numbers_of}
 use Rattle.case_core.specs.Answer.{HasSchema, IsCase, IsRefused}
+use Rattle.case_core.proofs.FitCases.{trees_fit}
 use Rattle.case_core.proofs.Texts.{refused_at}
 use Rattle.case_core.proofs.WholeCases.{left_refused, right_refused, schema_refused, text_refused, views_refused, well_formed, widths_refused}
 use Rattle.case_core.proofs.read.read_case.Goals as goal
@@ -54,4 +55,10 @@ returns-clause-read c =
       right = c.in_ok-right.ensures.value;
       one_width = sym c.in_ok-left.ensures.wide ∙ (c.in_ok-expect_one_width.ensures.same ∙ c.in_ok-right.ensures.wide);
       facts = c.in_ok-facts.ensures;
+      fit_symbols = trees_fit h c.in_ok-views.ensures.symbols c.in_ok-left.ensures.symbols c.in_ok-right.ensures.symbols;
     })
+
+pub new-requires-clause-symbols : goal.new-requires-clause-symbols
+new-requires-clause-symbols c =
+    let h : HasSchema c.args.bytes.now c.in_ok-text.text (numbers_of c.in_ok-text.symbols) c.in_ok-schema.schema = record { read = c.in_ok-text.ensures.read; built = c.in_ok-schema.ensures.built } in
+    trees_fit h c.in_ok-views.ensures.symbols c.in_ok-left.ensures.symbols c.in_ok-right.ensures.symbols

@@ -1,0 +1,95 @@
+-- The literals of a case that is spelled have numbers in it, and so those of its trees.
+use Rattle.std.proofs.Common.{ℕ, false, List, [], ◌∷◌, ◌++◌, length, map, None, inl, inr, sym, ◌∙◌, ap, subst, unwrap_or, arith}
+use Rattle.data_model.specs.Lists.{Each}
+use Rattle.sql_lex.specs.Lexemes.{Lexeme}
+use Rattle.sql_model.specs.declared.statement.NameAt.{NameAt}
+use Rattle.sql_model.specs.declared.statement.Statement.{Statement}
+use Rattle.sql_model.specs.declared.statement.Statement.TheVariants as statement
+use Rattle.sql_model.specs.declared.schema.Schema.{Schema}
+use Rattle.sql_model.specs.declared.schema.Table.{Table}
+use Rattle.sql_model.specs.declared.symbols.Symbols.{Symbols}
+use Rattle.sql_model.specs.declared.tree.Query.{Query}
+use Rattle.sql_model.specs.SelectStar.{entry_of}
+use Rattle.sql_grammar.specs.Numbering.{Built, Numbers, first_numbers}
+use Rattle.sql_read.specs.Cursor.{numbers_of}
+use Rattle.schema_read.specs.Builds.{Builds}
+use Rattle.schema_read.specs.Declarations.{declared_relation, no_table, relation_entry, table_named}
+use Rattle.schema_read.specs.Indexes.{column_item, index_query, shown_columns}
+use Rattle.schema_read.specs.Order.{map_along}
+use Rattle.schema_read.specs.StatementGrammar as statements
+use Rattle.schema_read.specs.StatementTrees as trees_of
+use Rattle.schema_read.specs.Statements.{of_form}
+use Rattle.scope_core.specs.Literals.{QueryFits, RelationFits, SchemaFits, TreeFits}
+use Rattle.scope_core.specs.Syntax.{RQuery}
+use Rattle.case_core.specs.declared.text.CaseText.{CaseText}
+use Rattle.case_core.specs.CaseGrammar as g
+use Rattle.case_core.specs.Cases.{SpellsCase, cases}
+use Rattle.case_core.specs.Fitting.{TextFits, TreesFitSymbols, ViewFits}
+use Rattle.case_core.specs.Answer.{HasSchema}
+use Rattle.case_core.proofs.FitQueries.{Fits, each_of, fit_both, fit_each, fit_mapped, fit_plain, query_fits}
+use Rattle.case_core.proofs.FitTrees as trees
+use Rattle.case_core.proofs.FitTrees.{OfEntry, OfItem}
+
+-- ---- the text
+
+statement_fits : (ts : List Lexeme) (v : Built Statement) → (of_form None statements.statement).spells ts v → Fits ViewFits v
+statement_fits ts v (p, (x, y, e, w, inl (u, s, j)), i) = subst (Fits ViewFits) (sym (i ∙ j)) (fit_plain _ (λ count. tt))
+statement_fits ts v (p, (x, y, e, w, inr (inl (u, (o, (x1, y1, e1, c, (x2, y2, e2, d, (q, (x3, y3, e3, b, s), h))), k), j))), i) =
+    subst (Fits ViewFits) (sym (i ∙ (j ∙ ap (λ z. trees_of.view z.0 z.1) (k ∙ ap (λ z. (o.1.0, z)) h))))
+    (fit_mapped (λ z. statement.View (trees_of.named o.1.0) z) (λ count z f. f) (query_fits y3 q.1 s))
+statement_fits ts v (p, (x, y, e, w, inr (inr (u, s, j))), i) = subst (Fits ViewFits) (sym (i ∙ j)) (fit_plain _ (λ count. tt))
+
+ended_statement_fits : (ts : List Lexeme) (v : Built Statement) → (of_form None (statements.ended_with statements.elements)).spells ts v → Fits ViewFits v
+ended_statement_fits ts v (p, (x, y, e, s, end), i) = subst (Fits ViewFits) (sym i) (statement_fits x p.0 s)
+
+statements_fit : (ts : List Lexeme) (read : Built (List Statement)) → (of_form None statements.statements).spells ts read → Fits (λ count. Each (ViewFits count)) read
+statements_fit ts read (bs, s, i) = subst (Fits (λ count. Each (ViewFits count))) (sym i) (fit_each bs (each_of ended_statement_fits bs ts s))
+
+ended_query_fits : (ts : List Lexeme) (v : Built Query) → (of_form None g.ended_query).spells ts v → Fits QueryFits v
+ended_query_fits ts v (p, (x, y, e, s, end), i) = subst (Fits QueryFits) (sym i) (query_fits x p.0 s)
+
+case_fits : (ts : List Lexeme) (v : Built CaseText) → cases.spells ts v → Fits TextFits v
+case_fits ts v (u, (x, y, e, s, (x1, y1, e1, l, r)), i) =
+    subst (Fits TextFits) (sym i)
+    (fit_mapped g.text_of (λ count p f. record { views = f.0; left = f.1.0; right = f.1.1 })
+    (fit_both (statements_fit x u.0 s) (fit_both (ended_query_fits x1 u.1.0 l) (ended_query_fits y1 u.1.1 r))))
+
+pub text_fits : (text : List ℕ) (written : CaseText) (numbers : Numbers) → SpellsCase text written numbers → TextFits (length numbers.literals) written
+text_fits text written numbers s =
+    subst (λ p. TextFits (length p.1.literals) p.0) s.built
+    ((case_fits s.tokens s.read s.spelled).holds first_numbers (length (s.read.build first_numbers).1.literals) (omega arith))
+
+-- ---- the schema that its statements build
+
+module _ (count : ℕ) where
+  columns_fit : (columns : List NameAt) → Each (OfItem count) (map column_item columns)
+  columns_fit [] = tt
+  columns_fit (column ∷ columns) = (trees.bare_column_fits count column.name column.at, columns_fit columns)
+
+  -- an index has none
+  index_fits : (on : NameAt) (columns : List NameAt) (table : Table) → QueryFits count (index_query on columns table)
+  index_fits on columns table =
+      trees.block_fits count false (map column_item (shown_columns columns on.at table)) (entry_of on.name on.name on.at on.at ∷ []) (columns_fit (shown_columns columns on.at table))
+      (trees.table_entry_fits count on.name on.name on.at on.at, tt) None None None tt tt tt
+
+  relation_fits : (all earlier : List Statement) (s : Statement) → ViewFits count s → RelationFits count (declared_relation all earlier s)
+  relation_fits all earlier (statement.Table name columns rules) f = tt
+  relation_fits all earlier (statement.View name query) f = f
+  relation_fits all earlier (statement.Index name unique on columns) f = index_fits on columns (unwrap_or (table_named earlier on.name) no_table)
+
+  relations_fit : (all earlier list : List Statement) → Each (ViewFits count) list → Each (λ r. RelationFits count r.1) (map_along (relation_entry all) earlier list)
+  relations_fit all earlier [] f = tt
+  relations_fit all earlier (s ∷ list) f = (relation_fits all earlier s f.0, relations_fit all (earlier ++ s ∷ []) list f.1)
+
+  pub schema_fits : {list : List Statement} {schema : Schema} → Builds list schema → Each (ViewFits count) list → SchemaFits count schema
+  schema_fits {list = list} b f = subst (Each (λ r. RelationFits count r.1)) (sym b.relations) (relations_fit list [] list f)
+
+-- ---- the trees, where resolving keeps what fits
+
+module _ {text : List ℕ} {written : CaseText} {schema : Schema} {symbols : Symbols} (h : HasSchema text written (numbers_of symbols) schema) where
+  pub trees_fit : {views : List RQuery} {left right : RQuery} → ((count : ℕ) → SchemaFits count schema → Each (TreeFits count) views)
+      → ((count : ℕ) → QueryFits count written.left → TreeFits count left) → ((count : ℕ) → QueryFits count written.right → TreeFits count right) → TreesFitSymbols symbols views left right
+  trees_fit v l r =
+      let fit = text_fits text written (numbers_of symbols) h.read.spells in
+      let count = length symbols.lits.keys in
+      record { views_fit = v count (schema_fits count h.built fit.views); left_fits = l count fit.left; right_fits = r count fit.right }
