@@ -1,31 +1,29 @@
 -- What is known of the parts of a term that is known.
-use Rattle.std.proofs.Common.{◌≡◌, ℕ, ◌+◌, ◌<◌, ◌≤◌, ◌≢◌, Bool, true, false, List, ◌++◌, refl, ap, sym, subst, ◌∙◌, arith}
+use Rattle.std.proofs.Common.{◌≡◌, ℕ, ◌+◌, ◌<◌, ◌≢◌, Bool, true, false, List, ap, sym, subst, ◌∙◌, arith}
 use Rattle.std.specs.Prelude.{nat_eq, if◌then◌else◌, IsPermutation}
-use Rattle.std.proofs.lemmas.List.Sorted.{IsPermutation-refl, IsPermutation-append_comm}
+use Rattle.std.proofs.lemmas.List.Sorted.{IsPermutation-refl}
 use Rattle.u_terms.specs.declared.facts.Facts.{Facts}
-use Rattle.u_terms.specs.declared.term.U.TheVariants as u
 use Rattle.u_terms.specs.Syntax.{U, Zero, One, Add, Mul, Squash, Not, Sum, Rel, Eq, Pred, Val, Bound, Free, Lit, Fun, Agg, Vals, NoVals, ValThen, constructors}
-use Rattle.u_terms.specs.Size.{nodes, value_nodes, depth, value_depth}
 use Rattle.u_terms.specs.Places.{IsClosed}
 use Rattle.u_terms.specs.Names.{IsFreeBelow, IsUnused, EachName, EachNameValue, EachNameRow}
-use Rattle.u_terms.specs.Binding.{opened, closed_at, same_name, same_place, value_for_place, place_for_name}
-use Rattle.u_terms.proofs.Binding.{closed_at-unused, closed_at-opened}
+use Rattle.u_terms.specs.Binding.{opened, closed_at, same_name, value_for_place}
+use Rattle.u_terms.proofs.Binding.{closed_at-opened}
 use Rattle.u_terms.proofs.Closedness.{opened-closed}
-use Rattle.u_terms.proofs.Mapped.{mapped-Mul}
 use Rattle.u_terms.proofs.MappedNames.{names-mapped}
-use Rattle.u_terms.proofs.MappedSizes.{nodes-mapped}
 use Rattle.u_terms.specs.Products.{product_of}
-use Rattle.u_rules.specs.Terms.{◌⊕◌, ◌⊗◌, I, O, S, add_leaves, mul_leaves}
-use Rattle.u_rules.proofs.LeavesAt.{mul_leaves-Mul}
+use Rattle.u_rules.specs.Terms.{◌⊕◌, ◌⊗◌, I, O, S, add_leaves, mul_leaves, neg, sq}
 use Rattle.u_moves.specs.Derivations.{Derivation, IsKnown, IsSound}
 use Rattle.u_moves.proofs.Sound.{last-known}
 use Rattle.normal_form.specs.NormalTerms.{sum_of}
 use Rattle.normal_form.specs.Kinds.{ordered}
-use Rattle.normal_form.specs.LooseTerms.{IsProduct}
-use Rattle.normal_form.proofs.Leaves.{leaves-in_row, in_row-has, leaves-in_order, in_order-has}
-use Rattle.normal_form.proofs.Ordered.{all-ordered}
+use Rattle.normal_form.proofs.Leaves.{leaves-in_row, in_row-has, in_order-has}
 use Rattle.u_congruence.specs.Congruence.{IsBy}
-use Rattle.u_congruence.proofs.Turned.{known-Add, known-Mul, known-Sum}
+use Rattle.u_congruence.proofs.Turned.{known-Add, known-Mul}
+use Rattle.u_normal.specs.declared.merging.Wrap.{Wrap}
+use Rattle.u_normal.specs.declared.merging.Wrap.TheVariants as wrap
+use Rattle.u_normal.specs.Taking.{Takes}
+use Rattle.u_normal.specs.Merging.{wrapped}
+use Rattle.u_normal.proofs.Takings.{rest-has, part-has}
 
 -- ---- names that have one property have another
 module _ (P Q : ℕ → Type 0) (f : (x : ℕ) → P x → Q x) where
@@ -59,9 +57,6 @@ unused-below : (outs : ℕ) (u : U) → IsFreeBelow outs u → IsUnused outs u
 unused-below outs u h = names-of (λ x. x < outs) (λ x. x ≢ outs) (λ x less. omega (arith, less)) u h
 
 module _ (outs : ℕ) where
-  pub known-more : (k : ℕ) (u : U) → IsKnown k outs u → IsKnown k (outs + 1) u
-  known-more k u h = record { closed = h.closed; named = names-of (λ x. x < outs) (λ x. x < outs + 1) (λ x less. omega (arith, less)) u h.named }
-
   pub known-left : (k : ℕ) (a b : U) → IsKnown k outs (a ⊕ b) → IsKnown k outs a
   unfolding IsClosed EachName constructors
   known-left k a b h = record { closed = h.closed.0; named = h.named.0 }
@@ -94,11 +89,12 @@ module _ (outs : ℕ) where
   }
 
   -- a body with a name for its place and again a place for the name
-  pub body-again : (x f : U) → IsKnown 0 outs x → IsKnown 1 outs f → closed_at (x ⊗ opened f outs) outs ≡ x ⊗ f
-  body-again x f hx hf =
-      mapped-Mul same_place (place_for_name outs) 0 x (opened f outs)
-      ∙ ap (λ (t : U). t ⊗ closed_at (opened f outs) outs) (closed_at-unused x outs (unused-below outs x hx.named))
-      ∙ ap (λ (t : U). x ⊗ t) (closed_at-opened f outs (unused-below outs f hf.named))
+  pub body-again : (f : U) → IsKnown 1 outs f → closed_at (opened f outs) outs ≡ f
+  body-again f h = closed_at-opened f outs (unused-below outs f h.named)
+
+  -- the same of a derivation's first term
+  pub again-at : (n : ℕ) (f from : U) → n ≡ outs → from ≡ opened f outs → IsKnown 1 outs f → closed_at from n ≡ f
+  again-at n f from en e h = ap (λ (k : ℕ). closed_at from k) en ∙ ap (λ (t : U). closed_at t outs) e ∙ body-again f h
 
   pub in_row-known : (u : U) → IsKnown 0 outs u → IsKnown 0 outs (sum_of (add_leaves u))
   in_row-known = in_row-has (λ u. IsKnown 0 outs u) known-zero (known-Add 0 outs) (known-left 0) (known-right 0)
@@ -118,39 +114,29 @@ module _ (outs : ℕ) where
   pub in_order-known : (u : U) → IsKnown 0 outs u → IsKnown 0 outs (product_of (ordered (mul_leaves u)))
   in_order-known = in_order-has (λ u. IsKnown 0 outs u) known-one (known-Mul 0 outs) (known-factor_left 0) (known-factor_right 0)
 
-pub in_order-leaves : (u : U) → IsProduct u → IsPermutation (mul_leaves u) (mul_leaves (product_of (ordered (mul_leaves u))))
-in_order-leaves u h = subst (λ (us : List U). IsPermutation (mul_leaves u) us) (sym (leaves-in_order u)) (all-ordered (mul_leaves u) h.factors)
-
 pub in_row-leaves : (u : U) → IsPermutation (add_leaves u) (add_leaves (sum_of (add_leaves u)))
 in_row-leaves u = subst (λ (us : List U). IsPermutation (add_leaves u) us) (sym (leaves-in_row u)) (IsPermutation-refl (add_leaves u))
-
-pub exchanged-leaves : (a b : U) → IsPermutation (mul_leaves (a ⊗ b)) (mul_leaves (b ⊗ a))
-exchanged-leaves a b =
-    subst (λ (us : List U). IsPermutation us (mul_leaves (b ⊗ a))) (sym (mul_leaves-Mul a b))
-    (subst (λ (us : List U). IsPermutation (mul_leaves a ++ mul_leaves b) us) (sym (mul_leaves-Mul b a)) (IsPermutation-append_comm (mul_leaves a) (mul_leaves b)))
 
 -- ---- the last term of a derivation
 pub to-known : (F : Facts) (outs : ℕ) (d : Derivation) → IsBy F outs d → IsSound d → IsKnown 0 outs d.to
 to-known F outs d by sound = subst (λ (n : ℕ). IsKnown 0 n d.to) by.outs (last-known d sound)
 
--- ---- sizes
-one-node : (b : Bool) (i x : ℕ) → value_nodes (if b then Free x else Bound i) ≡ 1
-unfolding nodes
-one-node true i x = refl
-one-node false i x = refl
+-- ---- factors that are taken out
+module _ (outs : ℕ) where
+  pub rest-known : {t rest part : U} → Takes t rest part → IsKnown 0 outs t → IsKnown 0 outs rest
+  rest-known h = rest-has (λ u. IsKnown 0 outs u) (known-one outs) (known-Mul 0 outs) (known-factor_left outs 0) (known-factor_right outs 0) h
 
-free-node : (x : ℕ) → value_nodes (Free x) ≡ 1
-unfolding nodes
-free-node x = refl
+  pub part-known : {t rest part : U} → Takes t rest part → IsKnown 0 outs t → IsKnown 0 outs part
+  part-known h = part-has (λ u. IsKnown 0 outs u) (known-one outs) (known-Mul 0 outs) (known-factor_left outs 0) (known-factor_right outs 0) h
 
-one-deep : (b : Bool) (i x : ℕ) → value_depth (if b then Free x else Bound i) ≡ 1
-unfolding depth
-one-deep true i x = refl
-one-deep false i x = refl
+  pub known-squashed : (p : U) → IsKnown 0 outs (sq p) → IsKnown 0 outs p
+  unfolding IsClosed EachName constructors
+  known-squashed p h = record { closed = h.closed; named = h.named }
 
-free-deep : (x : ℕ) → value_depth (Free x) ≡ 1
-unfolding depth
-free-deep x = refl
+  pub known-negated : (p : U) → IsKnown 0 outs (neg p) → IsKnown 0 outs p
+  unfolding IsClosed EachName constructors
+  known-negated p h = record { closed = h.closed; named = h.named }
 
-pub opened-nodes : (u : U) (x : ℕ) → nodes (opened u x) ≡ nodes u
-opened-nodes u x = nodes-mapped (value_for_place (Free x)) same_name (λ k i. one-node (nat_eq i k) i x) (λ k y. free-node y) (λ k i. one-deep (nat_eq i k) i x) (λ k y. free-deep y) u 0
+  pub known-unwrapped : (w : Wrap) (p : U) → IsKnown 0 outs (wrapped w p) → IsKnown 0 outs p
+  known-unwrapped wrap.Squash p h = known-squashed p h
+  known-unwrapped wrap.Not p h = known-negated p h

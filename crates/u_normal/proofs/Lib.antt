@@ -1,3 +1,11 @@
+pub mod Nodes
+pub mod Loads
+pub mod Standing
+pub mod Takings
+pub mod Merges
+pub mod Finishes
+pub mod Blocks
 pub mod KnownParts
 pub mod Led
-pub mod Merged
+pub mod IntoAggregates
+pub mod ValuesLed

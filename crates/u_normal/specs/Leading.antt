@@ -2,9 +2,7 @@
 use Rattle.std.specs.Prelude.{◌≡◌, ℕ}
 use Rattle.u_terms.specs.Syntax.{U}
 use Rattle.u_terms.specs.declared.facts.Facts.{Facts}
-use Rattle.u_rules.specs.Terms.{S}
 use Rattle.u_moves.specs.Derivations.{Derivation}
-use Rattle.normal_form.specs.LooseTerms.{IsLoose}
 
 -- from the term to one that has the property
 pub record Leads (P : U → Type 0) (F : Facts) (names : ℕ) (first : U) (d : Derivation) : Type 0 where
@@ -12,9 +10,3 @@ pub record Leads (P : U → Type 0) (F : Facts) (names : ℕ) (first : U) (d : D
   pub outs : d.outs ≡ names
   pub from : d.from ≡ first
   pub reached : P d.to
-
--- ---- contracts of private functions alone cite this
-pub record IsSumOfLoose (u : U) : Type 0 where
-  pub body : U
-  pub is : u ≡ S body
-  pub loose : IsLoose body

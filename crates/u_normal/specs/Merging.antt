@@ -1,47 +1,65 @@
--- Blocks whose squashes become one, and whose negations become one: contracts of private functions alone cite this.
-use Rattle.std.specs.Prelude.{◌≡◌, ◌≤◌, false, List, length}
-use Rattle.u_terms.specs.Syntax.{U, Mul, Squash as SquashOf, Not}
-use Rattle.u_rules.specs.Terms.{add_leaves, mul_leaves, neg, sq}
-use Rattle.u_terms.specs.Products.{product_of}
+-- Products whose squashes become one, and whose negations become one: contracts of private functions alone cite this.
+use Rattle.std.specs.Prelude.{◌≡◌, ◌≤◌, ◌<◌, Some}
+use Rattle.data_model.specs.Lists.{Each}
+use Rattle.u_terms.specs.Syntax.{U}
+use Rattle.u_rules.specs.Terms.{◌⊗◌, ◌⊕◌, mul_leaves, neg, sq}
 use Rattle.normal_form.specs.declared.kind.Kind.{Kind}
-use Rattle.normal_form.specs.Kinds.{is_truth}
-use Rattle.normal_form.specs.NormalTerms.{IsNormal, AreBlocks, AreFactors}
+use Rattle.normal_form.specs.declared.kind.Kind.TheVariants as kind
+use Rattle.normal_form.specs.Kinds.{kind_of}
+use Rattle.u_normal.specs.declared.merging.Wrap.{Wrap}
+use Rattle.u_normal.specs.declared.merging.Wrap.TheVariants.{Squash, Not}
+use Rattle.u_normal.specs.declared.merging.Pair.{Pair}
+use Rattle.u_normal.specs.Taking.{Takes, load, count}
 
--- a sum of blocks, in any order and with 0 among them
-pub record HasBlocks (u : U) : Type 0 where
-  pub blocks : AreBlocks (add_leaves u)
+abbrev pub wrap_kind : Wrap → Kind
+wrap_kind Squash = kind.Squash
+wrap_kind Not = kind.Negation
 
--- a row of factors of one kind
-pub record IsRow (kind : Kind) (u : U) : Type 0 where
-  pub factors : List U
-  pub are : AreFactors kind factors
-  pub is : u ≡ product_of factors
+abbrev pub wrapped : Wrap → U → U
+wrapped Squash p = sq p
+wrapped Not p = neg p
 
--- at most one factor, of the kind
-pub record IsAtMostOne (kind : Kind) (u : U) : Type 0 where
-  pub factors : AreFactors kind (mul_leaves u)
-  pub few : length (mul_leaves u) ≤ 1
+-- the factor with both bodies
+abbrev pub both : Wrap → U → U → U
+both Squash p q = sq (p ⊗ q)
+both Not p q = neg (p ⊕ q)
 
--- ---- squashes of normal terms, one or more
-pub data IsSquashRow : U → Type 0 where
-  last_squash : {p : U} → IsNormal p → IsSquashRow (SquashOf p)
-  squash_first : {p rest : U} → IsNormal p → IsSquashRow rest → IsSquashRow (Mul (SquashOf p) rest)
+-- ---- factors
+pub record HasKind (u : U) : Type 0 where
+  pub kind : Kind
+  pub is : kind_of u ≡ Some kind
 
-pub record IsSquash (u : U) : Type 0 where
-  pub body : U
-  pub is : u ≡ sq body
-  pub normal : IsNormal body
+-- no factor is 0, a sum or a sum over values
+pub record HasKinds (u : U) : Type 0 where
+  pub each : Each HasKind (mul_leaves u)
 
--- ---- negations of normal terms that are no bare equality or predicate, one or more
-pub record IsPlain (u : U) : Type 0 where
-  pub normal : IsNormal u
-  pub not_bare : is_truth u ≡ false
+pub record HasOneAtMost (wrap : Wrap) (u : U) : Type 0 where
+  pub few : count (wrap_kind wrap) u ≤ 1
 
-pub data IsNegationRow : U → Type 0 where
-  last_negation : {p : U} → IsPlain p → IsNegationRow (Not p)
-  negation_first : {p rest : U} → IsPlain p → IsNegationRow rest → IsNegationRow (Mul (Not p) rest)
+-- two such factors, taken out one after the other
+pub record IsPair (wrap : Wrap) (u : U) (pair : Pair) : Type 0 where
+  pub between : U
+  pub first_takes : Takes u between pair.first
+  pub second_takes : Takes between pair.rest pair.second
+  pub first_is : kind_of pair.first ≡ Some (wrap_kind wrap)
+  pub second_is : kind_of pair.second ≡ Some (wrap_kind wrap)
 
-pub record IsNegation (u : U) : Type 0 where
-  pub body : U
-  pub is : u ≡ neg body
-  pub plain : IsPlain body
+-- the factor with the bodies of both
+pub record IsBoth (wrap : Wrap) (first second u : U) : Type 0 where
+  pub p : U
+  pub q : U
+  pub first_is : first ≡ wrapped wrap p
+  pub second_is : second ≡ wrapped wrap q
+  pub is : u ≡ both wrap p q
+
+-- ---- what a product becomes
+pub record IsFewer (wrap : Wrap) (before after : U) : Type 0 where
+  pub kinds : HasKinds before → HasKinds after
+  pub squashes : count kind.Squash after ≤ count kind.Squash before
+  pub light : load after < load before
+
+pub record IsMerged (wrap : Wrap) (before after : U) : Type 0 where
+  pub kinds : HasKinds after
+  pub few : count (wrap_kind wrap) after ≤ 1
+  pub squashes : count kind.Squash after ≤ count kind.Squash before
+  pub light : load after ≤ load before

@@ -1,13 +1,13 @@
 //! Derivations to the normal form of a term.
 #![tactic(auto)]
 
-mod negations;
-mod products;
+mod heads;
+mod merging;
 mod steps;
 mod sums;
+mod taking;
+mod values;
+mod whole;
 
-pub use negations::few_negations;
-pub use products::times;
 pub use std::alloc::AllocError as NoMemory;
-pub use steps::{negation_of_sum, squash_of_product, then_in_order, then_in_row};
-pub use sums::over_all;
+pub use whole::normal;

@@ -1,17 +1,17 @@
 //! Single steps, and derivations one after the other.
-ghost use Rattle.std.specs.Prelude.{◌≡◌, ◌∷◌, [], IfOk};
+ghost use Rattle.std.specs.Prelude.{◌≡◌, IfOk, IsPermutation};
 ghost use Rattle.u_terms.specs.Products.{product_of};
 ghost use Rattle.u_rules.specs.Terms.{◌⊗◌, ◌⊕◌, O, S, add_leaves, mul_leaves, neg, sq};
 ghost use Rattle.u_moves.specs.Derivations.{IsKnown};
 ghost use Rattle.normal_form.specs.Kinds.{ordered};
-ghost use Rattle.normal_form.specs.LooseTerms.{IsProduct};
 ghost use Rattle.normal_form.specs.NormalTerms.{sum_of};
 ghost use Rattle.u_congruence.specs.Congruence.{IsBy, IsFromTo};
+ghost use Rattle.u_normal.specs.Merging.{HasKinds};
 
 use crate::NoMemory;
 use normal_form::{in_order, in_row};
 use std::alloc::Global;
-use u_congruence::{Derived, copied};
+use u_congruence::{Derived, copied, still};
 use u_moves::Moves;
 use u_terms::{Boxed, U, same};
 
@@ -39,23 +39,17 @@ pub fn product(alloc: Global, x: &U, y: &U) -> Result<Boxed<U>, NoMemory>
     Boxed::new(alloc, U::Mul(x, y))
 }
 
-/// The sum of copies.
-pub fn sum_of_two(alloc: Global, x: &U, y: &U) -> Result<Boxed<U>, NoMemory>
-    ensures { IfOk result (λ u. u ≡ x.now ⊕ y.now) }
+/// The factors of a product change places, and `1` comes and goes, by one step at most.
+pub fn regrouped<'f>(moves: Moves<'f>, u: &U, to: Boxed<U>) -> Result<Derived<'f>, NoMemory>
+    requires known { IsKnown 0 moves.outs u.now }
+    requires known_to { IsKnown 0 moves.outs to }
+    requires leaves { IsPermutation (mul_leaves u.now) (mul_leaves to) }
+    ensures { IfOk result (IsFromTo moves.entry.facts.now moves.entry.outs u.now to) }
 {
-    let x = copied(alloc, x)?;
-    let y = copied(alloc, y)?;
-    Boxed::new(alloc, U::Add(x, y))
-}
-
-/// The factors of a product change places.
-pub fn exchanged<'f>(moves: Moves<'f>, x: &U, y: &U) -> Result<Derived<'f>, NoMemory>
-    requires x { IsKnown 0 moves.outs x.now }
-    requires y { IsKnown 0 moves.outs y.now }
-    ensures { IfOk result (IsFromTo moves.entry.facts.now moves.entry.outs (x.now ⊗ y.now) (y.now ⊗ x.now)) }
-{
-    let from = product(moves.alloc, x, y)?;
-    let to = product(moves.alloc, y, x)?;
+    if same(u, to.get()) {
+        return still(moves, to);
+    }
+    let from = copied(moves.alloc, u)?;
     let step = moves.mul_ac(from.into_inner(), to.into_inner())?;
     Boxed::new(moves.alloc, step)
 }
@@ -134,17 +128,12 @@ pub fn then_in_row<'f>(moves: Moves<'f>, d: Derived<'f>) -> Result<Derived<'f>, 
 /// The derivation, and then what is multiplied in its last term by kinds, by one step at most.
 pub fn then_in_order<'f>(moves: Moves<'f>, d: Derived<'f>) -> Result<Derived<'f>, NoMemory>
     requires by { IsBy moves.facts.now moves.outs d }
-    requires product { IsProduct d.to }
+    requires kinds { HasKinds d.to }
     ensures { IfOk result (IsFromTo moves.entry.facts.now moves.entry.outs d.entry.from (product_of (ordered (mul_leaves d.entry.to)))) }
 {
     let row = Boxed::new(moves.alloc, in_order(moves.alloc, d.get().to())?)?;
-    if same(d.get().to(), row.get()) {
-        return Ok(d);
-    }
-    let last = copied(moves.alloc, d.get().to())?;
-    let step = moves.mul_ac(last.into_inner(), row.into_inner())?;
-    let step = Boxed::new(moves.alloc, step)?;
-    joined(moves.alloc, d, step)
+    let turn = regrouped(moves, d.get().to(), row)?;
+    joined(moves.alloc, d, turn)
 }
 
 /// A product of squashes becomes one squash.

@@ -1,0 +1,16 @@
+-- Sums over all values of sums. Contracts of private functions alone cite this.
+use Rattle.std.specs.Prelude.{◌≡◌}
+use Rattle.u_terms.specs.Syntax.{U, Zero, Add, Sum}
+use Rattle.u_rules.specs.Terms.{S}
+use Rattle.normal_form.specs.NormalTerms.{IsNormal}
+
+-- a sum over all values before each term that is added
+unfoldable pub over_each : U → U
+over_each Zero = Zero
+over_each (Add a b) = Add (over_each a) (over_each b)
+over_each u = Sum u
+
+pub record IsSumOverBlocks (u : U) : Type 0 where
+  pub body : U
+  pub is : u ≡ S body
+  pub normal : IsNormal body

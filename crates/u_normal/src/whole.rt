@@ -1,0 +1,246 @@
+//! From any term to a normal one.
+ghost use Rattle.std.specs.Prelude.{◌≡◌, ◌↔◌, ◌+◌, ◌++◌, ◌∷◌, [], IfOk, IsTrue, Some};
+ghost use Rattle.u_terms.specs.Binding.{opened};
+ghost use Rattle.u_rules.specs.Terms.{◌⊕◌, S};
+ghost use Rattle.u_moves.specs.Derivations.{IsKnown};
+ghost use Rattle.u_moves.specs.Moving.{AreKnownValues, IsKnownValue};
+ghost use Rattle.normal_form.specs.Kinds as spec;
+ghost use Rattle.normal_form.specs.declared.kind.Kind.TheVariants as kind;
+ghost use Rattle.normal_form.specs.NormalTerms.{IsNormal};
+ghost use Rattle.u_congruence.specs.Congruence.{IsBy};
+ghost use Rattle.u_normal.specs.Finishing.{IsFactorOrOne, IsFinished, IsFinishedPlain, IsPlain};
+ghost use Rattle.u_normal.specs.Heads.{HasHead, IsFactorRow, IsTidy};
+ghost use Rattle.u_normal.specs.Leading.{Leads};
+ghost use Rattle.u_normal.specs.Values.{AreNormalAt, AreStanding, IsNormalAt, LeadsOn, Stands};
+
+use crate::NoMemory;
+use crate::heads::headed;
+use crate::steps::{joined, then_in_order, then_in_row};
+use crate::sums::then_over_each;
+use crate::values::{extended, then_in_aggregate};
+use normal_form::{Kind, kind_of};
+use u_congruence::{
+    Derived, added, copied, inside, multiplied, negated, opened, squashed, still, summed,
+};
+use u_moves::Moves;
+use u_terms::{Boxed, U, Val};
+
+/// From a term to a normal one. Nothing is simplified that the form does not ask for. A factor beside a sum is copied into each product
+/// as it is, and made normal there.
+#[cycle(normal)]
+pub fn normal<'f>(moves: Moves<'f>, u: &U) -> Result<Derived<'f>, NoMemory>
+    requires { IsKnown 0 moves.outs u.now }
+    ensures { IfOk result (Leads IsNormal moves.entry.facts.now moves.entry.outs u.now) }
+{
+    match u {
+        U::Zero => still(moves, copied(moves.alloc, u)?),
+        U::Add(a, b) => normal_sum(moves, a.get(), b.get()),
+        U::Sum(f) => normal_body(moves, f.get()),
+        _ => normal_product(moves, u),
+    }
+}
+
+// The same of a sum.
+#[cycle(normal)]
+fn normal_sum<'f>(moves: Moves<'f>, a: &U, b: &U) -> Result<Derived<'f>, NoMemory>
+    requires a { IsKnown 0 moves.outs a.now }
+    requires b { IsKnown 0 moves.outs b.now }
+    ensures { IfOk result (Leads IsNormal moves.entry.facts.now moves.entry.outs (a.now ⊕ b.now)) }
+{
+    let left = normal(moves, a)?;
+    let right = normal(moves, b)?;
+    added_in_row(moves, left, right)
+}
+
+// The same of a sum over all values.
+#[cycle(normal)]
+fn normal_body<'f>(moves: Moves<'f>, f: &U) -> Result<Derived<'f>, NoMemory>
+    requires { IsKnown 1 moves.outs f.now }
+    ensures { IfOk result (Leads IsNormal moves.entry.facts.now moves.entry.outs (S f.now)) }
+{
+    let part = normal_opened(moves, f)?;
+    let sum = summed(moves, part)?;
+    then_over_each(moves, sum)
+}
+
+// The same of a body, with the name `outs` for its place.
+#[cycle(normal)]
+fn normal_opened<'f>(moves: Moves<'f>, f: &U) -> Result<Derived<'f>, NoMemory>
+    requires { IsKnown 1 moves.outs f.now }
+    ensures { IfOk result (Leads IsNormal moves.entry.facts.now (moves.entry.outs + 1) (opened f.now moves.entry.outs)) }
+{
+    let inner = inside(moves)?;
+    let body = Boxed::new(moves.alloc, opened(moves.alloc, f, moves.outs)?)?;
+    normal(inner, body.get())
+}
+
+// The same of a product.
+#[cycle(normal)]
+fn normal_product<'f>(moves: Moves<'f>, u: &U) -> Result<Derived<'f>, NoMemory>
+    requires { IsKnown 0 moves.outs u.now }
+    ensures { IfOk result (Leads IsNormal moves.entry.facts.now moves.entry.outs u.now) }
+{
+    let first = headed(moves, u)?;
+    let rest = normal_parts(moves, first.get().to())?;
+    joined(moves.alloc, first, rest)
+}
+
+// The same of a sum, or of a product without sums.
+#[cycle(normal)]
+fn normal_parts<'f>(moves: Moves<'f>, u: &U) -> Result<Derived<'f>, NoMemory>
+    requires known { IsKnown 0 moves.outs u.now }
+    requires head { HasHead u.now }
+    ensures { IfOk result (Leads IsNormal moves.entry.facts.now moves.entry.outs u.now) }
+{
+    match u {
+        U::Zero => still(moves, copied(moves.alloc, u)?),
+        U::Add(a, b) => normal_sum(moves, a.get(), b.get()),
+        U::Sum(f) => normal_body(moves, f.get()),
+        _ => {
+            let row = normal_row(moves, u)?;
+            in_block(moves, u, row)
+        }
+    }
+}
+
+// From factors to normal ones.
+#[cycle(normal)]
+fn normal_row<'f>(moves: Moves<'f>, u: &U) -> Result<Derived<'f>, NoMemory>
+    requires known { IsKnown 0 moves.outs u.now }
+    requires row { IsFactorRow u.now }
+    ensures { IfOk result (Leads (IsFinished u.now) moves.entry.facts.now moves.entry.outs u.now) }
+{
+    match u {
+        U::Mul(factor, others) => {
+            let first = normal_factor(moves, factor.get())?;
+            let rest = normal_row(moves, others.get())?;
+            multiplied(moves, first, rest)
+        }
+        _ => normal_factor(moves, u),
+    }
+}
+
+// From a factor to a normal one.
+#[cycle(normal)]
+fn normal_factor<'f>(moves: Moves<'f>, u: &U) -> Result<Derived<'f>, NoMemory>
+    requires known { IsKnown 0 moves.outs u.now }
+    requires factor { IsFactorOrOne u.now }
+    ensures { IfOk result (Leads (IsFinished u.now) moves.entry.facts.now moves.entry.outs u.now) }
+{
+    match u {
+        U::Squash(p) => {
+            let body = normal(moves, p.get())?;
+            squashed(moves, body)
+        }
+        U::Not(p) if is_negation(u) => {
+            let part = normal(moves, p.get())?;
+            negated(moves, part)
+        }
+        U::Not(p) => {
+            let part = normal_plain(moves, p.get())?;
+            negated(moves, part)
+        }
+        _ => normal_plain(moves, u),
+    }
+}
+
+// From an equality, a predicate, a relation or 1 to one whose values are normal.
+#[cycle(normal)]
+fn normal_plain<'f>(moves: Moves<'f>, u: &U) -> Result<Derived<'f>, NoMemory>
+    requires known { IsKnown 0 moves.outs u.now }
+    requires plain { IsPlain u.now }
+    ensures { IfOk result (Leads (IsFinishedPlain u.now) moves.entry.facts.now moves.entry.outs u.now) }
+{
+    let whole = still(moves, copied(moves.alloc, u)?)?;
+    match u {
+        U::Rel(_, values) => normal_values(moves, whole, &[], values.as_slice()),
+        U::Pred(_, values) => normal_values(moves, whole, &[], values.as_slice()),
+        U::Eq(a, b) => {
+            let half = normal_value(moves, whole, &[], 0, a)?;
+            normal_value(moves, half, &[], 1, b)
+        }
+        _ => Ok(whole),
+    }
+}
+
+// The derivation, and then the values made normal that stand in its last term as arguments at the end of the path.
+#[cycle(normal)]
+fn normal_values<'f>(
+    moves: Moves<'f>,
+    whole: Derived<'f>,
+    path: &[u32],
+    values: &[Val],
+) -> Result<Derived<'f>, NoMemory>
+    requires by { IsBy moves.facts.now moves.outs whole }
+    requires known { AreKnownValues moves.outs values.now }
+    requires stand { AreStanding path.now values.now whole.to }
+    ensures { IfOk result (LeadsOn (AreNormalAt path.now values.now) whole.entry) }
+{
+    let mut done = whole;
+    for (index, value) in values.iter().enumerate() {
+        done = normal_value(moves, done, path, index, value)?;
+    }
+    Ok(done)
+}
+
+// The same of one such value, which stands as this argument.
+#[cycle(normal)]
+fn normal_value<'f>(
+    moves: Moves<'f>,
+    whole: Derived<'f>,
+    path: &[u32],
+    index: usize,
+    value: &Val,
+) -> Result<Derived<'f>, NoMemory>
+    requires by { IsBy moves.facts.now moves.outs whole }
+    requires known { IsKnownValue moves.outs value.now }
+    requires stands { Stands (path.now ++ index ∷ []) value.now whole.to }
+    ensures { IfOk result (LeadsOn (IsNormalAt (path.now ++ index ∷ []) value.now) whole.entry) }
+{
+    match value {
+        Val::Bound(_) => Ok(whole),
+        Val::Free(_) => Ok(whole),
+        Val::Lit(_) => Ok(whole),
+        Val::Fun(_, values) => {
+            let place = extended(moves.alloc, path, index)?;
+            normal_values(moves, whole, place.as_slice(), values.as_slice())
+        }
+        Val::Agg(_, body) => {
+            let place = extended(moves.alloc, path, index)?;
+            let part = normal_opened(moves, body.get())?;
+            then_in_aggregate(moves.alloc, whole, place.as_slice(), part)
+        }
+    }
+}
+
+// Whether a factor is the negation of another term than an equality or a predicate.
+fn is_negation(u: &U) -> bool
+    ensures { IsTrue result ↔ (spec.kind_of u.now ≡ Some kind.Negation) }
+{
+    kind_of(u) == Some(Kind::Negation)
+}
+
+// The sum of what both lead to, in one row.
+fn added_in_row<'f>(
+    moves: Moves<'f>,
+    left: Derived<'f>,
+    right: Derived<'f>,
+) -> Result<Derived<'f>, NoMemory>
+    requires left { IsBy moves.facts.now moves.outs left }
+    requires right { IsBy moves.facts.now moves.outs right }
+    requires normal_left { IsNormal left.to }
+    requires normal_right { IsNormal right.to }
+    ensures { IfOk result (Leads IsNormal moves.entry.facts.now moves.entry.outs (left.entry.from ⊕ right.entry.from)) }
+{
+    let both = added(moves, left, right)?;
+    then_in_row(moves, both)
+}
+
+// The normal factors in order.
+fn in_block<'f>(moves: Moves<'f>, u: &U, row: Derived<'f>) -> Result<Derived<'f>, NoMemory>
+    requires tidy { IsTidy u.now }
+    requires row { Leads (IsFinished u.now) moves.facts.now moves.outs u.now row }
+    ensures { IfOk result (Leads IsNormal moves.entry.facts.now moves.entry.outs u.now) }
+{
+    then_in_order(moves, row)
+}
