@@ -13,7 +13,7 @@ use Rattle.u_rules.specs.Terms.{mul_leaves}
 use Rattle.u_entail.specs.Spines.{spine, weight}
 use Rattle.u_entail.proofs.Parts.{each-weaker, each-append}
 
-weight-append : (xs ys : List U) → weight (xs ++ ys) ≡ weight xs + weight ys
+pub weight-append : (xs ys : List U) → weight (xs ++ ys) ≡ weight xs + weight ys
 weight-append xs ys = omega (arith, sum_by-append nodes xs ys, length-append xs ys)
 
 weight-one : (x : U) → weight (x ∷ []) ≡ nodes x + 1

@@ -15,7 +15,7 @@ use Rattle.u_equal.specs.Entails.{Entails}
 use Rattle.u_equal.specs.Links.{IsChain}
 use Rattle.u_moves.specs.Derivations.{Derivation, IsKnown}
 use Rattle.u_moves.specs.Moving.{IsKnownValue}
-use Rattle.u_entail.specs.Following.{AreFactors, AreGiven, LeadsBy}
+use Rattle.u_entail.specs.Following.{AreFactors, AreGiven, Lead, LeadsBy}
 use Rattle.u_entail.specs.Gaining.{IsThroughCalls, IsGainedBy, IsGained, IsWidened, Derives, Appends, Begins}
 use Rattle.u_entail.proofs.Leading.{leads-entail, leads-given, leads-by}
 use Rattle.u_entail.proofs.Gained.{by-links, by-chain, by-entailment, product-appended}
@@ -38,6 +38,9 @@ module _ (product classes : U) (is : classes ≡ product) (a b : Val) (found : O
     pub chain-leads : (factors : List U) → Begins product factors → LeadsBy factors a links b
     chain-leads factors begins = leads-by product factors begins.rest begins.is a b links the-chain.0
 
+    pub chain-lead : (factors : List U) → Begins product factors → Lead factors a links
+    chain-lead factors begins = record { to = b; by = chain-leads factors begins }
+
     pub derives : (facts : Facts) (outs : ℕ) (factors : List U) → factors ≡ mul_leaves product → (d : Derivation)
         → IsGainedBy facts outs factors product (product ⊗ (a ≐ b)) a b links 3 d → Derives facts outs product a b d
     derives facts outs factors leaves d g =
@@ -49,11 +52,11 @@ module _ (product classes : U) (is : classes ≡ product) (a b : Val) (found : O
           short = by-chain facts outs product (mul_leaves product) product (product ⊗ (a ≐ b)) a b links 3 d the-chain h;
         }
 
-    pub appends : (facts : Facts) (outs : ℕ) (factors : List U) → IsKnownValue outs a → (first d : Derivation) → IsWidened facts outs factors first → IsGained factors a b links first d
-        → Appends facts outs product factors a b d
-    appends facts outs factors known first d w g =
+    pub appends : (facts : Facts) (outs : ℕ) (factors : List U) → Begins product factors → IsKnownValue outs a → (first d : Derivation) → IsWidened facts outs factors first
+        → IsGained factors a links first d → Appends facts outs product factors a b d
+    appends facts outs factors begins known first d w g =
         let last : U = product_of (factors ++ (a ≐ b) ∷ []) in
-        let h = product-appended facts outs factors a b known links first d w g in
+        let h = product-appended facts outs factors a b known links (chain-leads factors begins) first d w g in
         record {
           entailed = by-entailment facts outs product factors (product_of factors) last a b links 2 d the-chain h;
           leads = h.leads;

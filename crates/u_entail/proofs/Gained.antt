@@ -1,6 +1,6 @@
 -- An equality in the place of a last factor 1: how it is gained, and how large the terms on the way are.
 use Rattle.std.proofs.Common.{◌≡◌, ℕ, ◌+◌, ◌*◌, ◌^◌, ◌<◌, ◌≤◌, max, List, [], ◌∷◌, ◌++◌, length, refl, ap, sym, ◌∙◌, subst, arith}
-use Rattle.std.specs.Prelude.{Some, slice_get, IsPermutation}
+use Rattle.std.specs.Prelude.{Some, slice_get, IsPermutation, IfOk, Result, Ok, Err}
 use Rattle.std.proofs.lemmas.List.{append-nil, length-append}
 use Rattle.std.proofs.lemmas.List.Sorted.{IsPermutation-refl}
 use Rattle.data_model.specs.Lists.{Each}
@@ -14,12 +14,12 @@ use Rattle.u_rules.proofs.LeavesAt.{mul_leaves-Mul, mul_leaves-One}
 use Rattle.u_deriv.specs.declared.step.Step.{Step}
 use Rattle.u_equal.specs.declared.link.Link.{Link}
 use Rattle.u_equal.specs.Entails.{Entails}
-use Rattle.u_equal.specs.Links.{IsChain}
+use Rattle.u_equal.specs.Links.{HasCount, IsChain}
 use Rattle.u_moves.specs.Derivations.{Derivation, IsKnown, IsWithin, IsOneStep, IsStill, IsJoined}
 use Rattle.u_moves.specs.Moving.{IsKnownValue}
 use Rattle.u_entail.specs.declared.following.Followed.{Followed}
-use Rattle.u_entail.specs.Following.{AreFactors, AreGiven, IsBounded, IsFollowed, LeadsBy, SidesWithin, Stands}
-use Rattle.u_entail.specs.Gaining.{with_place, IsGained, IsGainedBy, IsRegrouped, HasStepsOf, IsShort, IsWidened}
+use Rattle.u_entail.specs.Following.{AreFactors, AreGiven, IsBounded, IsFollowed, Lead, LeadsBy, SidesWithin, Stands}
+use Rattle.u_entail.specs.Gaining.{with_place, EndsIn, HasStepsOf, IsBegun, IsGained, IsGainedBy, IsGainedIn, IsLed, IsRegathered, IsRegrouped, IsShort, IsStarted, IsWidened, LeadsBetween}
 use Rattle.u_entail.specs.Spines.{spine, weight, IsMadeBehind}
 use Rattle.u_entail.proofs.Bounds.{AreWithin, weight-at, weight-leaves, weight-product, depth-leaves, depth-product, depth-spine}
 use Rattle.u_entail.proofs.Leading.{leads-entail, leads-given, count-given}
@@ -88,39 +88,64 @@ module _ (facts : Facts) (outs : ℕ) where
     depth = omega (arith, em, one.depth, ap depth el, ap depth er);
   }
 
--- ---- the equality, from 1 to the value with itself and along the links
-module _ (facts : Facts) (outs : ℕ) (factors : List U) (a : Val) (known : IsKnownValue outs a) (first itself d : Derivation) (to : first.to ≡ spine factors I) (here : first.facts ≡ facts) (names : first.outs ≡ outs)
-    (one : IsRegrouped facts outs I (a ≐ a) itself) (made : IsMadeBehind factors first itself d) where
-  pub itself-stands : (body : U) → body ≡ with_place a → (w : Val) → w ≡ a → Stands facts outs factors body (record { deriv = d; value = w })
-  itself-stands body is w same = record {
-    facts = made.facts ∙ here;
-    outs = made.outs ∙ names;
-    to =
-        made.to
-        ∙ ap (λ (t : U). spine factors t)
-        (let l = one.leads in l.to ∙ sym (place-put outs a a known) ∙ sym (ap (λ (t : U). put a t) is) ∙ sym (ap (λ (c : Val). put c body) same));
-    value = subst (IsKnownValue outs) (sym same) known;
-  }
-
-  itself-bounded : (n m : ℕ) → IsWithin n m (spine factors I) → IsWithin n m (spine factors (a ≐ a)) → IsBounded n m first → IsBounded n m d
-  itself-bounded n m w x bounded = record {
+-- ---- the equality, from 1 to the value with itself
+module _ (facts : Facts) (outs : ℕ) (factors : List U) (a : Val) (first itself d : Derivation) (ends : EndsIn facts outs (spine factors I) first) (one : IsRegrouped facts outs I (a ≐ a) itself)
+    (made : IsMadeBehind factors first itself d) where
+  begun-bounded : (n m : ℕ) → IsWithin n m (spine factors I) → IsWithin n m (spine factors (a ≐ a)) → IsBounded n m first → IsBounded n m d
+  begun-bounded n m w x bounded = record {
     few = omega (arith, made.nodes, one.nodes, nodes-spine factors I, nodes-spine factors (a ≐ a), w.few, x.few, bounded.few);
     shallow = omega (arith, made.depth, one.depth, depth-behind factors I, depth-behind factors (a ≐ a), w.shallow, x.shallow, bounded.shallow);
   }
 
-  pub equality-gained : (b : Val) (links : List Link) → LeadsBy factors a links b → (body : U) → body ≡ with_place a → (w : Val) → w ≡ a → (end : Followed) → Stands facts outs factors body end
-      → IsFollowed factors body links (record { deriv = d; value = w }) end → IsGained factors a b links first end.deriv
-  equality-gained b links leads body is w same end h f =
-      let there : end.value ≡ b = f.arrives b (subst (λ (c : Val). LeadsBy factors c links b) (sym same) leads) in
+  pub equality-begun : IsBegun facts outs factors a first d
+  equality-begun =
+      let l = one.leads in
       record {
-        facts = h.facts ∙ sym here;
-        outs = h.outs ∙ sym names;
-        from = f.from ∙ made.from;
-        to = h.to ∙ ap (λ (t : U). spine factors t) (ap (λ (c : Val). put c body) there ∙ ap (λ (t : U). put b t) is ∙ place-put outs a b known);
-        steps = λ n c. omega (arith, f.steps n c, made.steps, one.steps);
-        within = λ n m given sides w x bounded.
-            f.within n m given (subst (λ (t : U). SidesWithin n m factors t) (sym is) sides) (itself-bounded n m w x bounded);
+        ends = record { facts = made.facts ∙ ends.facts; outs = made.outs ∙ ends.outs; to = made.to ∙ ap (λ (t : U). spine factors t) l.to };
+        from = made.from;
+        steps = omega (arith, made.steps, one.steps);
+        within = begun-bounded;
       }
+
+-- ---- and along the links
+module _ (facts : Facts) (outs : ℕ) (factors : List U) (a : Val) (known : IsKnownValue outs a) (begun : Derivation) (ends : EndsIn facts outs (spine factors (a ≐ a)) begun) (body : U) (is : body ≡ with_place a)
+    (at : Followed) (start : IsStarted begun a at) where
+  pub start-stands : Stands facts outs factors body at
+  start-stands = record {
+    facts = ap (λ (d : Derivation). d.facts) start.deriv ∙ ends.facts;
+    outs = ap (λ (d : Derivation). d.outs) start.deriv ∙ ends.outs;
+    to =
+        ap (λ (d : Derivation). d.to) start.deriv ∙ ends.to
+        ∙ ap (λ (t : U). spine factors t) (sym (place-put outs a a known) ∙ sym (ap (λ (t : U). put a t) is) ∙ sym (ap (λ (c : Val). put c body) start.value));
+    value = subst (IsKnownValue outs) (sym start.value) known;
+  }
+
+  pub start-leads : (links : List Link) → Lead factors a links → Lead factors at.value links
+  start-leads links lead = subst (λ (c : Val). Lead factors c links) (sym start.value) lead
+
+  pub equality-led : (links : List Link) (end : Followed) → Stands facts outs factors body end → IsFollowed factors body links at end → IsLed facts outs factors a links begun end.deriv
+  equality-led links end h f = record {
+    facts = h.facts;
+    outs = h.outs;
+    from = f.from ∙ ap (λ (d : Derivation). d.from) start.deriv;
+    arrives = λ b leads.
+        let there : end.value ≡ b = f.arrives b (subst (λ (c : Val). LeadsBy factors c links b) (sym start.value) leads) in
+        h.to ∙ ap (λ (t : U). spine factors t) (ap (λ (c : Val). put c body) there ∙ ap (λ (t : U). put b t) is ∙ place-put outs a b known);
+    steps = λ n c. omega (arith, f.steps n c, ap (λ (d : Derivation). length d.steps) start.deriv);
+    within = λ n m given sides bounded.
+        f.within n m given (subst (λ (t : U). SidesWithin n m factors t) (sym is) sides) (subst (IsBounded n m) (sym start.deriv) bounded);
+  }
+
+pub equality-gained : (facts : Facts) (outs : ℕ) (factors : List U) (a : Val) (links : List Link) (first begun d : Derivation) → EndsIn facts outs (spine factors I) first
+    → IsBegun facts outs factors a first begun → IsLed facts outs factors a links begun d → IsGained factors a links first d
+equality-gained facts outs factors a links first begun d ends b l = record {
+  facts = l.facts ∙ sym ends.facts;
+  outs = l.outs ∙ sym ends.outs;
+  from = l.from ∙ b.from;
+  arrives = l.arrives;
+  steps = λ n c. omega (arith, l.steps n c, b.steps);
+  within = λ n m given sides w x bounded. l.within n m given sides (b.within n m w x bounded);
+}
 
 -- ---- how large
 module _ (outs : ℕ) (factors : List U) (first : U) (weighs : weight factors ≤ nodes first + 1) (deep : AreWithin (depth first) factors) (a b : Val) (known : IsKnownValue outs a) where
@@ -176,44 +201,77 @@ module _ (outs : ℕ) (factors : List U) (first : U) (weighs : weight factors �
   whole-within = record { few = omega (arith, nodes-Mul first (a ≐ b), nodes-Eq a b); shallow = omega (arith, depth-Mul first (a ≐ b)) }
 
 -- ---- the product times the equality
-module _ (facts : Facts) (outs : ℕ) (product : U) (factors : List U) (is : factors ≡ mul_leaves product) (a b : Val) (known : IsKnownValue outs a) (links : List Link) (spread gained gathered d : Derivation)
-    (s : IsRegrouped facts outs product (spine factors I) spread) (g : IsGained factors a b links spread gained)
-    (h : IsRegrouped facts outs (spine factors (a ≐ b)) (product ⊗ (a ≐ b)) gathered) where
+pub spread-ends : (facts : Facts) (outs : ℕ) (first last : U) (d : Derivation) → IsRegrouped facts outs first last d → EndsIn facts outs last d
+spread-ends facts outs first last d r = let l = r.leads in record { facts = l.facts; outs = l.outs; to = l.to }
+
+pub gained-between : (facts : Facts) (outs : ℕ) (product : U) (factors : List U) (a b : Val) (links : List Link) (d : Derivation) → LeadsBy factors a links b
+    → IsGainedIn facts outs product factors a links d → LeadsBetween facts outs product (spine factors (a ≐ b)) d
+gained-between facts outs product factors a b links d leads h =
+    let s = h.first in
+    let l = s.leads in
+    let g = h.gained in
+    record { facts = g.facts ∙ l.facts; outs = g.outs ∙ l.outs; from = g.from ∙ l.from; to = g.arrives b leads }
+
+pub regathered : {E : Type 0} (facts : Facts) (outs : ℕ) (factors : List U) (product : U) (a b : Val) (gained gathered : Derivation) → IsRegrouped facts outs (spine factors (a ≐ b)) (product ⊗ (a ≐ b)) gathered
+    → (r : Result Derivation E) → IfOk r (λ d. d.facts ≡ gained.facts) → IfOk r (λ d. d.outs ≡ gained.outs) → IfOk r (λ d. d.from ≡ gained.from) → IfOk r (λ d. d.to ≡ gathered.to)
+    → IfOk r (λ d. d.steps ≡ gained.steps ++ gathered.steps) → IfOk r (IsJoined gained gathered) → IfOk r (IsRegathered facts outs factors product a b gained)
+regathered facts outs factors product a b gained gathered last (Ok d) ef eo ea eb es j =
+    record { gathered = gathered; last = last; facts = ef; outs = eo; from = ea; to = eb; steps = es; bounds = j }
+regathered facts outs factors product a b gained gathered last (Err e) ef eo ea eb es j = tt
+
+module _ (facts : Facts) (outs : ℕ) (product : U) (factors : List U) (is : factors ≡ mul_leaves product) (a b : Val) (known : IsKnownValue outs a) (links : List Link) (leads : LeadsBy factors a links b)
+    (gained d : Derivation) (h : IsGainedIn facts outs product factors a links gained) (k : IsRegathered facts outs factors product a b gained d) where
   weighs : weight factors ≤ nodes product + 1
   weighs = omega (arith, ap weight is, weight-leaves product)
 
   deep : AreWithin (depth product) factors
   deep = subst (λ xs. AreWithin (depth product) xs) (sym is) (depth-leaves product)
 
-  spread-bounded : IsBounded (most_nodes outs factors product weighs deep a b known) (most_depth outs factors product weighs deep a b known) spread
+  abbrev many : ℕ
+  many = most_nodes outs factors product weighs deep a b known
+
+  abbrev level : ℕ
+  level = most_depth outs factors product weighs deep a b known
+
+  spread-bounded : IsBounded many level h.spread
   spread-bounded =
+      let s = h.first in
       let w = first-within outs factors product weighs deep a b known in
       let x = one-within outs factors product weighs deep a b known in
       record { few = omega (arith, s.nodes, w.few, x.few); shallow = omega (arith, s.depth, w.shallow, x.shallow) }
 
-  gained-bounded : AreGiven links → IsBounded (most_nodes outs factors product weighs deep a b known) (most_depth outs factors product weighs deep a b known) gained
+  gained-bounded : AreGiven links → IsBounded many level gained
   gained-bounded given =
-      g.within (most_nodes outs factors product weighs deep a b known) (most_depth outs factors product weighs deep a b known) given (sides-within outs factors product weighs deep a b known)
-      (one-within outs factors product weighs deep a b known) (itself-within outs factors product weighs deep a b known) spread-bounded
+      let g = h.gained in
+      g.within many level given (sides-within outs factors product weighs deep a b known) (one-within outs factors product weighs deep a b known) (itself-within outs factors product weighs deep a b known)
+      spread-bounded
 
-  pub product-gained : d.facts ≡ gained.facts → d.outs ≡ gained.outs → d.from ≡ gained.from → d.to ≡ gathered.to → d.steps ≡ gained.steps ++ gathered.steps → IsJoined gained gathered d
-      → IsGainedBy facts outs factors product (product ⊗ (a ≐ b)) a b links 3 d
-  product-gained ef eo ea eb es j =
-      let sl = s.leads in
-      let hl = h.leads in
+  whole-bounded : AreGiven links → IsBounded many level d
+  whole-bounded given =
+      let j = k.bounds in
+      let last = k.last in
+      let w = gained-bounded given in
+      let x = end-within outs factors product weighs deep a b known in
+      let y = whole-within outs factors product weighs deep a b known in
+      record { few = omega (arith, j.nodes, w.few, last.nodes, x.few, y.few); shallow = omega (arith, j.depth, w.shallow, last.depth, x.shallow, y.shallow) }
+
+  whole-steps : (n : ℕ) → HasCount links n → length d.steps ≤ n + 3
+  whole-steps n c =
+      let s = h.first in
+      let g = h.gained in
+      let last = k.last in
+      omega (arith, g.steps n c, s.steps, last.steps, ap length k.steps, length-append gained.steps k.gathered.steps)
+
+  pub product-gained : IsGainedBy facts outs factors product (product ⊗ (a ≐ b)) a b links 3 d
+  product-gained =
+      let l = gained-between facts outs product factors a b links gained leads h in
+      let last = k.last in
+      let m = last.leads in
       record {
-        leads = record { facts = ef ∙ g.facts ∙ sl.facts; outs = eo ∙ g.outs ∙ sl.outs; from = ea ∙ g.from ∙ sl.from; to = eb ∙ hl.to };
-        steps = λ n c. omega (arith, g.steps n c, s.steps, h.steps, ap length es, length-append gained.steps gathered.steps);
-        nodes = λ given.
-            let w = gained-bounded given in
-            let x = end-within outs factors product weighs deep a b known in
-            let y = whole-within outs factors product weighs deep a b known in
-            omega (arith, j.nodes, w.few, h.nodes, x.few, y.few);
-        depth = λ given.
-            let w = gained-bounded given in
-            let x = end-within outs factors product weighs deep a b known in
-            let y = whole-within outs factors product weighs deep a b known in
-            omega (arith, j.depth, w.shallow, h.depth, x.shallow, y.shallow);
+        leads = record { facts = k.facts ∙ l.facts; outs = k.outs ∙ l.outs; from = k.from ∙ l.from; to = k.to ∙ m.to };
+        steps = whole-steps;
+        nodes = λ given. let w = whole-bounded given in w.few;
+        depth = λ given. let w = whole-bounded given in w.shallow;
       }
 
 -- ---- by a chain
@@ -284,8 +342,8 @@ module _ (outs : ℕ) (factors front : List U) (last : U) (parts : factors ≡ f
   whole-shallow w is room = omega (arith, room, ap depth is, ap (λ (xs : List U). depth (product_of xs)) parts, ap depth (product-spine front last))
 
 -- ---- the equality behind the factors
-module _ (facts : Facts) (outs : ℕ) (factors : List U) (a b : Val) (known : IsKnownValue outs a) (links : List Link) (first d : Derivation) (w : IsWidened facts outs factors first)
-    (g : IsGained factors a b links first d) where
+module _ (facts : Facts) (outs : ℕ) (factors : List U) (a b : Val) (known : IsKnownValue outs a) (links : List Link) (leads : LeadsBy factors a links b) (first d : Derivation)
+    (w : IsWidened facts outs factors first) (g : IsGained factors a links first d) where
   abbrev whole : U
   whole = product_of factors
 
@@ -302,7 +360,7 @@ module _ (facts : Facts) (outs : ℕ) (factors : List U) (a b : Val) (known : Is
   product-appended =
       let l = w.leads in
       record {
-        leads = record { facts = g.facts ∙ l.facts; outs = g.outs ∙ l.outs; from = g.from ∙ l.from; to = g.to ∙ sym (product-spine factors (a ≐ b)) };
+        leads = record { facts = g.facts ∙ l.facts; outs = g.outs ∙ l.outs; from = g.from ∙ l.from; to = g.arrives b leads ∙ sym (product-spine factors (a ≐ b)) };
         steps = λ n c. omega (arith, g.steps n c, w.steps);
         nodes = λ given. let h = appended-bounded given in h.few;
         depth = λ given. let h = appended-bounded given in h.shallow;

@@ -9,3 +9,4 @@ pub mod Followed
 pub mod Bounds
 pub mod Gained
 pub mod Chained
+pub mod Doubled

@@ -6,24 +6,27 @@ use Rattle.u_terms.specs.Products.{product_of}
 use Rattle.u_terms.specs.declared.facts.Facts.{Facts}
 use Rattle.u_terms.specs.declared.term.Val.TheVariants as v
 use Rattle.u_rules.specs.Terms.{◌⊗◌, ◌≐◌, I, mul_leaves}
-use Rattle.u_moves.specs.Derivations.{Derivation, IsWithin}
+use Rattle.u_moves.specs.Derivations.{Derivation, IsJoined, IsWithin}
 use Rattle.u_equal.specs.declared.link.Link.{Link}
 use Rattle.u_equal.specs.Standing.{standing}
 use Rattle.u_equal.specs.Entails.{Entails}
 use Rattle.u_equal.specs.Links.{Leads, HasCount, HasNoCall, is_equality}
 use Rattle.u_entail.specs.Spines.{spine}
-use Rattle.u_entail.specs.Following.{AreGiven, IsBounded, SidesWithin}
+use Rattle.u_entail.specs.declared.entailed.Entailed.{Entailed}
+use Rattle.u_entail.specs.declared.entailed.Entailed.TheVariants.{Found, Nothing, Calls}
+use Rattle.u_entail.specs.declared.following.Followed.{Followed}
+use Rattle.u_entail.specs.Following.{AreGiven, IsBounded, LeadsBy, SidesWithin}
 
 -- the equality whose right side is still open
 abbrev pub with_place : Val → U
 with_place a = a ≐ v.Bound 0
 
--- In the place of a last factor 1 stands the equality, by links that lead from its left side to its right one.
-pub record IsGained (factors : List U) (a b : Val) (links : List Link) (first d : Derivation) : Type 0 where
+-- In the place of a last factor 1 stands an equality: the right side has gone from the left one along the links.
+pub record IsGained (factors : List U) (a : Val) (links : List Link) (first d : Derivation) : Type 0 where
   pub facts : d.facts ≡ first.facts
   pub outs : d.outs ≡ first.outs
   pub from : d.from ≡ first.from
-  pub to : d.to ≡ spine factors (a ≐ b)
+  pub arrives : (b : Val) → LeadsBy factors a links b → d.to ≡ spine factors (a ≐ b)
   pub steps : (n : ℕ) → HasCount links n → length d.steps ≤ length first.steps + 1 + n
   pub within : (nodes depth : ℕ) → AreGiven links → SidesWithin nodes depth factors (with_place a) → IsWithin nodes depth (spine factors I) → IsWithin nodes depth (spine factors (a ≐ a))
       → IsBounded nodes depth first → IsBounded nodes depth d
@@ -48,6 +51,50 @@ pub record IsWidened (facts : Facts) (outs : ℕ) (factors : List U) (d : Deriva
   pub leads : LeadsBetween facts outs (product_of factors) (spine factors I) d
   pub steps : length d.steps ≤ 1
   pub within : (nodes depth : ℕ) → IsWithin nodes depth (product_of factors) → IsWithin nodes depth (spine factors I) → IsBounded nodes depth d
+
+-- this derivation leads to the term
+pub record EndsIn (F : Facts) (names : ℕ) (last : U) (d : Derivation) : Type 0 where
+  pub facts : d.facts ≡ F
+  pub outs : d.outs ≡ names
+  pub to : d.to ≡ last
+
+-- the last factor 1 has become the equality of the value with itself
+pub record IsBegun (facts : Facts) (outs : ℕ) (factors : List U) (a : Val) (first d : Derivation) : Type 0 where
+  pub ends : EndsIn facts outs (spine factors (a ≐ a)) d
+  pub from : d.from ≡ first.from
+  pub steps : length d.steps ≡ length first.steps + 1
+  pub within : (nodes depth : ℕ) → IsWithin nodes depth (spine factors I) → IsWithin nodes depth (spine factors (a ≐ a)) → IsBounded nodes depth first → IsBounded nodes depth d
+
+-- no link has been followed yet
+pub record IsStarted (d : Derivation) (a : Val) (at : Followed) : Type 0 where
+  pub deriv : at.deriv ≡ d
+  pub value : at.value ≡ a
+
+-- the right side of the equality of a value with itself has gone along the links
+pub record IsLed (F : Facts) (names : ℕ) (factors : List U) (a : Val) (links : List Link) (begun d : Derivation) : Type 0 where
+  pub facts : d.facts ≡ F
+  pub outs : d.outs ≡ names
+  pub from : d.from ≡ begun.from
+  pub arrives : (b : Val) → LeadsBy factors a links b → d.to ≡ spine factors (a ≐ b)
+  pub steps : (n : ℕ) → HasCount links n → length d.steps ≤ length begun.steps + n
+  pub within : (nodes depth : ℕ) → AreGiven links → SidesWithin nodes depth factors (with_place a) → IsBounded nodes depth begun → IsBounded nodes depth d
+
+-- the product leans to the right, and behind its factors the equality is gained
+pub record IsGainedIn (facts : Facts) (outs : ℕ) (product : U) (factors : List U) (a : Val) (links : List Link) (d : Derivation) : Type 0 where
+  pub spread : Derivation
+  pub first : IsRegrouped facts outs product (spine factors I) spread
+  pub gained : IsGained factors a links spread d
+
+-- the factors before the equality are the product again
+pub record IsRegathered (F : Facts) (names : ℕ) (factors : List U) (product : U) (a b : Val) (gained d : Derivation) : Type 0 where
+  pub gathered : Derivation
+  pub last : IsRegrouped F names (spine factors (a ≐ b)) (product ⊗ (a ≐ b)) gathered
+  pub facts : d.facts ≡ gained.facts
+  pub outs : d.outs ≡ gained.outs
+  pub from : d.from ≡ gained.from
+  pub to : d.to ≡ gathered.to
+  pub steps : d.steps ≡ gained.steps ++ gathered.steps
+  pub bounds : IsJoined gained gathered d
 
 -- by these links
 pub record IsGainedBy (facts : Facts) (outs : ℕ) (factors : List U) (first last : U) (a b : Val) (links : List Link) (more : ℕ) (d : Derivation) : Type 0 where
@@ -81,6 +128,11 @@ pub record Derives (facts : Facts) (outs : ℕ) (product : U) (a b : Val) (d : D
 abbrev pub IsThroughCalls : U → Val → Val → Type 0
 IsThroughCalls product a b = Entails product a b × (HasNoCall (standing product) → ⊥)
 
+abbrev pub IsDerived : Facts → ℕ → U → Val → Val → Entailed → Type 0
+IsDerived facts outs product a b Nothing = Entails product a b → ⊥
+IsDerived facts outs product a b (Found d) = Derives facts outs product a b d
+IsDerived facts outs product a b Calls = IsThroughCalls product a b
+
 -- ---- the equality behind the factors
 -- the factors of the product are the first ones
 pub record Begins (product : U) (factors : List U) : Type 0 where
@@ -92,3 +144,8 @@ pub record Appends (facts : Facts) (outs : ℕ) (product : U) (factors : List U)
   pub leads : LeadsBetween facts outs (product_of factors) (product_of (factors ++ (a ≐ b) ∷ [])) d
   pub links : HasStepsOf product a b 2 d
   pub short : IsShort product factors (product_of factors) a b 2 d
+
+abbrev pub IsAppended : Facts → ℕ → U → List U → Val → Val → Entailed → Type 0
+IsAppended facts outs product factors a b Nothing = Entails product a b → ⊥
+IsAppended facts outs product factors a b (Found d) = Appends facts outs product factors a b d
+IsAppended facts outs product factors a b Calls = IsThroughCalls product a b

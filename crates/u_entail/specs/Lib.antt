@@ -1,3 +1,4 @@
 pub mod Spines
 pub mod Following
 pub mod Gaining
+pub mod Marks

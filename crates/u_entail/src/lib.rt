@@ -1,8 +1,13 @@
-//! Chains of links between values, followed in the last factor of a product by its equalities.
+//! What the equalities of a product entail, gained as factors.
 #![tactic(auto)]
 
-pub mod following;
+mod entailed;
+mod equality;
+mod following;
 mod gaining;
-pub mod spine;
+mod marks;
+mod spine;
 
+pub use entailed::{Entailed, append, derive};
+pub use marks::repeat_mark;
 pub use std::alloc::AllocError as NoMemory;
