@@ -1,0 +1,62 @@
+//! A proof is searched, and written where it is whole.
+ghost use Rattle.u_moves.specs.Derivations.{IsKnown};
+ghost use Rattle.u_prover.specs.Proving.{KeepsLimits};
+ghost use Rattle.prove_run.specs.Proving.{IsSearched};
+
+use crate::PROOF_LIMIT;
+use proof_text::{proof_bytes, write_proof};
+use std::alloc::Global;
+use u_moves::Deriv;
+use u_prover::{Outcome, prove};
+use u_terms::{Facts, U};
+use udp_io::Sink;
+
+/// What comes of a search.
+#[derive(Clone, Copy, Debug, PartialEq, Eq)]
+pub enum Searched {
+    /// The text of a proof was written.
+    Proved,
+    /// No proof is known, or none that is short enough, and nothing was written.
+    Unknown,
+    /// The sink failed after a part of a proof.
+    WriteFault,
+    /// Memory ran out, and nothing was written.
+    NoMemory,
+}
+
+// Writes the text of the derivation, where it is not too long.
+fn write_derivation<K: Sink>(deriv: &Deriv<'_>, out: &mut K) -> Searched
+    requires { KeepsLimits deriv.now }
+    ensures { IsSearched deriv.now.facts deriv.now.outs deriv.now.from deriv.now.to
+        (K.written out.old) (K.written out.new) (K.faults out.old) (K.faults out.new) result }
+{
+    if proof_bytes(deriv.outs(), deriv.steps()) > PROOF_LIMIT as u64 {
+        return Searched::Unknown;
+    }
+    match write_proof(out, deriv.outs(), deriv.steps()) {
+        Ok(()) => Searched::Proved,
+        Err(_) => Searched::WriteFault,
+    }
+}
+
+/// Searches a proof that leads from the left term to the right one, and writes its text. Nothing is written before the proof is whole.
+pub fn prove_terms<K: Sink>(
+    alloc: Global,
+    facts: &Facts,
+    outs: u32,
+    left: &U,
+    right: &U,
+    budget: u64,
+    out: &mut K,
+) -> Searched
+    requires left { IsKnown 0 outs left.now }
+    requires right { IsKnown 0 outs right.now }
+    ensures { IsSearched facts.now outs left.now right.now
+        (K.written out.old) (K.written out.new) (K.faults out.old) (K.faults out.new) result }
+{
+    match prove(alloc, facts, outs, left, right, budget) {
+        Ok(Outcome::Found { deriv }) => write_derivation(&deriv, out),
+        Ok(Outcome::Unknown { .. }) => Searched::Unknown,
+        Err(_) => Searched::NoMemory,
+    }
+}

@@ -1,0 +1,2 @@
+pub mod RuleKinds
+pub mod Fitting

@@ -1,0 +1,9 @@
+//! Derivations from the term of one query to that of another.
+#![tactic(auto)]
+
+mod limits;
+mod proving;
+mod rearranging;
+
+pub use proving::{Outcome, prove};
+pub use std::alloc::AllocError as NoMemory;
