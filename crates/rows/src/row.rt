@@ -17,6 +17,8 @@ pub struct Text {
 pub struct Row {
     pub name: String,
     pub words: Vec<String>,
+    /// The words of a second run, which has what the first one wrote as a text. There is none without words.
+    pub then: Vec<String>,
     pub texts: Vec<Text>,
     pub expected: Outcome,
 }
@@ -56,6 +58,7 @@ impl RowReader {
             row: Row {
                 name: String::new(alloc),
                 words: Vec::new(alloc),
+                then: Vec::new(alloc),
                 texts: Vec::new(alloc),
                 expected: Outcome {
                     status: 0,
@@ -103,7 +106,11 @@ impl RowReader {
                 self.has_row = true;
                 self.has_output = false;
             }
-            "words" => self.row.words = words(self.alloc, rest)?,
+            "words" => {
+                self.row.words = words(self.alloc, rest)?;
+                self.row.then = Vec::new(self.alloc);
+            }
+            "then" => self.row.then = words(self.alloc, rest)?,
             "status" => {
                 self.row.expected.status = rest.parse().map_err(|_| RowFault::BadStatus)?;
             }

@@ -1,4 +1,4 @@
-//! `udp`: checks proofs that two SQL queries always return the same bag of rows.
+//! `udp`: seeks and checks proofs that two SQL queries always return the same bag of rows.
 #![tactic(auto)]
 
 ghost use Rattle.std.specs.Prelude.{◌≡◌};
@@ -8,7 +8,8 @@ ghost use Rattle.udp_run.specs.Answer.{code_of};
 use std::process::ExitCode;
 use std::{env, io};
 use udp_io::{FileStore, StdSink};
-use udp_run::{Status, run};
+use udp_run::Status;
+use udp_start::start;
 
 // The words after the program's name.
 fn words(rt: &HostRuntime) -> io::Result<Vec<String>> {
@@ -30,7 +31,7 @@ fn main(rt: HostRuntime) -> ExitCode {
         Ok(words) => {
             let mut store = FileStore::new(&rt);
             let mut out = StdSink::new(io::writer(&rt));
-            exit_code(run(rt.alloc(), &words, &mut store, &mut out))
+            exit_code(start(rt.alloc(), &words, &mut store, &mut out))
         }
         Err(error) if error.kind() == io::ErrorKind::OutOfMemory => ExitCode::from(8),
         Err(_) => ExitCode::from(9),

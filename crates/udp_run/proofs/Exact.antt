@@ -26,19 +26,19 @@ check-one words P case proof other also is are holds =
     subst (λ (name : List ℕ). P case name) p (subst (λ (name : List ℕ). P name also) c holds)
 
 -- ---- what was said of a verdict
-said-answer : (verdict : Verdict) (old new : Option (List ℕ)) (b n : ℕ) (answer : Status) → IsSaid verdict old new b n answer → IsAnswer verdict old new answer
+pub said-answer : (verdict : Verdict) (old new : Option (List ℕ)) (b n : ℕ) (answer : Status) → IsSaid verdict old new b n answer → IsAnswer verdict old new answer
 said-answer verdict old new b n answer (inl said) = inl said
 said-answer verdict old new b n answer (inr (inl (failed, rose, grows))) = inr (inr (inl failed))
 said-answer verdict old new b n answer (inr (inr (none, same))) = inr (inr (inr none))
 
-said-fault : (verdict other : Verdict) (old new : Option (List ℕ)) (b n : ℕ) (answer : Status) → IsFault verdict → IsSaid verdict old new b n answer → IsAnswer other old new answer
+pub said-fault : (verdict other : Verdict) (old new : Option (List ℕ)) (b n : ℕ) (answer : Status) → IsFault verdict → IsSaid verdict old new b n answer → IsAnswer other old new answer
 said-fault verdict other old new b n answer (inl fault) (inl (is, grows)) = inr (inl (is ∙ fault))
 said-fault verdict other old new b n answer (inr none) (inl (is, grows)) = inr (inr (inr (is ∙ none)))
 said-fault verdict other old new b n answer fault (inr (inl (failed, rose, grows))) = inr (inr (inl failed))
 said-fault verdict other old new b n answer fault (inr (inr (none, same))) = inr (inr (inr none))
 
 -- a status that is neither of a write fault nor of want of memory is the verdict's
-said-status : (verdict : Verdict) (old new : Option (List ℕ)) (b n : ℕ) (answer : Status) → IsSaid verdict old new b n answer
+pub said-status : (verdict : Verdict) (old new : Option (List ℕ)) (b n : ℕ) (answer : Status) → IsSaid verdict old new b n answer
     → (answer ≡ status.WriteFault → ⊥) → (answer ≡ status.NoMemory → ⊥) → status_of verdict ≡ answer
 said-status verdict old new b n answer (inl (is, grows)) written memory = sym is
 said-status verdict old new b n answer (inr (inl (failed, rose, grows))) written memory = absurd (written failed)
@@ -46,14 +46,14 @@ said-status verdict old new b n answer (inr (inr (none, same))) written memory =
 
 -- ---- what a verdict with a status says
 -- a status that a refusal does not end with
-no-refusal : (answer wanted : Status) → IsRefusal answer → answer ≡ wanted → wanted ≢ status.CaseRefused → wanted ≢ status.ProofRefused → wanted ≢ status.Limit
+pub no-refusal : (answer wanted : Status) → IsRefusal answer → answer ≡ wanted → wanted ≢ status.CaseRefused → wanted ≢ status.ProofRefused → wanted ≢ status.Limit
     → wanted ≢ status.NoMemory → ⊥
 no-refusal answer wanted (ends_refused e) w refused proof limit memory = refused (sym w ∙ e)
 no-refusal answer wanted (ends_proof e) w refused proof limit memory = proof (sym w ∙ e)
 no-refusal answer wanted (ends_limit e) w refused proof limit memory = limit (sym w ∙ e)
 no-refusal answer wanted (ends_memory e) w refused proof limit memory = memory (sym w ∙ e)
 
-is-found : (fault : TermFault) (found : Option TermFault) → size_status fault ≡ status.Limit → IsSizeCause fault found → found ≢ None
+pub is-found : (fault : TermFault) (found : Option TermFault) → size_status fault ≡ status.Limit → IsSizeCause fault found → found ≢ None
 is-found (no_term.TooBig what count) found e c = λ none. let n : Some (no_term.TooBig what count) ≡ None = sym (size-found (no_term.TooBig what count) found (λ m. cc) c) ∙ none in cc
 is-found no_term.NoMemory found e c = absurd cc
 
@@ -91,7 +91,7 @@ just-read_fault told (ProofRefused fault) e h = absurd (no-refusal (proof_status
 just-read_fault told NoSuchForm e h = absurd cc
 just-read_fault told OutOfMemory e h = absurd cc
 
-just-usage : (told : BothTold) (verdict : Verdict) → status_of verdict ≡ status.Usage → IsJust told verdict → ⊥
+pub just-usage : (told : BothTold) (verdict : Verdict) → status_of verdict ≡ status.Usage → IsJust told verdict → ⊥
 just-usage told NoSuchForm e h = h
 just-usage told (CaseRefused fault) e r = no-refusal (case_status fault) status.Usage (case-refusal fault) e (λ f. cc) (λ f. cc) (λ f. cc) (λ f. cc)
 just-usage told (TermRefused fault) e r = no-refusal (size_status fault) status.Usage (size-refusal fault) e (λ f. cc) (λ f. cc) (λ f. cc) (λ f. cc)
@@ -106,7 +106,7 @@ just-usage told (ProofRefused fault) e h = no-refusal (proof_status fault) statu
 just-usage told OutOfMemory e h = cc
 
 -- no verdict has the status of a write fault
-no-write_fault : (verdict : Verdict) → status_of verdict ≡ status.WriteFault → ⊥
+pub no-write_fault : (verdict : Verdict) → status_of verdict ≡ status.WriteFault → ⊥
 no-write_fault (CaseRefused fault) e = no-refusal (case_status fault) status.WriteFault (case-refusal fault) e (λ f. cc) (λ f. cc) (λ f. cc) (λ f. cc)
 no-write_fault (TermRefused fault) e = no-refusal (size_status fault) status.WriteFault (size-refusal fault) e (λ f. cc) (λ f. cc) (λ f. cc) (λ f. cc)
 no-write_fault NoSuchForm e = cc

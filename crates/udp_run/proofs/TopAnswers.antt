@@ -80,13 +80,13 @@ only_proved CaseTooLong e = absurd cc
 only_proved ProofTooLong e = absurd cc
 only_proved OutOfMemory e = absurd cc
 
-said-done : (verdict : Verdict) (old new : Option (List ℕ)) (before now : ℕ) (answer : Status) → answer ≡ status.Done → IsSaid verdict old new before now answer
+pub said-done : (verdict : Verdict) (old new : Option (List ℕ)) (before now : ℕ) (answer : Status) → answer ≡ status.Done → IsSaid verdict old new before now answer
     → (verdict ≡ Proved) × Grows old new (text_of verdict)
 said-done verdict old new before now answer done (inl (e, g)) = (only_proved verdict (sym e ∙ done), g)
 said-done verdict old new before now answer done (inr (inl (e, rose, grows))) = absurd (let f : status.WriteFault ≡ status.Done = sym e ∙ done in cc)
 said-done verdict old new before now answer done (inr (inr (e, rest))) = absurd (let f : status.NoMemory ≡ status.Done = sym e ∙ done in cc)
 
-just-proved : (t : BothTold) → IsJust t Proved → IsProved t.case.text t.proof.text
+pub just-proved : (t : BothTold) → IsJust t Proved → IsProved t.case.text t.proof.text
 just-proved t h = record {
   schema = h.schema;
   written = h.written;

@@ -100,7 +100,7 @@ module _ (t : BothTold) (parts : Parts) (read : IsCaseRead t.case.text parts) wh
         sym fault_is ∙ (ap (λ z. option_or z (too_big (translation parts.views parts.right))) (sym (ap too_big are.left.value) ∙ none-within left are.left.within)
         ∙ (sym (ap too_big are.right.value) ∙ none-within right are.right.within))
 
-    has_terms : (P : Schema → CaseText → Type 0) → P parts.schema written → HasTerms t.case.text P
+    pub has_terms : (P : Schema → CaseText → Type 0) → P parts.schema written → HasTerms t.case.text P
     has_terms P p = has_case (λ schema w. (size_fault schema w ≡ None) × P schema w) (no_fault, p)
 
     module _ (outs : ℕ) (wide : outs ≡ width parts.left) (facts : Facts) (same : facts ≡ parts.facts) where
@@ -139,6 +139,10 @@ module _ (t : BothTold) (parts : Parts) (read : IsCaseRead t.case.text parts) wh
           ap (meaning n reading db r []) (sym (are.left.value ∙ left_is))
           ∙ (accepted-means facts outs left right text a ok n reading db r some on below ((same_databases written.statements parts.schema builds facts are_facts n db).0 meets)
           ∙ ap (meaning n reading db r []) (are.right.value ∙ right_is)))
+
+      -- a proof that is accepted for the claim
+      pub proof-both : (bytes : List ℕ) → IsProof claim bytes → IfSome t.proof.text (IsProof claim) → HasBoth t.case.text t.proof.text AreEquivalent IsProof
+      proof-both bytes p told = has_both AreEquivalent IsProof (accepted-equivalent bytes p.1) told
 
       answered-just : (answer : Result Shown ProofFault) → IsProofRead claim t.proof.text answer → IsJust t (verdict_of answer)
       answered-just (Ok shown.Proved) p =

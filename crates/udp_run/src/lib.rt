@@ -7,8 +7,8 @@ pub mod laws;
 mod output;
 mod top;
 
-pub use answer::Status;
-pub use top::run;
+pub use answer::{Status, Verdict};
+pub use top::{read_case, run, say};
 
 /// The most bytes of a case.
 pub const CASE_LIMIT: usize = 1_048_576;

@@ -18,8 +18,8 @@ use std::alloc::Global;
 use u_terms::{Facts, U};
 use udp_io::{ReadAllFault, Sink, Store, read_all, write_all};
 
-// Reads the case, or finds why there is none.
-fn read_case<S: Store>(alloc: Global, name: &str, store: &mut S) -> Result<Case, Verdict>
+/// Reads the case, or finds why there is none.
+pub fn read_case<S: Store>(alloc: Global, name: &str, store: &mut S) -> Result<Case, Verdict>
     ensures read { IfOk result (IsCaseRead (S.text store.old name.now)) }
     ensures fault { IfErr result (IsCaseCause (record { text = S.text store.old name.now; before = S.faults store.old name.now; now = S.faults store.new name.now })) }
     ensures same_texts { (other : List ℕ) → S.text store.new other ≡ S.text store.old other }
@@ -156,8 +156,8 @@ fn find_verdict<S: Store>(alloc: Global, words: &[String], store: &mut S) -> Ver
     }
 }
 
-// Writes the line of what was found, and answers how the run ended.
-fn say<K: Sink>(alloc: Global, verdict: &Verdict, out: &mut K) -> Status
+/// Writes the line of what was found, and answers how the run ended.
+pub fn say<K: Sink>(alloc: Global, verdict: &Verdict, out: &mut K) -> Status
     ensures { IsSaid verdict.now (K.written out.old) (K.written out.new) (K.faults out.old) (K.faults out.new) result }
 {
     let Ok(line) = verdict.line(alloc) else {

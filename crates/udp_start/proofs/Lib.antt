@@ -1,0 +1,3 @@
+pub mod WordForms
+pub mod Searched
+pub mod Provings
