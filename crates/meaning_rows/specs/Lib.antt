@@ -1,0 +1,5 @@
+pub mod Read
+mod Operators
+mod Predicates
+mod Conditions
+mod Joins
