@@ -93,7 +93,17 @@ def named_view():
     return case(wide_view("w"), "SELECT a FROM r")
 
 
-CASES = [sought_outwards, stars, nested_sources, set_chains, derived_from_sets, named_views, named_view]
+def copied_names(listed=60, length=4_000):
+    """A long name under three lists of IN in one another, each of which copies the value before it."""
+    name = "n" * length
+    ones = ", ".join(["1"] * listed)
+    value = name
+    for _ in range(2):
+        value = f"(SELECT COUNT(*) FROM r WHERE {value} IN ({ones}))"
+    return f"CREATE TABLE r (a INT, {name} INT);\nSELECT a FROM r WHERE {value} IN ({ones});\n{ONE_MORE}"
+
+
+CASES = [sought_outwards, stars, nested_sources, set_chains, derived_from_sets, named_views, named_view, copied_names]
 
 
 def main():
