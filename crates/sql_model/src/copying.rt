@@ -2,7 +2,7 @@
 //!
 //! A chain of operators is as deep as it is long, so the functions on the way down keep small frames: what needs room of its own is
 //! kept out of them by `inline(never)`.
-ghost use Rattle.std.specs.Prelude.{◌≡◌, IfOk};
+ghost use Rattle.std.specs.Prelude.{◌≡◌, ◌++◌, ◌∷◌, [], IfOk, MatchResult, OnOk};
 ghost use Rattle.sql_model.specs.declared.tree.Expr.TheVariants as expr;
 
 use crate::NoMemory;
@@ -88,7 +88,6 @@ impl Expr {
 
 impl Query {
     /// An equal tree in memory of its own.
-    #[cycle(copy)]
     pub fn copy(&self, alloc: Global) -> Result<Query, NoMemory>
         ensures { IfOk result (λ copy. copy ≡ self.now) }
     {
@@ -230,7 +229,37 @@ fn copy_expr(alloc: Global, expr: &Boxed<Expr>) -> Result<Boxed<Expr>, NoMemory>
 fn copy_query(alloc: Global, query: &Boxed<Query>) -> Result<Boxed<Query>, NoMemory>
     ensures { IfOk result (λ copy. copy ≡ query.now) }
 {
-    Boxed::new(alloc, query.get().copy(alloc)?)
+    match query.get() {
+        Query::Block { block } => {
+            let block = copy_block(alloc, block)?;
+            boxed_query(alloc, Query::Block { block })
+        }
+        Query::Set {
+            op,
+            left,
+            right,
+            at,
+        } => {
+            let left = copy_query(alloc, left)?;
+            let right = copy_query(alloc, right)?;
+            boxed_query(
+                alloc,
+                Query::Set {
+                    op: *op,
+                    left,
+                    right,
+                    at: *at,
+                },
+            )
+        }
+    }
+}
+
+#[inline(never)]
+fn boxed_query(alloc: Global, query: Query) -> Result<Boxed<Query>, NoMemory>
+    ensures { IfOk result (λ boxed. boxed ≡ query) }
+{
+    Boxed::new(alloc, query)
 }
 
 #[cycle(copy)]
@@ -276,14 +305,54 @@ fn copy_condition(alloc: Global, condition: &Option<Expr>) -> Result<Option<Expr
 }
 
 #[cycle(copy)]
+#[inline(never)]
 fn copy_exprs(alloc: Global, exprs: &[Expr]) -> Result<List<Expr>, NoMemory>
     ensures { IfOk result (λ copy. copy ≡ exprs.now) }
 {
-    let mut copies = Vec::with_capacity(alloc, exprs.len())?;
-    for expr in exprs {
-        copies.push(expr.copy(alloc)?)?;
-    }
+    let mut copies = Vec::new(alloc);
+    append_copies(alloc, exprs, &mut copies)?;
     Ok(List::from_vec(copies))
+}
+
+/// Appends copies of expressions. The arguments of operators are copied here, since a chain of operators goes down through them.
+#[cycle(copy)]
+#[inline(never)]
+fn append_copies(alloc: Global, exprs: &[Expr], copies: &mut Vec<Expr>) -> Result<(), NoMemory>
+    ensures { OnOk result (copies.new.items ≡ copies.old.items ++ exprs.now) }
+{
+    copies.reserve_exact(exprs.len())?;
+    for expr in exprs {
+        match expr {
+            Expr::Fun { sym, args, at } => {
+                let mut own = Vec::new(alloc);
+                append_copies(alloc, args.as_slice(), &mut own)?;
+                push_operator(*sym, own, *at, copies)?;
+            }
+            other => append_copy(other.copy(alloc), copies)?,
+        }
+    }
+    Ok(())
+}
+
+#[inline(never)]
+fn push_operator(sym: u32, args: Vec<Expr>, at: u32, copies: &mut Vec<Expr>) -> Result<(), NoMemory>
+    ensures { OnOk result (copies.new.items ≡ copies.old.items ++ expr.Fun sym args.items at ∷ []) }
+{
+    copies.push(Expr::Fun {
+        sym,
+        args: List::from_vec(args),
+        at,
+    })?;
+    Ok(())
+}
+
+/// Appends a copy, if there was memory for it.
+#[inline(never)]
+fn append_copy(copy: Result<Expr, NoMemory>, copies: &mut Vec<Expr>) -> Result<(), NoMemory>
+    ensures { OnOk result (MatchResult copy (λ it. copies.new.items ≡ copies.old.items ++ it ∷ []) (λ _. ⊥)) }
+{
+    copies.push(copy?)?;
+    Ok(())
 }
 
 #[cycle(copy)]
