@@ -14,7 +14,7 @@ use Rattle.normal_form.proofs.Lists.{each-append, each-filter}
 abbrev pub IsAddLeaf : U → Type 0
 IsAddLeaf u = add_leaves u ≡ u ∷ []
 
-each-add_leaf : (u : U) → Each IsAddLeaf (add_leaves u)
+pub each-add_leaf : (u : U) → Each IsAddLeaf (add_leaves u)
 unfolding add_leaves
 each-add_leaf Zero = tt
 each-add_leaf One = (refl, tt)

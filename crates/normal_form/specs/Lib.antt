@@ -2,5 +2,4 @@ pub mod Kinds
 pub mod NormalTerms
 pub mod Ways
 pub mod LooseTerms
-pub mod Grouped
 pub mod Samples

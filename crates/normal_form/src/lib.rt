@@ -8,5 +8,5 @@ mod order;
 
 pub use counting::ways;
 pub use kind::{Kind, kind_of};
-pub use order::{Groups, count_of, in_groups, in_order, in_row};
+pub use order::{in_order, in_row, product, sum};
 pub use std::alloc::AllocError as NoMemory;

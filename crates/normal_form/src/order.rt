@@ -1,9 +1,8 @@
 //! A sum in one row, and a product in the order of kinds.
-ghost use Rattle.std.specs.Prelude.{◌≡◌, ◌++◌, IfOk, OnOk, length};
+ghost use Rattle.std.specs.Prelude.{◌≡◌, ◌++◌, IfOk, OnOk};
 ghost use Rattle.u_terms.specs.Products.{product_of};
 ghost use Rattle.u_rules.specs.Terms.{add_leaves, mul_leaves, terms};
 ghost use Rattle.normal_form.specs.Kinds.{of_kind, ordered};
-ghost use Rattle.normal_form.specs.Grouped.{AreGroups};
 ghost use Rattle.normal_form.specs.NormalTerms as spec;
 
 use crate::NoMemory;
@@ -37,52 +36,6 @@ pub fn in_order(alloc: Global, u: &U) -> Result<U, NoMemory>
     product(alloc, factors)
 }
 
-/// How many factors of the kind a product has.
-pub fn count_of(alloc: Global, kind: Kind, u: &U) -> Result<usize, NoMemory>
-    ensures { IfOk result (λ count. count ≡ length (of_kind kind (mul_leaves u.now))) }
-{
-    let gathered = leaves(alloc, u, true)?;
-    let mut factors = Vec::new(alloc);
-    append(alloc, kind, gathered.as_slice(), &mut factors)?;
-    Ok(factors.len())
-}
-
-/// The factors of a product in three products.
-#[derive(Drop)]
-pub struct Groups {
-    /// Marks, and then atoms.
-    pub plain: Boxed<U>,
-    pub squashes: Boxed<U>,
-    pub negations: Boxed<U>,
-}
-
-/// What is multiplied in a term, in groups: `1` is left out, and so is what is of no kind.
-pub fn in_groups(alloc: Global, u: &U) -> Result<Groups, NoMemory>
-    ensures { IfOk result (AreGroups (mul_leaves u.now)) }
-{
-    let gathered = leaves(alloc, u, true)?;
-    let mut plain = Vec::new(alloc);
-    append(alloc, Kind::Mark, gathered.as_slice(), &mut plain)?;
-    append(alloc, Kind::Atom, gathered.as_slice(), &mut plain)?;
-    let plain = Boxed::new(alloc, product(alloc, plain)?)?;
-    let squashes = product_of_kind(alloc, Kind::Squash, gathered.as_slice())?;
-    let negations = product_of_kind(alloc, Kind::Negation, gathered.as_slice())?;
-    Ok(Groups {
-        plain,
-        squashes,
-        negations,
-    })
-}
-
-// The product of copies of those of the kind.
-fn product_of_kind(alloc: Global, kind: Kind, gathered: &[&U]) -> Result<Boxed<U>, NoMemory>
-    ensures { IfOk result (λ u. u ≡ product_of (of_kind kind (terms gathered.now))) }
-{
-    let mut factors = Vec::new(alloc);
-    append(alloc, kind, gathered, &mut factors)?;
-    Boxed::new(alloc, product(alloc, factors)?)
-}
-
 // Appends copies of those of the kind.
 fn append(alloc: Global, kind: Kind, gathered: &[&U], factors: &mut Vec<U>) -> Result<(), NoMemory>
     ensures { OnOk result (factors.new.items ≡ factors.old.items ++ of_kind kind (terms gathered.now)) }
@@ -95,9 +48,9 @@ fn append(alloc: Global, kind: Kind, gathered: &[&U], factors: &mut Vec<U>) -> R
     Ok(())
 }
 
-// A sum of terms, in order.
+/// A sum of terms, in order.
 #[tactic(auto, using(crate::proofs::Rows::rows))]
-fn sum(alloc: Global, parts: Vec<U>) -> Result<U, NoMemory>
+pub fn sum(alloc: Global, parts: Vec<U>) -> Result<U, NoMemory>
     ensures { IfOk result (λ u. u ≡ spec.sum_of parts.items) }
 {
     let mut left = parts;
@@ -111,9 +64,9 @@ fn sum(alloc: Global, parts: Vec<U>) -> Result<U, NoMemory>
     Ok(whole)
 }
 
-// A product of factors, in order.
+/// A product of factors, in order.
 #[tactic(auto, using(crate::proofs::Rows::rows))]
-fn product(alloc: Global, factors: Vec<U>) -> Result<U, NoMemory>
+pub fn product(alloc: Global, factors: Vec<U>) -> Result<U, NoMemory>
     ensures { IfOk result (λ u. u ≡ product_of factors.items) }
 {
     let mut left = factors;

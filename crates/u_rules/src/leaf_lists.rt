@@ -6,7 +6,7 @@ ghost use Rattle.u_rules.specs.Terms.{add_leaves, mul_leaves, terms, TellsSame};
 
 mod code;
 
-use code::code_of;
+pub use code::code_of;
 use std::alloc::{AllocError, Global};
 use u_terms::{List, U, same};
 

@@ -26,7 +26,7 @@ mod tables;
 
 pub use closed_same::same_closed;
 pub use instances::{instance, side, stands};
-pub use leaf_lists::{leaves, same_leaves};
+pub use leaf_lists::{code_of, leaves, same_leaves};
 pub use measuring::sizes;
 pub use rule::{Arg, InstanceFault, Rule, Why};
 pub use side_sizes::Sizes;
