@@ -13,7 +13,7 @@ use Rattle.block_shapes.specs.Drawn.{IsDrawn}
 use Rattle.block_shapes.proofs.ClassLaws.{none-some, both-some, map-some}
 use Rattle.block_shapes.proofs.DrawnShapes.{alone-drawn}
 use Rattle.term_shapes.specs.TermShape.{HasShape}
-use Rattle.block_terms.specs.BlockTerms.{IsSquashed, HaveShapes, one_block, two_sums}
+use Rattle.term_shapes.specs.BlockTerms.{IsSquashed, HaveShapes, one_block, two_sums}
 use Rattle.block_terms.proofs.Whole.{parts-shape}
 
 bare : (views : List TermAt) (tree : RQuery) (s : Shape) → query_shape false tree ≡ Some s → IsDrawn s → HasShape (width tree) (query_term views tree [] (names_from 0 (width tree)) (width tree)) s

@@ -8,7 +8,7 @@ ghost use Rattle.sql_to_u.specs.Translation.{TermAt, query_term};
 ghost use Rattle.shapes.specs.Shapes.{Shape};
 ghost use Rattle.block_shapes.specs.Blocks.{query_shape, union_shapes};
 ghost use Rattle.term_shapes.specs.TermShape.{HasShape};
-ghost use Rattle.block_terms.specs.BlockTerms.{HaveShapes, IsSquashed};
+ghost use Rattle.term_shapes.specs.BlockTerms.{HaveShapes, IsSquashed};
 
 /// The term of a sound filtered block has the block's shape; where the block is under DISTINCT, it is one squash of such a term.
 #[tactic(auto, using(crate::proofs::Queries::laws))]

@@ -6,4 +6,4 @@ mod whole;
 
 pub use parts::{added, multiplied, negated, squashed, summed};
 pub use std::alloc::AllocError as NoMemory;
-pub use whole::{Derived, copied, inside, opened, still};
+pub use whole::{Derived, closed, copied, inside, joined, made_in_turn, opened, still, unmoved};

@@ -2,7 +2,7 @@
 ghost use Rattle.std.specs.Prelude.{◌≡◌, ◌+◌, ◌^◌, ◌<◌, ◌∷◌, [], IfOk};
 ghost use Rattle.u_terms.specs.Binding as binding;
 ghost use Rattle.u_deriv.specs.Normal.{IsCounted};
-ghost use Rattle.u_moves.specs.Derivations.{IsKnown};
+ghost use Rattle.u_moves.specs.Derivations.{IsKnown, IsStill};
 ghost use Rattle.u_moves.specs.Lifting.{IsMadeIn, IsPart};
 ghost use Rattle.u_congruence.specs.Congruence.{IsFromTo};
 
@@ -24,12 +24,20 @@ pub fn still<'f>(moves: Moves<'f>, u: Boxed<U>) -> Result<Derived<'f>, NoMemory>
     requires { IsKnown 0 moves.outs u }
     ensures { IfOk result (IsFromTo moves.entry.facts.now moves.entry.outs u u) }
 {
-    if u64::from(moves.outs).saturating_add(depth(u.get())) >= ROOM {
+    unmoved(moves, u.get())
+}
+
+/// The same of a term that is lent, with the bounds that the derivation states.
+pub fn unmoved<'f>(moves: Moves<'f>, u: &U) -> Result<Derived<'f>, NoMemory>
+    requires { IsKnown 0 moves.outs u.now }
+    ensures { IfOk result (IsStill moves.entry.facts.now moves.entry.outs u.now) }
+{
+    if u64::from(moves.outs).saturating_add(depth(u)) >= ROOM {
         return Err(AllocError);
     }
     Boxed::new(
         moves.alloc,
-        Deriv::refl(moves.alloc, moves.facts, moves.outs, u.get())?,
+        Deriv::refl(moves.alloc, moves.facts, moves.outs, u)?,
     )
 }
 
@@ -93,4 +101,19 @@ pub fn made_in_turn<'f>(
     path.push(turn)?;
     let whole = whole.into_inner();
     Boxed::new(alloc, whole.then_under(alloc, &path, part.into_inner())?)
+}
+
+/// The first derivation, and then the other one.
+pub fn joined<'f>(
+    alloc: Global,
+    first: Derived<'f>,
+    rest: Derived<'f>,
+) -> Result<Derived<'f>, NoMemory>
+    requires joins { first.to ≡ rest.from }
+    requires facts { first.facts ≡ rest.facts }
+    requires outs { first.outs ≡ rest.outs }
+    ensures { IfOk result (IsFromTo first.entry.facts first.entry.outs first.entry.from rest.entry.to) }
+{
+    let first = first.into_inner();
+    Boxed::new(alloc, first.then(alloc, rest.into_inner())?)
 }

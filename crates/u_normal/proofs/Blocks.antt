@@ -9,7 +9,7 @@ use Rattle.u_rules.specs.Terms.{◌⊕◌, add_leaves, mul_leaves}
 use Rattle.u_rules.proofs.LeavesAt.{add_leaves-Add}
 use Rattle.normal_form.specs.Kinds.{ordered}
 use Rattle.normal_form.specs.NormalTerms.{sum_of, IsNormal, AreBlocks, IsBlock, sum_of_blocks, no_block, block_then, sum_over}
-use Rattle.normal_form.specs.LooseTerms.{IsSomeFactor}
+use Rattle.normal_form.specs.LooseTerms.{IsSomeFactor, IsProduct}
 use Rattle.normal_form.proofs.Loose.{in_row-normal, in_order-block, normal-blocks, blocks-append}
 use Rattle.normal_form.proofs.Ordered.{kind-of_factor}
 use Rattle.u_normal.specs.Merging.{HasKind, HasKinds}
@@ -78,10 +78,13 @@ each-kind : (us : List U) → Each IsSomeFactor us → Each HasKind us
 each-kind [] h = tt
 each-kind (x ∷ xs) h = (record { kind = h.0.kind; is = kind-of_factor h.0.kind x h.0.is }, each-kind xs h.1)
 
-pub finished-kinds : (t s : U) → IsFinished t s → HasKinds s
-finished-kinds t s h = record { each = each-kind (mul_leaves s) h.product.factors }
+pub product-kinds : (s : U) → IsProduct s → HasKinds s
+product-kinds s h = record { each = each-kind (mul_leaves s) h.factors }
 
-one-block : (t : U) → IsBlock t → IsNormal t
+pub finished-kinds : (t s : U) → IsFinished t s → HasKinds s
+finished-kinds t s h = product-kinds s h.product
+
+pub one-block : (t : U) → IsBlock t → IsNormal t
 one-block t h = sum_of_blocks (t ∷ []) (block_then h no_block) refl
 
 pub ordered-normal : (t s : U) → IsTidy t → IsFinished t s → IsNormal (product_of (ordered (mul_leaves s)))

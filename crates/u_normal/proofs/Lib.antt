@@ -7,5 +7,13 @@ pub mod Finishes
 pub mod Blocks
 pub mod KnownParts
 pub mod Led
+pub mod InRooms
 pub mod IntoAggregates
 pub mod ValuesLed
+pub mod SaidAgain
+pub mod TidiedBlocks
+pub mod ShapedSums
+pub mod ShortSteps
+pub mod ShapedEnds
+pub mod OneMore
+pub mod Largeness

@@ -1,5 +1,5 @@
 -- Where values stand in a term, and what becomes of them there.
-use Rattle.std.proofs.Common.{◌≡◌, ℕ, ◌+◌, List, [], ◌∷◌, ◌++◌, length, drop, refl, ap, sym, subst, ◌∙◌, append_assoc}
+use Rattle.std.proofs.Common.{◌≡◌, ℕ, ◌+◌, ◌≤◌, List, [], ◌∷◌, ◌++◌, length, drop, refl, ap, sym, subst, ◌∙◌, append_assoc, arith}
 use Rattle.std.proofs.lemmas.List.{length-append}
 use Rattle.data_model.specs.Lists.{Each}
 use Rattle.u_terms.specs.declared.term.U.TheVariants as u
@@ -7,7 +7,10 @@ use Rattle.u_terms.specs.declared.term.Val.TheVariants as v
 use Rattle.u_terms.specs.Syntax.{U, Val, row_of, constructors}
 use Rattle.u_terms.specs.Places.{IsClosed}
 use Rattle.u_terms.specs.Binding.{closed_at, closed_path}
+use Rattle.u_terms.specs.Size.{nodes}
 use Rattle.u_terms.proofs.Binding.{closed_path-one}
+use Rattle.u_terms.proofs.MappedSizes.{closed_path-nodes}
+use Rattle.u_terms.proofs.Sizes.{nodes-One}
 use Rattle.u_deriv.specs.declared.run.Run.{Run}
 use Rattle.u_deriv.specs.declared.run.Turn.{Turn}
 use Rattle.u_deriv.specs.declared.run.Turn.TheVariants as turn
@@ -16,11 +19,13 @@ use Rattle.u_deriv.specs.Opening.{opened_path}
 use Rattle.u_deriv.specs.Steps.{Replaced}
 use Rattle.u_deriv.specs.Turns.{turns}
 use Rattle.u_deriv.proofs.Opening.{opened_path-closed}
+use Rattle.u_deriv.proofs.Extents.{nodes-filled}
 use Rattle.u_moves.specs.Lifting.{IsPart}
 use Rattle.u_congruence.proofs.Turned.{made-here}
 use Rattle.normal_form.specs.NormalTerms.{IsNormal, IsNormalValue, AreNormalValues, bound, free, literal, call, aggregate, no_value, value_then}
 use Rattle.normal_form.proofs.Lists.{each-append}
 use Rattle.normal_form.proofs.Renamed.{normal-closed}
+use Rattle.u_normal.proofs.Nodes.{nodes-positive}
 use Rattle.u_normal.specs.Values.{arguments, IsPlace, IsRowPlace, Stands, AreStanding, StandsWithBody, HasOtherBody, IsNormalAt, AreNormalAt, AreNormalUpTo}
 
 -- ---- places
@@ -79,6 +84,10 @@ function-place path K symbol h = record {
   };
 }
 
+-- a part has at most the nodes of the whole
+part-few : (c : Context) (s : U) → nodes s ≤ nodes (filled c s)
+part-few c s = omega (arith, nodes-filled c s u.One, nodes-One, nodes-positive (filled c u.One))
+
 -- ---- the body of an aggregate
 module _ (path : List ℕ) (runs : List Run) (at_path : turns runs ≡ arguments path ++ turn.Inside ∷ []) (outs : ℕ) where
   opened-once : (a : U) → IsClosed 0 a → a ≡ opened_path (closed_at a outs) outs 1
@@ -123,7 +132,10 @@ module _ (path : List ℕ) (runs : List Run) (at_path : turns runs ≡ arguments
   body-part whole a h closed = part-in_aggregate h.stands.around h.stands.place h.number whole a h.stands.is closed
 
   pub other-body : (before from to after : U) → Replaced outs runs before from to after → HasOtherBody path outs from to before after
-  other-body before from to after r = record { put = λ number K h is. made-in_aggregate K h number before from to after is r }
+  other-body before from to after r = record {
+    few = omega (arith, ap nodes r.is_to, closed_path-nodes to outs (binders r.context), part-few r.context (closed_path to outs (binders r.context)));
+    put = λ number K h is. made-in_aggregate K h number before from to after is r;
+  }
 
 -- ---- parts of values
 pub stands-function : (path : List ℕ) (symbol : ℕ) (vs : List Val) (t : U) → Stands path (v.Fun symbol vs) t → AreStanding path vs t

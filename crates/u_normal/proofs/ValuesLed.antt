@@ -20,10 +20,12 @@ use Rattle.u_moves.specs.Moving.{IsKnownValue, AreKnownValues}
 use Rattle.normal_form.specs.NormalTerms.{IsNormal}
 use Rattle.u_congruence.specs.Congruence.{IsBy, IsFromTo}
 use Rattle.u_normal.specs.Leading.{Leads}
+use Rattle.u_normal.specs.Rooms.{InRoom, BecomesInRoom}
 use Rattle.u_normal.specs.Taking.{load}
 use Rattle.u_normal.specs.Finishing.{IsFinishedPlain}
 use Rattle.u_normal.specs.Values.{Stands, AreStanding, HasOtherBody, IsNormalAt, AreNormalAt, AreNormalUpTo, LeadsOn}
 use Rattle.u_normal.proofs.Loads.{load-leaf, load-small}
+use Rattle.u_normal.proofs.InRooms.{led-fits}
 use Rattle.u_normal.proofs.Finishes.{plain-relation, plain-predicate, plain-equality}
 use Rattle.u_normal.proofs.Standing.{relation-place, predicate-place, left-place, right-place, function-normal, aggregate-normal, next-stands, one-more}
 
@@ -121,53 +123,56 @@ aggregate-lighter value number body e = omega (arith, ap value_nodes e, nodes-Ag
 pub by-on : (P : U → U → Type 0) (F : Facts) (outs : ℕ) (whole d : Derivation) → IsBy F outs whole → LeadsOn P whole d → IsBy F outs d
 by-on P F outs whole d by h = record { facts = h.facts ∙ by.facts; outs = h.outs ∙ by.outs }
 
-led-more : (P Q : U → U → Type 0) (whole d : Derivation) → ((a b : U) → P a b → Q a b) → LeadsOn P whole d → LeadsOn Q whole d
-led-more P Q whole d keeps h = record { facts = h.facts; outs = h.outs; from = h.from; reached = keeps whole.to d.to h.reached }
+pub led-still : (room : ℕ) (path : List ℕ) (value : Val) (whole : Derivation) → IsNormalAt path value whole.to whole.to → LeadsOn (BecomesInRoom room (IsNormalAt path value)) whole whole
+led-still room path value whole h = record { facts = refl; outs = refl; from = refl; reached = record { fits = λ small. h } }
 
-pub led-still : (path : List ℕ) (value : Val) (whole : Derivation) → IsNormalAt path value whole.to whole.to → LeadsOn (IsNormalAt path value) whole whole
-led-still path value whole h = record { facts = refl; outs = refl; from = refl; reached = h }
-
-module _ (count : ℕ) (path : List ℕ) (vs : List Val) (whole d : Derivation) (value : Val) (ahead : drop count vs ≡ value ∷ drop (count + 1) vs) (h : LeadsOn (AreNormalUpTo count path vs) whole d) where
+module _ (room count : ℕ) (path : List ℕ) (vs : List Val) (whole d : Derivation) (value : Val) (ahead : drop count vs ≡ value ∷ drop (count + 1) vs) (h : LeadsOn (AreNormalUpTo count path vs) whole d) where
   pub led-stands : AreStanding path vs whole.to → Stands (path ++ count ∷ []) value d.to
   led-stands s = next-stands count path vs whole.to d.to value ahead h.reached s
 
-  pub led-next : (e : Derivation) → LeadsOn (IsNormalAt (path ++ count ∷ []) value) d e → LeadsOn (AreNormalUpTo (count + 1) path vs) whole e
+  pub led-next : (e : Derivation) → LeadsOn (BecomesInRoom room (IsNormalAt (path ++ count ∷ []) value)) d e → LeadsOn (BecomesInRoom room (AreNormalUpTo (count + 1) path vs)) whole e
   led-next e k = record {
     facts = k.facts ∙ h.facts;
     outs = k.outs ∙ h.outs;
     from = k.from ∙ h.from;
-    reached = one-more count path vs whole.to d.to value ahead h.reached e.to k.reached;
+    reached = record { fits = λ small. one-more count path vs whole.to d.to value ahead h.reached e.to (k.reached.fits small) };
   }
 
-pub led-function : (path : List ℕ) (symbol : ℕ) (vs : List Val) (value : Val) (whole : Derivation) → value ≡ v.Fun symbol vs → (d : Derivation) → LeadsOn (AreNormalAt path vs) whole d → LeadsOn (IsNormalAt path value) whole d
-led-function path symbol vs value whole e d =
-    led-more (AreNormalAt path vs) (IsNormalAt path value) whole d (λ a b h. subst (λ (x : Val). IsNormalAt path x a b) (sym e) (function-normal path symbol vs a b h))
+pub led-function : (room : ℕ) (path : List ℕ) (symbol : ℕ) (vs : List Val) (value : Val) (whole : Derivation) → value ≡ v.Fun symbol vs → (d : Derivation) → LeadsOn (BecomesInRoom room (AreNormalAt path vs)) whole d → LeadsOn (BecomesInRoom room (IsNormalAt path value)) whole d
+led-function room path symbol vs value whole e =
+    led-fits room (BecomesInRoom room (AreNormalAt path vs)) (IsNormalAt path value) whole
+    (λ a b small h. subst (λ (x : Val). IsNormalAt path x a b) (sym e) (function-normal path symbol vs a b (h.fits small)))
 
-pub led-aggregate : (path : List ℕ) (number outs : ℕ) (body from to : U) (value : Val) (whole : Derivation) → value ≡ v.Agg number body → closed_at from outs ≡ body → IsNormal to → (d : Derivation) → LeadsOn (HasOtherBody path outs from to) whole d → LeadsOn (IsNormalAt path value) whole d
-led-aggregate path number outs body from to value whole e f h d =
-    led-more (HasOtherBody path outs from to) (IsNormalAt path value) whole d
-    (λ a b made. subst (λ (x : Val). IsNormalAt path x a b) (sym e) (aggregate-normal path number outs body from to a b f h made))
+pub led-aggregate : (room : ℕ) (path : List ℕ) (number outs : ℕ) (body from to : U) (value : Val) (whole : Derivation) → value ≡ v.Agg number body → closed_at from outs ≡ body → InRoom room IsNormal to → (d : Derivation) → LeadsOn (HasOtherBody path outs from to) whole d → LeadsOn (BecomesInRoom room (IsNormalAt path value)) whole d
+led-aggregate room path number outs body from to value whole e f h =
+    led-fits room (HasOtherBody path outs from to) (IsNormalAt path value) whole
+    (λ a b small made. subst (λ (x : Val). IsNormalAt path x a b) (sym e) (aggregate-normal path number outs body from to a b f (h.fits (omega (arith, small, made.few))) made))
 
 -- ---- from a term as it is
-module _ (F : Facts) (outs : ℕ) (t s : U) (copied : s ≡ t) (whole : Derivation) (still : IsFromTo F outs s s whole) where
+module _ (room : ℕ) (F : Facts) (outs : ℕ) (t s : U) (copied : s ≡ t) (whole : Derivation) (still : IsFromTo F outs s s whole) where
   pub by-still : IsBy F outs whole
   by-still = record { facts = still.facts; outs = still.outs }
 
-  pub leads-still : IsFinishedPlain t s → Leads (IsFinishedPlain t) F outs t whole
-  leads-still h = record { facts = still.facts; outs = still.outs; from = still.from ∙ copied; reached = subst (λ (x : U). IsFinishedPlain t x) (sym still.to) h }
+  pub leads-still : IsFinishedPlain t s → Leads (InRoom room (IsFinishedPlain t)) F outs t whole
+  leads-still h = record {
+    facts = still.facts;
+    outs = still.outs;
+    from = still.from ∙ copied;
+    reached = record { fits = λ small. subst (λ (x : U). IsFinishedPlain t x) (sym still.to) h };
+  }
 
-  leads-on : (P : U → U → Type 0) → ((b : U) → P t b → IsFinishedPlain t b) → (d : Derivation) → LeadsOn P whole d → Leads (IsFinishedPlain t) F outs t d
+  leads-on : (P : U → U → Type 0) → ((b : U) → P t b → IsFinishedPlain t b) → (d : Derivation) → LeadsOn (BecomesInRoom room P) whole d → Leads (InRoom room (IsFinishedPlain t)) F outs t d
   leads-on P keeps d h = record {
     facts = h.facts ∙ still.facts;
     outs = h.outs ∙ still.outs;
     from = h.from ∙ still.from ∙ copied;
-    reached = keeps d.to (subst (λ (x : U). P x d.to) (still.to ∙ copied) h.reached);
+    reached = record { fits = λ small. keeps d.to (subst (λ (x : U). P x d.to) (still.to ∙ copied) (h.reached.fits small)) };
   }
 
-  pub leads-relation : (table : ℕ) (vs : List Val) → t ≡ u.Rel table vs → (d : Derivation) → LeadsOn (AreNormalAt [] vs) whole d → Leads (IsFinishedPlain t) F outs t d
+  pub leads-relation : (table : ℕ) (vs : List Val) → t ≡ u.Rel table vs → (d : Derivation) → LeadsOn (BecomesInRoom room (AreNormalAt [] vs)) whole d → Leads (InRoom room (IsFinishedPlain t)) F outs t d
   leads-relation table vs e = leads-on (AreNormalAt [] vs) (λ b h. plain-relation t b table vs h.became e (h.put (λ ws. u.Rel table ws) (relation-place table) e) h.normal)
 
-  pub leads-predicate : (symbol : ℕ) (vs : List Val) → t ≡ u.Pred symbol vs → (d : Derivation) → LeadsOn (AreNormalAt [] vs) whole d → Leads (IsFinishedPlain t) F outs t d
+  pub leads-predicate : (symbol : ℕ) (vs : List Val) → t ≡ u.Pred symbol vs → (d : Derivation) → LeadsOn (BecomesInRoom room (AreNormalAt [] vs)) whole d → Leads (InRoom room (IsFinishedPlain t)) F outs t d
   leads-predicate symbol vs e = leads-on (AreNormalAt [] vs) (λ b h. plain-predicate t b symbol vs h.became e (h.put (λ ws. u.Pred symbol ws) (predicate-place symbol) e) h.normal)
 
   pub stands-relation : (table : ℕ) (vs : List Val) → t ≡ u.Rel table vs → AreStanding [] vs whole.to
@@ -187,11 +192,15 @@ module _ (F : Facts) (outs : ℕ) (t s : U) (copied : s ≡ t) (whole : Derivati
       pub stands-right : Stands (1 ∷ []) b half.to
       stands-right = record { around = λ y. u.Eq first.reached.became y; place = right-place first.reached.became; is = half-is }
 
-      pub leads-equality : (d : Derivation) → LeadsOn (IsNormalAt (1 ∷ []) b) half d → Leads (IsFinishedPlain t) F outs t d
+      pub leads-equality : (d : Derivation) → LeadsOn (BecomesInRoom room (IsNormalAt (1 ∷ []) b)) half d → Leads (InRoom room (IsFinishedPlain t)) F outs t d
       leads-equality d h = record {
         facts = h.facts ∙ first.facts ∙ still.facts;
         outs = h.outs ∙ first.outs ∙ still.outs;
         from = h.from ∙ first.from ∙ still.from ∙ copied;
-        reached = plain-equality t d.to a b first.reached.became h.reached.became e
-            (h.reached.put (λ y. u.Eq first.reached.became y) (right-place first.reached.became) half-is) first.reached.normal h.reached.normal;
+        reached = record {
+          fits = λ small.
+              let second = h.reached.fits small in
+              plain-equality t d.to a b first.reached.became second.became e
+              (second.put (λ y. u.Eq first.reached.became y) (right-place first.reached.became) half-is) first.reached.normal second.normal;
+        };
       }

@@ -1,8 +1,11 @@
 pub mod Leading
+pub mod Rooms
 pub mod Taking
 pub mod Merging
 pub mod Heads
 pub mod Summing
 pub mod Finishing
 pub mod Values
+pub mod Shaped
+pub mod Limits
 pub mod Samples

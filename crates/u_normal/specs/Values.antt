@@ -1,8 +1,9 @@
 -- Values that stand in a term under no binder, and what they become. Contracts of private functions alone cite this.
-use Rattle.std.specs.Prelude.{◌≡◌, ℕ, List, [], ◌∷◌, ◌++◌, length, map, drop}
+use Rattle.std.specs.Prelude.{◌≡◌, ℕ, ◌≤◌, List, [], ◌∷◌, ◌++◌, length, map, drop}
 use Rattle.data_model.specs.Lists.{Each}
 use Rattle.u_terms.specs.declared.term.Val.TheVariants as v
 use Rattle.u_terms.specs.Syntax.{U, Val}
+use Rattle.u_terms.specs.Size.{nodes}
 use Rattle.u_terms.specs.Binding.{closed_at}
 use Rattle.u_deriv.specs.declared.run.Turn.{Turn}
 use Rattle.u_deriv.specs.declared.run.Turn.TheVariants as turn
@@ -42,8 +43,9 @@ pub record StandsWithBody (path : List ℕ) (body u : U) : Type 0 where
   pub stands : Stands path (v.Agg number body) u
 
 -- ---- what becomes of it
--- at the end of the path an aggregate has another body, after the name is closed in both
+-- at the end of the path an aggregate has another body, after the name is closed in both; the term has at least the nodes of that body
 pub record HasOtherBody (path : List ℕ) (name : ℕ) (from to before after : U) : Type 0 where
+  pub few : nodes to ≤ nodes after
   pub put : (number : ℕ) (K : Val → U) → IsPlace path K → before ≡ K (v.Agg number (closed_at from name)) → after ≡ K (v.Agg number (closed_at to name))
 
 -- at the end of the path there is a normal value now

@@ -9,11 +9,9 @@ ghost use Rattle.u_normal.specs.Taking.{IsTaken, load};
 
 use crate::NoMemory;
 use crate::merging::{Wrap, merged};
-use crate::steps::{
-    distributed, drawn_in, joined, product, regrouped, then_in_order, zero_product,
-};
+use crate::steps::{distributed, drawn_in, product, regrouped, then_in_order, zero_product};
 use crate::taking::{Split, taken};
-use u_congruence::Derived;
+use u_congruence::{Derived, joined};
 use u_moves::Moves;
 use u_terms::U;
 

@@ -2,12 +2,15 @@
 #![tactic(auto)]
 
 mod heads;
+mod limits;
 mod merging;
+mod rooms;
+mod shaped;
 mod steps;
 mod sums;
 mod taking;
 mod values;
 mod whole;
 
+pub use limits::{NormalFault, normal};
 pub use std::alloc::AllocError as NoMemory;
-pub use whole::normal;

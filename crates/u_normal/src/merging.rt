@@ -9,11 +9,11 @@ ghost use Rattle.u_normal.specs.Merging as spec;
 ghost use Rattle.u_normal.specs.Merging.{HasKinds, HasOneAtMost, IsBoth, IsFewer, IsMerged, IsPair};
 
 use crate::NoMemory;
-use crate::steps::{joined, negation_of_sum, product, regrouped, squash_of_product};
+use crate::steps::{negation_of_sum, product, regrouped, squash_of_product};
 use crate::taking::taken;
 use normal_form::Kind;
 use std::alloc::Global;
-use u_congruence::{Derived, copied, multiplied, still};
+use u_congruence::{Derived, copied, joined, multiplied, still};
 use u_moves::Moves;
 use u_terms::{Boxed, U};
 

@@ -6,29 +6,15 @@ ghost use Rattle.u_moves.specs.Derivations.{IsKnown};
 ghost use Rattle.normal_form.specs.Kinds.{ordered};
 ghost use Rattle.normal_form.specs.NormalTerms.{sum_of};
 ghost use Rattle.u_congruence.specs.Congruence.{IsBy, IsFromTo};
+ghost use Rattle.u_normal.specs.Leading.{IsOneMore};
 ghost use Rattle.u_normal.specs.Merging.{HasKinds};
 
 use crate::NoMemory;
 use normal_form::{in_order, in_row};
 use std::alloc::Global;
-use u_congruence::{Derived, copied, still};
+use u_congruence::{Derived, copied, joined, still};
 use u_moves::Moves;
 use u_terms::{Boxed, U, same};
-
-/// From the first term of the one to the last of the other.
-pub fn joined<'f>(
-    alloc: Global,
-    first: Derived<'f>,
-    rest: Derived<'f>,
-) -> Result<Derived<'f>, NoMemory>
-    requires joins { first.to ≡ rest.from }
-    requires facts { first.facts ≡ rest.facts }
-    requires outs { first.outs ≡ rest.outs }
-    ensures { IfOk result (IsFromTo first.entry.facts first.entry.outs first.entry.from rest.entry.to) }
-{
-    let first = first.into_inner();
-    Boxed::new(alloc, first.then(alloc, rest.into_inner())?)
-}
 
 /// The product of copies.
 pub fn product(alloc: Global, x: &U, y: &U) -> Result<Boxed<U>, NoMemory>
@@ -113,7 +99,8 @@ pub fn zero_sum<'f>(moves: Moves<'f>) -> Result<Derived<'f>, NoMemory>
 /// The derivation, and then what is added in its last term in one row, by one step at most.
 pub fn then_in_row<'f>(moves: Moves<'f>, d: Derived<'f>) -> Result<Derived<'f>, NoMemory>
     requires { IsBy moves.facts.now moves.outs d }
-    ensures { IfOk result (IsFromTo moves.entry.facts.now moves.entry.outs d.entry.from (sum_of (add_leaves d.entry.to))) }
+    ensures ends { IfOk result (IsFromTo moves.entry.facts.now moves.entry.outs d.entry.from (sum_of (add_leaves d.entry.to))) }
+    ensures more { IfOk result (IsOneMore d.entry) }
 {
     let row = Boxed::new(moves.alloc, in_row(moves.alloc, d.get().to())?)?;
     if same(d.get().to(), row.get()) {
@@ -121,8 +108,7 @@ pub fn then_in_row<'f>(moves: Moves<'f>, d: Derived<'f>) -> Result<Derived<'f>, 
     }
     let last = copied(moves.alloc, d.get().to())?;
     let step = moves.add_ac(last.into_inner(), row.into_inner())?;
-    let step = Boxed::new(moves.alloc, step)?;
-    joined(moves.alloc, d, step)
+    Boxed::new(moves.alloc, d.into_inner().then(moves.alloc, step)?)
 }
 
 /// The derivation, and then what is multiplied in its last term by kinds, by one step at most.

@@ -9,8 +9,8 @@ ghost use Rattle.u_normal.specs.Summing as spec;
 ghost use Rattle.u_normal.specs.Summing.{IsSumOverBlocks};
 
 use crate::NoMemory;
-use crate::steps::{joined, parted, then_in_row, zero_sum};
-use u_congruence::{Derived, added, copied, still};
+use crate::steps::{parted, then_in_row, zero_sum};
+use u_congruence::{Derived, added, copied, joined, still};
 use u_moves::Moves;
 use u_terms::{Boxed, U};
 

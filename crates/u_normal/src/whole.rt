@@ -1,4 +1,5 @@
-//! From any term to a normal one.
+//! From any term to a normal one, as far as there is room. The room is the most nodes that the last term may have: a derivation whose last
+//! term has more goes no further, and nothing else is said of it.
 ghost use Rattle.std.specs.Prelude.{◌≡◌, ◌↔◌, ◌+◌, ◌++◌, ◌∷◌, [], IfOk, IsTrue, Some};
 ghost use Rattle.u_terms.specs.Binding.{opened};
 ghost use Rattle.u_rules.specs.Terms.{◌⊕◌, S};
@@ -11,16 +12,19 @@ ghost use Rattle.u_congruence.specs.Congruence.{IsBy};
 ghost use Rattle.u_normal.specs.Finishing.{IsFactorOrOne, IsFinished, IsFinishedPlain, IsPlain};
 ghost use Rattle.u_normal.specs.Heads.{HasHead, IsFactorRow, IsTidy};
 ghost use Rattle.u_normal.specs.Leading.{Leads};
+ghost use Rattle.u_normal.specs.Rooms.{InRoom, BecomesInRoom, beside};
+ghost use Rattle.u_normal.specs.Summing.{IsSumOverBlocks};
 ghost use Rattle.u_normal.specs.Values.{AreNormalAt, AreStanding, IsNormalAt, LeadsOn, Stands};
 
 use crate::NoMemory;
 use crate::heads::headed;
-use crate::steps::{joined, then_in_order, then_in_row};
+use crate::rooms::{is_over, room_beside};
+use crate::steps::{then_in_order, then_in_row};
 use crate::sums::then_over_each;
 use crate::values::{extended, then_in_aggregate};
 use normal_form::{Kind, kind_of};
 use u_congruence::{
-    Derived, added, copied, inside, multiplied, negated, opened, squashed, still, summed,
+    Derived, added, copied, inside, joined, multiplied, negated, opened, squashed, still, summed,
 };
 use u_moves::Moves;
 use u_terms::{Boxed, U, Val};
@@ -28,136 +32,144 @@ use u_terms::{Boxed, U, Val};
 /// From a term to a normal one. Nothing is simplified that the form does not ask for. A factor beside a sum is copied into each product
 /// as it is, and made normal there.
 #[cycle(normal)]
-pub fn normal<'f>(moves: Moves<'f>, u: &U) -> Result<Derived<'f>, NoMemory>
+pub fn normal_within<'f>(moves: Moves<'f>, room: u64, u: &U) -> Result<Derived<'f>, NoMemory>
     requires { IsKnown 0 moves.outs u.now }
-    ensures { IfOk result (Leads IsNormal moves.entry.facts.now moves.entry.outs u.now) }
+    ensures { IfOk result (Leads (InRoom room IsNormal) moves.entry.facts.now moves.entry.outs u.now) }
 {
     match u {
         U::Zero => still(moves, copied(moves.alloc, u)?),
-        U::Add(a, b) => normal_sum(moves, a.get(), b.get()),
-        U::Sum(f) => normal_body(moves, f.get()),
-        _ => normal_product(moves, u),
+        U::Add(a, b) => normal_sum(moves, room, a.get(), b.get()),
+        U::Sum(f) => normal_body(moves, room, f.get()),
+        _ => normal_product(moves, room, u),
     }
 }
 
-// The same of a sum.
+// The same of a sum. What the first part leads to takes room from the second.
 #[cycle(normal)]
-fn normal_sum<'f>(moves: Moves<'f>, a: &U, b: &U) -> Result<Derived<'f>, NoMemory>
+fn normal_sum<'f>(moves: Moves<'f>, room: u64, a: &U, b: &U) -> Result<Derived<'f>, NoMemory>
     requires a { IsKnown 0 moves.outs a.now }
     requires b { IsKnown 0 moves.outs b.now }
-    ensures { IfOk result (Leads IsNormal moves.entry.facts.now moves.entry.outs (a.now ⊕ b.now)) }
+    ensures { IfOk result (Leads (InRoom room IsNormal) moves.entry.facts.now moves.entry.outs (a.now ⊕ b.now)) }
 {
-    let left = normal(moves, a)?;
-    let right = normal(moves, b)?;
-    added_in_row(moves, left, right)
+    let left = normal_within(moves, room, a)?;
+    let left_over = room_beside(room, &left);
+    let right = normal_within(moves, left_over, b)?;
+    added_in_row(moves, room, left, right)
 }
 
 // The same of a sum over all values.
 #[cycle(normal)]
-fn normal_body<'f>(moves: Moves<'f>, f: &U) -> Result<Derived<'f>, NoMemory>
+fn normal_body<'f>(moves: Moves<'f>, room: u64, f: &U) -> Result<Derived<'f>, NoMemory>
     requires { IsKnown 1 moves.outs f.now }
-    ensures { IfOk result (Leads IsNormal moves.entry.facts.now moves.entry.outs (S f.now)) }
+    ensures { IfOk result (Leads (InRoom room IsNormal) moves.entry.facts.now moves.entry.outs (S f.now)) }
 {
-    let part = normal_opened(moves, f)?;
+    let part = normal_opened(moves, room, f)?;
     let sum = summed(moves, part)?;
-    then_over_each(moves, sum)
+    over_each_in_row(moves, room, sum)
 }
 
 // The same of a body, with the name `outs` for its place.
 #[cycle(normal)]
-fn normal_opened<'f>(moves: Moves<'f>, f: &U) -> Result<Derived<'f>, NoMemory>
+fn normal_opened<'f>(moves: Moves<'f>, room: u64, f: &U) -> Result<Derived<'f>, NoMemory>
     requires { IsKnown 1 moves.outs f.now }
-    ensures { IfOk result (Leads IsNormal moves.entry.facts.now (moves.entry.outs + 1) (opened f.now moves.entry.outs)) }
+    ensures { IfOk result (Leads (InRoom room IsNormal) moves.entry.facts.now (moves.entry.outs + 1) (opened f.now moves.entry.outs)) }
 {
     let inner = inside(moves)?;
     let body = Boxed::new(moves.alloc, opened(moves.alloc, f, moves.outs)?)?;
-    normal(inner, body.get())
+    normal_within(inner, room, body.get())
 }
 
 // The same of a product.
 #[cycle(normal)]
-fn normal_product<'f>(moves: Moves<'f>, u: &U) -> Result<Derived<'f>, NoMemory>
+fn normal_product<'f>(moves: Moves<'f>, room: u64, u: &U) -> Result<Derived<'f>, NoMemory>
     requires { IsKnown 0 moves.outs u.now }
-    ensures { IfOk result (Leads IsNormal moves.entry.facts.now moves.entry.outs u.now) }
+    ensures { IfOk result (Leads (InRoom room IsNormal) moves.entry.facts.now moves.entry.outs u.now) }
 {
     let first = headed(moves, u)?;
-    let rest = normal_parts(moves, first.get().to())?;
+    if is_over(&first, room) {
+        return Ok(first);
+    }
+    let rest = normal_parts(moves, room, first.get().to())?;
     joined(moves.alloc, first, rest)
 }
 
 // The same of a sum, or of a product without sums.
 #[cycle(normal)]
-fn normal_parts<'f>(moves: Moves<'f>, u: &U) -> Result<Derived<'f>, NoMemory>
+fn normal_parts<'f>(moves: Moves<'f>, room: u64, u: &U) -> Result<Derived<'f>, NoMemory>
     requires known { IsKnown 0 moves.outs u.now }
     requires head { HasHead u.now }
-    ensures { IfOk result (Leads IsNormal moves.entry.facts.now moves.entry.outs u.now) }
+    ensures { IfOk result (Leads (InRoom room IsNormal) moves.entry.facts.now moves.entry.outs u.now) }
 {
     match u {
         U::Zero => still(moves, copied(moves.alloc, u)?),
-        U::Add(a, b) => normal_sum(moves, a.get(), b.get()),
-        U::Sum(f) => normal_body(moves, f.get()),
+        U::Add(a, b) => normal_sum(moves, room, a.get(), b.get()),
+        U::Sum(f) => normal_body(moves, room, f.get()),
         _ => {
-            let row = normal_row(moves, u)?;
-            in_block(moves, u, row)
+            let row = normal_row(moves, room, u)?;
+            in_block(moves, room, u, row)
         }
     }
 }
 
 // From factors to normal ones.
 #[cycle(normal)]
-fn normal_row<'f>(moves: Moves<'f>, u: &U) -> Result<Derived<'f>, NoMemory>
+fn normal_row<'f>(moves: Moves<'f>, room: u64, u: &U) -> Result<Derived<'f>, NoMemory>
     requires known { IsKnown 0 moves.outs u.now }
     requires row { IsFactorRow u.now }
-    ensures { IfOk result (Leads (IsFinished u.now) moves.entry.facts.now moves.entry.outs u.now) }
+    ensures { IfOk result (Leads (InRoom room (IsFinished u.now)) moves.entry.facts.now moves.entry.outs u.now) }
 {
     match u {
         U::Mul(factor, others) => {
-            let first = normal_factor(moves, factor.get())?;
-            let rest = normal_row(moves, others.get())?;
+            let first = normal_factor(moves, room, factor.get())?;
+            let left_over = room_beside(room, &first);
+            let rest = normal_row(moves, left_over, others.get())?;
             multiplied(moves, first, rest)
         }
-        _ => normal_factor(moves, u),
+        _ => normal_factor(moves, room, u),
     }
 }
 
 // From a factor to a normal one.
 #[cycle(normal)]
-fn normal_factor<'f>(moves: Moves<'f>, u: &U) -> Result<Derived<'f>, NoMemory>
+fn normal_factor<'f>(moves: Moves<'f>, room: u64, u: &U) -> Result<Derived<'f>, NoMemory>
     requires known { IsKnown 0 moves.outs u.now }
     requires factor { IsFactorOrOne u.now }
-    ensures { IfOk result (Leads (IsFinished u.now) moves.entry.facts.now moves.entry.outs u.now) }
+    ensures { IfOk result (Leads (InRoom room (IsFinished u.now)) moves.entry.facts.now moves.entry.outs u.now) }
 {
     match u {
         U::Squash(p) => {
-            let body = normal(moves, p.get())?;
+            let body = normal_within(moves, room, p.get())?;
             squashed(moves, body)
         }
         U::Not(p) if is_negation(u) => {
-            let part = normal(moves, p.get())?;
+            let part = normal_within(moves, room, p.get())?;
             negated(moves, part)
         }
         U::Not(p) => {
-            let part = normal_plain(moves, p.get())?;
+            let part = normal_plain(moves, room, p.get())?;
             negated(moves, part)
         }
-        _ => normal_plain(moves, u),
+        _ => normal_plain(moves, room, u),
     }
 }
 
 // From an equality, a predicate, a relation or 1 to one whose values are normal.
 #[cycle(normal)]
-fn normal_plain<'f>(moves: Moves<'f>, u: &U) -> Result<Derived<'f>, NoMemory>
+fn normal_plain<'f>(moves: Moves<'f>, room: u64, u: &U) -> Result<Derived<'f>, NoMemory>
     requires known { IsKnown 0 moves.outs u.now }
     requires plain { IsPlain u.now }
-    ensures { IfOk result (Leads (IsFinishedPlain u.now) moves.entry.facts.now moves.entry.outs u.now) }
+    ensures { IfOk result (Leads (InRoom room (IsFinishedPlain u.now)) moves.entry.facts.now moves.entry.outs u.now) }
 {
     let whole = still(moves, copied(moves.alloc, u)?)?;
     match u {
-        U::Rel(_, values) => normal_values(moves, whole, &[], values.as_slice()),
-        U::Pred(_, values) => normal_values(moves, whole, &[], values.as_slice()),
+        U::Rel(_, values) => normal_values(moves, room, whole, &[], values.as_slice()),
+        U::Pred(_, values) => normal_values(moves, room, whole, &[], values.as_slice()),
         U::Eq(a, b) => {
-            let half = normal_value(moves, whole, &[], 0, a)?;
-            normal_value(moves, half, &[], 1, b)
+            let half = normal_value(moves, room, whole, &[], 0, a)?;
+            if is_over(&half, room) {
+                return Ok(half);
+            }
+            normal_value(moves, room, half, &[], 1, b)
         }
         _ => Ok(whole),
     }
@@ -167,6 +179,7 @@ fn normal_plain<'f>(moves: Moves<'f>, u: &U) -> Result<Derived<'f>, NoMemory>
 #[cycle(normal)]
 fn normal_values<'f>(
     moves: Moves<'f>,
+    room: u64,
     whole: Derived<'f>,
     path: &[u32],
     values: &[Val],
@@ -174,11 +187,14 @@ fn normal_values<'f>(
     requires by { IsBy moves.facts.now moves.outs whole }
     requires known { AreKnownValues moves.outs values.now }
     requires stand { AreStanding path.now values.now whole.to }
-    ensures { IfOk result (LeadsOn (AreNormalAt path.now values.now) whole.entry) }
+    ensures { IfOk result (LeadsOn (BecomesInRoom room (AreNormalAt path.now values.now)) whole.entry) }
 {
     let mut done = whole;
     for (index, value) in values.iter().enumerate() {
-        done = normal_value(moves, done, path, index, value)?;
+        if is_over(&done, room) {
+            return Ok(done);
+        }
+        done = normal_value(moves, room, done, path, index, value)?;
     }
     Ok(done)
 }
@@ -187,6 +203,7 @@ fn normal_values<'f>(
 #[cycle(normal)]
 fn normal_value<'f>(
     moves: Moves<'f>,
+    room: u64,
     whole: Derived<'f>,
     path: &[u32],
     index: usize,
@@ -195,7 +212,7 @@ fn normal_value<'f>(
     requires by { IsBy moves.facts.now moves.outs whole }
     requires known { IsKnownValue moves.outs value.now }
     requires stands { Stands (path.now ++ index ∷ []) value.now whole.to }
-    ensures { IfOk result (LeadsOn (IsNormalAt (path.now ++ index ∷ []) value.now) whole.entry) }
+    ensures { IfOk result (LeadsOn (BecomesInRoom room (IsNormalAt (path.now ++ index ∷ []) value.now)) whole.entry) }
 {
     match value {
         Val::Bound(_) => Ok(whole),
@@ -203,11 +220,11 @@ fn normal_value<'f>(
         Val::Lit(_) => Ok(whole),
         Val::Fun(_, values) => {
             let place = extended(moves.alloc, path, index)?;
-            normal_values(moves, whole, place.as_slice(), values.as_slice())
+            normal_values(moves, room, whole, place.as_slice(), values.as_slice())
         }
         Val::Agg(_, body) => {
             let place = extended(moves.alloc, path, index)?;
-            let part = normal_opened(moves, body.get())?;
+            let part = normal_opened(moves, room, body.get())?;
             then_in_aggregate(moves.alloc, whole, place.as_slice(), part)
         }
     }
@@ -223,24 +240,52 @@ fn is_negation(u: &U) -> bool
 // The sum of what both lead to, in one row.
 fn added_in_row<'f>(
     moves: Moves<'f>,
+    room: u64,
     left: Derived<'f>,
     right: Derived<'f>,
 ) -> Result<Derived<'f>, NoMemory>
     requires left { IsBy moves.facts.now moves.outs left }
     requires right { IsBy moves.facts.now moves.outs right }
-    requires normal_left { IsNormal left.to }
-    requires normal_right { IsNormal right.to }
-    ensures { IfOk result (Leads IsNormal moves.entry.facts.now moves.entry.outs (left.entry.from ⊕ right.entry.from)) }
+    requires normal_left { InRoom room IsNormal left.to }
+    requires normal_right { InRoom (beside room left.to) IsNormal right.to }
+    ensures { IfOk result (Leads (InRoom room IsNormal) moves.entry.facts.now moves.entry.outs (left.entry.from ⊕ right.entry.from)) }
 {
     let both = added(moves, left, right)?;
+    if is_over(&both, room) {
+        return Ok(both);
+    }
     then_in_row(moves, both)
 }
 
-// The normal factors in order.
-fn in_block<'f>(moves: Moves<'f>, u: &U, row: Derived<'f>) -> Result<Derived<'f>, NoMemory>
-    requires tidy { IsTidy u.now }
-    requires row { Leads (IsFinished u.now) moves.facts.now moves.outs u.now row }
-    ensures { IfOk result (Leads IsNormal moves.entry.facts.now moves.entry.outs u.now) }
+// A sum over all values before each block of the last term, in one row.
+fn over_each_in_row<'f>(
+    moves: Moves<'f>,
+    room: u64,
+    sum: Derived<'f>,
+) -> Result<Derived<'f>, NoMemory>
+    requires by { IsBy moves.facts.now moves.outs sum }
+    requires sum { InRoom room IsSumOverBlocks sum.to }
+    ensures { IfOk result (Leads (InRoom room IsNormal) moves.entry.facts.now moves.entry.outs sum.entry.from) }
 {
+    if is_over(&sum, room) {
+        return Ok(sum);
+    }
+    then_over_each(moves, sum)
+}
+
+// The normal factors in order.
+fn in_block<'f>(
+    moves: Moves<'f>,
+    room: u64,
+    u: &U,
+    row: Derived<'f>,
+) -> Result<Derived<'f>, NoMemory>
+    requires tidy { IsTidy u.now }
+    requires row { Leads (InRoom room (IsFinished u.now)) moves.facts.now moves.outs u.now row }
+    ensures { IfOk result (Leads (InRoom room IsNormal) moves.entry.facts.now moves.entry.outs u.now) }
+{
+    if is_over(&row, room) {
+        return Ok(row);
+    }
     then_in_order(moves, row)
 }

@@ -33,4 +33,4 @@ returns c =
     (leads-to IsNormal c.args.moves.facts.now c.args.moves.facts.now c.args.moves.outs c.args.moves.outs c.args.d.from c.in_ok-all-in-Sum.all.from (sum_of (add_leaves c.in_ok-all-in-Sum.all.to))
     refl refl all.from
     (subst (λ (u : U). IsNormal (sum_of (add_leaves u))) (ap over_each f ∙ sym each.to ∙ sym all.to) (over-normal sum.body sum.normal)))
-    c.then_in_row.result c.then_in_row.ensures
+    c.then_in_row.result c.then_in_row.ensures.ends

@@ -2,11 +2,12 @@ use Rattle.std.proofs.Common.{◌+◌, ◌*◌, max}
 use Rattle.u_normal.specs.Taking.{load}
 use Rattle.u_terms.specs.Size.{list_nodes, value_nodes}
 use Rattle.u_normal.specs.Heads.{head_load}
+use Rattle.u_normal.specs.Rooms.{BecomesInRoom}
 use Rattle.u_normal.specs.Values.{AreNormalUpTo, LeadsOn}
 use Rattle.u_normal.proofs.whole.+normal.Given as goal
 
-abbrev pub decreases-normal : goal.decreases-normal
-decreases-normal l = 8 * load l.u.now + 7
+abbrev pub decreases-normal_within : goal.decreases-normal_within
+decreases-normal_within l = 8 * load l.u.now + 7
 
 abbrev pub decreases-normal_sum : goal.decreases-normal_sum
 decreases-normal_sum l = 8 * max (load l.a.now) (load l.b.now) + 8
@@ -39,4 +40,4 @@ abbrev pub decreases-normal_value : goal.decreases-normal_value
 decreases-normal_value l = 8 * value_nodes l.value.now + 9
 
 abbrev pub invariant-normal_values-loop-index : goal.invariant-normal_values-loop-index
-invariant-normal_values-loop-index l = LeadsOn (AreNormalUpTo l.index l.path l.values) l.fn.whole l.done
+invariant-normal_values-loop-index l = LeadsOn (BecomesInRoom l.room (AreNormalUpTo l.index l.path l.values)) l.fn.whole l.done
