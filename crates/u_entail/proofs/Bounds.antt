@@ -11,7 +11,7 @@ use Rattle.u_terms.specs.Size.{nodes, depth}
 use Rattle.u_terms.proofs.Sizes.{nodes-Mul, depth-Mul}
 use Rattle.u_rules.specs.Terms.{mul_leaves}
 use Rattle.u_entail.specs.Spines.{spine, weight}
-use Rattle.u_entail.proofs.Parts.{each-weaker, each-append}
+use Rattle.u_entail.proofs.Lists.{each-weaker, each-append}
 
 pub weight-append : (xs ys : List U) → weight (xs ++ ys) ≡ weight xs + weight ys
 weight-append xs ys = omega (arith, sum_by-append nodes xs ys, length-append xs ys)

@@ -1,7 +1,5 @@
 -- What a chain of the product's classes says of the answer.
-use Rattle.std.proofs.Common.{◌≡◌, ℕ, ◌<◌, ◌^◌, List, [], ◌∷◌, ◌++◌, Option, Some, None, length, true, false, ap, sym, ◌∙◌, subst, arith}
-use Rattle.std.specs.Prelude.{◌↔◌, IsTrue, Bool}
-use Rattle.std.proofs.lemmas.Bool.{true≢false}
+use Rattle.std.proofs.Common.{◌≡◌, ℕ, ◌<◌, ◌^◌, List, [], ◌∷◌, ◌++◌, Option, Some, None, length, refl, ap, sym, ◌∙◌, subst, arith}
 use Rattle.std.proofs.lemmas.List.{append-nil}
 use Rattle.data_model.specs.Lists.{Each}
 use Rattle.u_terms.specs.Syntax.{U, Zero, One, Add, Mul, Squash, Not, Sum, Rel, Eq, Pred, Val}
@@ -15,11 +13,14 @@ use Rattle.u_equal.specs.Entails.{Entails}
 use Rattle.u_equal.specs.Links.{IsChain}
 use Rattle.u_moves.specs.Derivations.{Derivation, IsKnown}
 use Rattle.u_moves.specs.Moving.{IsKnownValue}
-use Rattle.u_entail.specs.Following.{AreFactors, AreGiven, Lead, LeadsBy}
-use Rattle.u_entail.specs.Gaining.{IsThroughCalls, IsGainedBy, IsGained, IsWidened, Derives, Appends, Begins}
-use Rattle.u_entail.proofs.Leading.{leads-entail, leads-given, leads-by}
+use Rattle.u_entail.specs.declared.hops.Hop.{Hop}
+use Rattle.u_entail.specs.Sides.{AreFactors}
+use Rattle.u_entail.specs.Spots.{here, at_right}
+use Rattle.u_entail.specs.Hops.{AreHops, HopsLead, Lead}
+use Rattle.u_entail.specs.Gaining.{right_side, IsGainedBy, IsGained, IsWidened, Derives, Appends, Begins}
+use Rattle.u_entail.proofs.Leading.{leads-by}
 use Rattle.u_entail.proofs.Gained.{by-links, by-chain, by-entailment, product-appended}
-use Rattle.u_entail.proofs.Parts.{each-append}
+use Rattle.u_entail.proofs.Lists.{each-append}
 
 module _ (product classes : U) (is : classes ≡ product) (a b : Val) (found : Option (List Link)) (chain : IsChain classes a b found) where
   of_product : IsChain product a b found
@@ -32,37 +33,35 @@ module _ (product classes : U) (is : classes ≡ product) (a b : Val) (found : O
     pub the-chain : IsChain product a b (Some links)
     the-chain = subst (λ (f : Option (List Link)). IsChain product a b f) some of_product
 
-    pub through-calls : (AreGiven links → ⊥) → IsThroughCalls product a b
-    through-calls calls = (leads-entail product a b links the-chain.0, λ none. calls (leads-given product none a b links the-chain.0))
+    module _ (hops : List Hop) (are : AreHops right_side links hops) where
+      pub hops-lead : (factors : List U) → Begins product factors → HopsLead factors (a ≐ a) hops (a ≐ b)
+      hops-lead factors begins = are.lead factors a b (leads-by product factors begins.rest begins.is a b links the-chain.0) (at_right a here) refl
 
-    pub chain-leads : (factors : List U) → Begins product factors → LeadsBy factors a links b
-    chain-leads factors begins = leads-by product factors begins.rest begins.is a b links the-chain.0
+      pub lead-hops : (factors : List U) → Begins product factors → Lead factors (a ≐ a) hops
+      lead-hops factors begins = record { to = a ≐ b; by = hops-lead factors begins }
 
-    pub chain-lead : (factors : List U) → Begins product factors → Lead factors a links
-    chain-lead factors begins = record { to = b; by = chain-leads factors begins }
+      pub derives : (facts : Facts) (outs : ℕ) (factors : List U) → factors ≡ mul_leaves product → (d : Derivation)
+          → IsGainedBy facts outs factors product (product ⊗ (a ≐ b)) a b hops 3 d → Derives facts outs product a b d
+      derives facts outs factors leaves d g =
+          let h = subst (λ (xs : List U). IsGainedBy facts outs xs product (product ⊗ (a ≐ b)) a b hops 3 d) leaves g in
+          record {
+            entailed = by-entailment facts outs product (mul_leaves product) product (product ⊗ (a ≐ b)) a b links hops are 3 d the-chain h;
+            leads = h.leads;
+            links = by-links facts outs product (mul_leaves product) product (product ⊗ (a ≐ b)) a b links hops are 3 d the-chain h;
+            short = by-chain facts outs product (mul_leaves product) product (product ⊗ (a ≐ b)) a b links hops are 3 d the-chain h;
+          }
 
-    pub derives : (facts : Facts) (outs : ℕ) (factors : List U) → factors ≡ mul_leaves product → (d : Derivation)
-        → IsGainedBy facts outs factors product (product ⊗ (a ≐ b)) a b links 3 d → Derives facts outs product a b d
-    derives facts outs factors leaves d g =
-        let h = subst (λ (xs : List U). IsGainedBy facts outs xs product (product ⊗ (a ≐ b)) a b links 3 d) leaves g in
-        record {
-          entailed = by-entailment facts outs product (mul_leaves product) product (product ⊗ (a ≐ b)) a b links 3 d the-chain h;
-          leads = h.leads;
-          links = by-links facts outs product (mul_leaves product) product (product ⊗ (a ≐ b)) a b links 3 d the-chain h;
-          short = by-chain facts outs product (mul_leaves product) product (product ⊗ (a ≐ b)) a b links 3 d the-chain h;
-        }
-
-    pub appends : (facts : Facts) (outs : ℕ) (factors : List U) → Begins product factors → IsKnownValue outs a → (first d : Derivation) → IsWidened facts outs factors first
-        → IsGained factors a links first d → Appends facts outs product factors a b d
-    appends facts outs factors begins known first d w g =
-        let last : U = product_of (factors ++ (a ≐ b) ∷ []) in
-        let h = product-appended facts outs factors a b known links (chain-leads factors begins) first d w g in
-        record {
-          entailed = by-entailment facts outs product factors (product_of factors) last a b links 2 d the-chain h;
-          leads = h.leads;
-          links = by-links facts outs product factors (product_of factors) last a b links 2 d the-chain h;
-          short = by-chain facts outs product factors (product_of factors) last a b links 2 d the-chain h;
-        }
+      pub appends : (facts : Facts) (outs : ℕ) (factors : List U) → Begins product factors → IsKnownValue outs a → (first d : Derivation) → IsWidened facts outs factors first
+          → IsGained factors a hops first d → Appends facts outs product factors a b d
+      appends facts outs factors begins known first d w g =
+          let last : U = product_of (factors ++ (a ≐ b) ∷ []) in
+          let h = product-appended facts outs factors a b known hops (hops-lead factors begins) first d w g in
+          record {
+            entailed = by-entailment facts outs product factors (product_of factors) last a b links hops are 2 d the-chain h;
+            leads = h.leads;
+            links = by-links facts outs product factors (product_of factors) last a b links hops are 2 d the-chain h;
+            short = by-chain facts outs product factors (product_of factors) last a b links hops are 2 d the-chain h;
+          }
 
 pub all-leaves : (product : U) (factors : List U) → factors ≡ mul_leaves product → Begins product factors
 all-leaves product factors is = record { rest = []; is = is ∙ sym (append-nil (mul_leaves product)) }
@@ -86,9 +85,3 @@ are-factors outs product factors is known few = record {
   known = subst (λ (xs : List U). Each (IsKnown 0 outs) xs) (sym is) (leaves-known outs product known);
   few = omega (arith, few, ap length is);
 }
-
-pub not-given : (b : Bool) (links : List Link) → IsTrue b ↔ AreGiven links → b ≡ false → AreGiven links → ⊥
-not-given b links tells is given = true≢false (sym (tells.1 given) ∙ is)
-
-pub all-given : (b : Bool) (links : List Link) → IsTrue b ↔ AreGiven links → b ≡ true → AreGiven links
-all-given b links tells is = tells.0 is

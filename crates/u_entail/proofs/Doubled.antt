@@ -20,12 +20,13 @@ use Rattle.u_rules.specs.Terms.{◌⊗◌, P, neg, sq, mul_leaves, terms}
 use Rattle.u_rules.proofs.LeavesAt.{mul_leaves-Mul, mul_leaves-One}
 use Rattle.u_moves.specs.Derivations.{Derivation, IsKnown, IsJoined}
 use Rattle.u_moves.specs.Moving.{AreKnownValues}
-use Rattle.u_entail.specs.Following.{AreFactors}
+use Rattle.u_entail.specs.Sides.{AreFactors}
 use Rattle.u_entail.specs.Gaining.{IsRegrouped}
 use Rattle.u_entail.specs.Marks.{IsAgain, IsDoubled, IsDoubledBehind, IsParted, StandsAgain, without}
 use Rattle.u_entail.specs.Spines.{spine, weight, IsMadeBehind}
 use Rattle.u_entail.proofs.Bounds.{AreWithin, weight-append, weight-product, depth-product, depth-spine}
-use Rattle.u_entail.proofs.Parts.{each-append, each-parts, mul-known, one-known, spine-known, split-at, terms-front}
+use Rattle.u_entail.proofs.Lists.{each-append, each-parts, split-at}
+use Rattle.u_entail.proofs.Parts.{mul-known, one-known, spine-known, terms-front}
 use Rattle.u_entail.proofs.Spines.{nodes-spine, product-spine}
 
 -- what code that leaves the mark out has

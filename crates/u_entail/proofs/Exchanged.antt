@@ -11,10 +11,12 @@ use Rattle.u_rules.specs.Terms.{◌⊗◌, ◌≐◌, put}
 use Rattle.u_deriv.specs.declared.step.Step.{Step}
 use Rattle.u_moves.specs.Derivations.{Derivation, IsKnown, IsOneStep}
 use Rattle.u_moves.specs.Moving.{IsKnownValue}
-use Rattle.u_entail.specs.Following.{AreFactors, IsExchange}
+use Rattle.u_entail.specs.Sides.{AreFactors}
+use Rattle.u_entail.specs.Following.{IsExchange}
 use Rattle.u_entail.specs.Spines.{spine}
 use Rattle.u_entail.proofs.Spines.{put-spine}
-use Rattle.u_entail.proofs.Parts.{each-at, each-drop, spine-split, left-known, right-known, mul-closed, spine-known, all-closed, wider-known, each-weaker}
+use Rattle.u_entail.proofs.Lists.{each-at, each-drop, each-weaker}
+use Rattle.u_entail.proofs.Parts.{spine-split, left-known, right-known, mul-closed, spine-known, all-closed, wider-known}
 
 module _ (facts : Facts) (outs : ℕ) (factors : List U) (ready : AreFactors outs factors) (body : U) (known : IsKnown 1 outs body) (factor : ℕ) (a b : Val)
     (at : slice_get factors factor ≡ Some (a ≐ b)) where
@@ -45,7 +47,7 @@ module _ (facts : Facts) (outs : ℕ) (factors : List U) (ready : AreFactors out
   closed-with : (c : Val) (f : U) → f ≡ spine rest body → IsKnownValue outs c → IsClosed 0 ((a ≐ b) ⊗ put c f)
   closed-with c f is k = let g = body-known f is in mul-closed (a ≐ b) (put c f) equality-known.closed (opened_with-closed f c k.closed g.closed)
 
-  pub exchange-made : (f : U) → f ≡ spine rest body → (step : Step) (d : Derivation) → IsOneStep facts outs ((a ≐ b) ⊗ put a f) step ((a ≐ b) ⊗ put b f) d → IsExchange facts outs factors factor body a b d
+  pub exchange-made : (f : U) → f ≡ spine rest body → (step : Step) (d : Derivation) → IsOneStep facts outs ((a ≐ b) ⊗ put a f) step ((a ≐ b) ⊗ put b f) d → IsExchange facts outs factors factor (put a body) (put b body) d
   exchange-made f is step d one = record {
     facts = one.facts;
     outs = one.outs;
@@ -60,7 +62,7 @@ module _ (facts : Facts) (outs : ℕ) (factors : List U) (ready : AreFactors out
 
   -- the same of values that are equal
   pub exchange-by : (a' b' : Val) → a' ≡ a → b' ≡ b → (f : U) → f ≡ spine rest body → (step : Step) (d : Derivation)
-      → IsOneStep facts outs ((a' ≐ b') ⊗ put a' f) step ((a' ≐ b') ⊗ put b' f) d → IsExchange facts outs factors factor body a b d
+      → IsOneStep facts outs ((a' ≐ b') ⊗ put a' f) step ((a' ≐ b') ⊗ put b' f) d → IsExchange facts outs factors factor (put a body) (put b body) d
   exchange-by a' b' ea eb f is step d one =
       exchange-made f is step d
       (subst (λ (x : Val). IsOneStep facts outs ((x ≐ b) ⊗ put x f) step ((x ≐ b) ⊗ put b f) d) ea

@@ -1,153 +1,188 @@
--- Following no link, one link, and one after the other.
+-- Following no hop, one hop, and one after the other.
 use Rattle.std.proofs.Common.{◌≡◌, ℕ, ◌+◌, ◌<◌, ◌≤◌, Bool, true, false, List, [], ◌∷◌, length, take, refl, ap, sym, ◌∙◌, subst, arith}
 use Rattle.std.proofs.lemmas.Option.{same_Some, slice_get_within}
 use Rattle.u_terms.specs.Syntax.{U, Val}
+use Rattle.u_terms.specs.Places.{IsClosed}
+use Rattle.u_terms.specs.declared.term.Val.TheVariants as v
 use Rattle.u_terms.specs.declared.facts.Facts.{Facts}
 use Rattle.u_terms.specs.Size.{nodes, depth}
 use Rattle.u_rules.specs.Terms.{◌≐◌, put}
-use Rattle.u_equal.specs.declared.link.Link.{Link}
-use Rattle.u_equal.specs.declared.link.Link.TheVariants as link
-use Rattle.u_equal.specs.Links.{HasCount, nothing, given_more, call_more}
 use Rattle.u_moves.specs.Derivations.{Derivation, IsKnown, IsWithin}
 use Rattle.u_moves.specs.Moving.{IsKnownValue}
 use Rattle.u_entail.specs.declared.following.Followed.{Followed}
-use Rattle.u_entail.specs.Following.{IsSide, HasSide, LeadsBy, LinkLeads, at_end, along, by_given, by_call, Lead, AreFactors, IsExchange, Stands, IsBounded, SidesWithin, IsFollowed}
+use Rattle.u_entail.specs.declared.hops.Hop.{Hop}
+use Rattle.u_entail.specs.Sides.{IsSide, HasSide, AreFactors}
+use Rattle.u_entail.specs.Spots.{Spot, filled, way, HasSpot, IsPut}
+use Rattle.u_entail.specs.Hops.{HopLeads, HopsLead, arrived, hopped, Lead, StayWithin}
+use Rattle.u_entail.specs.Following.{IsExchange, Exchanges, Crosses, LandsAt, Stands, IsBounded, IsFollowed}
 use Rattle.u_entail.specs.Spines.{spine, IsMadeBehind}
+use Rattle.u_entail.proofs.Filled.{spot-put, spot-closed, spot-named, bound-names, bound-closed}
 use Rattle.u_entail.proofs.Spines.{nodes-spine, depth-behind}
-use Rattle.u_entail.proofs.Links.{given-parts, given-no_call}
-use Rattle.u_entail.proofs.Parts.{each-at, left-known, right-known}
+use Rattle.u_entail.proofs.Lists.{each-at}
+use Rattle.u_entail.proofs.Parts.{left-known, right-known}
 
--- ---- links taken apart
-pub record Parted (factors : List U) (a : Val) (first : Link) (rest : List Link) (c : Val) : Type 0 where
-  pub mid : Val
-  pub one : LinkLeads factors a first mid
-  pub more : LeadsBy factors mid rest c
+-- ---- hops taken apart
+pub record Parted (factors : List U) (u : U) (first : Hop) (rest : List Hop) (w : U) : Type 0 where
+  pub mid : U
+  pub one : HopLeads factors u first mid
+  pub more : HopsLead factors mid rest w
 
-pub parted : (factors : List U) (a c : Val) (first : Link) (rest : List Link) → LeadsBy factors a (first ∷ rest) c → Parted factors a first rest c
-parted factors a c first rest (along d b e f r h k) = record { mid = b; one = h; more = k }
+pub parted : (factors : List U) (u w : U) (first : Hop) (rest : List Hop) → HopsLead factors u (first ∷ rest) w → Parted factors u first rest w
+parted factors u w first rest (hopped a mid b f r h k) = record { mid = mid; one = h; more = k }
 
-alone : (factors : List U) (a b : Val) (first : Link) → LinkLeads factors a first b → LeadsBy factors a (first ∷ []) b
-alone factors a b first h = along a b b first [] h (at_end b)
+pub ended : (factors : List U) (u w : U) → HopsLead factors u [] w → u ≡ w
+ended factors u w (arrived a) = refl
 
-pub ended : (factors : List U) (a b : Val) → LeadsBy factors a [] b → a ≡ b
-ended factors a b (at_end c) = refl
+alone : (factors : List U) (u w : U) (first : Hop) → HopLeads factors u first w → HopsLead factors u (first ∷ []) w
+alone factors u w first h = hopped u w w first [] h (arrived w)
 
-pub lead-first : (factors : List U) (a : Val) (first : Link) (rest : List Link) → Lead factors a (first ∷ rest) → Lead factors a (first ∷ [])
-lead-first factors a first rest h = let p = parted factors a h.to first rest h.by in record { to = p.mid; by = alone factors a p.mid first p.one }
-
-record Counted (first : Link) (rest : List Link) (n : ℕ) : Type 0 where
-  here : ℕ
-  there : ℕ
-  is : n ≡ here + there
-  one : HasCount (first ∷ []) here
-  more : HasCount rest there
-
-counted : (first : Link) (rest : List Link) (n : ℕ) → HasCount (first ∷ rest) n → Counted first rest n
-counted first rest n (given_more factor turned r m h) = record { here = 1; there = m; is = refl; one = given_more factor turned [] 0 nothing; more = h }
-counted first rest n (call_more pairs r k m hk h) = record { here = 1 + k + 0; there = m; is = omega arith; one = call_more pairs [] k 0 hk nothing; more = h }
+pub lead-first : (factors : List U) (u : U) (first : Hop) (rest : List Hop) → Lead factors u (first ∷ rest) → (to : U) × HopLeads factors u first to
+lead-first factors u first rest h = let p = parted factors u h.to first rest h.by in (p.mid, p.one)
 
 -- ---- one after the other
-module _ (factors : List U) (body : U) where
-  pub followed-none : (at : Followed) → IsFollowed factors body [] at at
+module _ (factors : List U) where
+  pub followed-none : (at : Followed) → IsFollowed factors [] at at
   followed-none at = record {
     from = refl;
-    arrives = λ to h. ended factors at.value to h;
-    steps = λ n h. omega arith;
-    within = λ n m given sides bounded. bounded;
+    arrives = λ to h. ended factors at.last to h;
+    steps = omega arith;
+    within = λ n m stay bounded. bounded;
   }
 
-  pub followed-more : (first : Link) (rest : List Link) (at mid end : Followed) → IsFollowed factors body (first ∷ []) at mid → IsFollowed factors body rest mid end
-      → IsFollowed factors body (first ∷ rest) at end
-  followed-more first rest at mid end h k = record {
+  pub followed-more : (first : Hop) (rest : List Hop) (at mid end : Followed) → ((to : U) × HopLeads factors at.last first to) → IsFollowed factors (first ∷ []) at mid → IsFollowed factors rest mid end
+      → IsFollowed factors (first ∷ rest) at end
+  followed-more first rest at mid end leads h k = record {
     from = k.from ∙ h.from;
     arrives = λ to l.
-        let p = parted factors at.value to first rest l in
-        k.arrives to (subst (λ (x : Val). LeadsBy factors x rest to) (sym (h.arrives p.mid (alone factors at.value p.mid first p.one))) p.more);
-    steps = λ n c.
-        let p = counted first rest n c in
-        omega (arith, h.steps p.here p.one, k.steps p.there p.more, p.is);
-    within = λ n m given sides bounded. k.within n m given.1 sides (h.within n m (given.0, tt) sides bounded);
+        let p = parted factors at.last to first rest l in
+        k.arrives to (subst (λ (x : U). HopsLead factors x rest to) (sym (h.arrives p.mid (alone factors at.last p.mid first p.one))) p.more);
+    steps = omega (arith, h.steps, k.steps);
+    within = λ n m stay bounded.
+        let there : mid.last ≡ leads.0 = h.arrives leads.0 (alone factors at.last leads.0 first leads.1) in
+        let next = stay leads.0 leads.1 in
+        k.within n m (subst (λ (x : U). StayWithin n m factors x rest) (sym there) next.2) (h.within n m (λ to l. let both = stay to l in (both.0, both.1, tt)) bounded);
   }
 
   -- what is still to be followed leads on
-  pub lead-rest : (first : Link) (rest : List Link) (at mid : Followed) → IsFollowed factors body (first ∷ []) at mid → Lead factors at.value (first ∷ rest) → Lead factors mid.value rest
+  pub lead-rest : (first : Hop) (rest : List Hop) (at mid : Followed) → IsFollowed factors (first ∷ []) at mid → Lead factors at.last (first ∷ rest) → Lead factors mid.last rest
   lead-rest first rest at mid h l =
-      let p = parted factors at.value l.to first rest l.by in
-      record { to = l.to; by = subst (λ (x : Val). LeadsBy factors x rest l.to) (sym (h.arrives p.mid (alone factors at.value p.mid first p.one))) p.more }
+      let p = parted factors at.last l.to first rest l.by in
+      record { to = l.to; by = subst (λ (x : U). HopsLead factors x rest l.to) (sym (h.arrives p.mid (alone factors at.last p.mid first p.one))) p.more }
 
--- ---- one equality
-other-side : (factors : List U) (factor : ℕ) (turned : Bool) (a b c : Val) → IsSide factors factor turned a b → IsSide factors factor turned a c → b ≡ c
-other-side factors factor false a b c h k = let e : a ≐ b ≡ a ≐ c = same_Some (a ≐ b) (a ≐ c) (sym h ∙ k) in cc
-other-side factors factor true a b c h k = let e : b ≐ a ≡ c ≐ a = same_Some (b ≐ a) (c ≐ a) (sym h ∙ k) in cc
-
-given-side : (factors : List U) (a b : Val) (l : Link) → LinkLeads factors a l b → (factor : ℕ) (turned : Bool) → l ≡ link.Given factor turned → IsSide factors factor turned a b
-given-side factors a b l (by_given i t c d h) factor turned e =
-    let p = given-parts i factor t turned e in
-    subst (λ (n : ℕ). IsSide factors n turned c d) p.0 (subst (λ (r : Bool). IsSide factors i r c d) p.1 h)
-given-side factors a b l (by_call f xs ys pairs h) factor turned e = absurd (given-no_call factor turned pairs (sym e))
-
-pub lead-side : (factors : List U) (a : Val) (factor : ℕ) (turned : Bool) → Lead factors a (link.Given factor turned ∷ []) → HasSide factors factor turned a
-lead-side factors a factor turned h =
-    let p = parted factors a h.to (link.Given factor turned) [] h.by in
-    record { to = p.mid; is = given-side factors a p.mid (link.Given factor turned) p.one factor turned refl }
-
-count-some : (first : Link) (rest : List Link) (n : ℕ) → HasCount (first ∷ rest) n → 1 ≤ n
-count-some first rest n (given_more factor turned r m h) = omega arith
-count-some first rest n (call_more pairs r k m hk h) = omega arith
-
-side-within : (factors : List U) (body : U) (factor : ℕ) (turned : Bool) (a b : Val) → IsSide factors factor turned a b → (n m : ℕ) → SidesWithin n m factors body
-    → IsWithin n m (spine factors (put a body)) × IsWithin n m (spine factors (put b body))
-side-within factors body factor false a b is n m sides = sides factor a b is
-side-within factors body factor true a b is n m sides = let both = sides factor b a is in (both.1, both.0)
-
-side-known : (outs : ℕ) (factors : List U) → AreFactors outs factors → (factor : ℕ) (turned : Bool) (a b : Val) → IsSide factors factor turned a b → IsKnownValue outs b
+-- ---- one hop
+pub side-known : (outs : ℕ) (factors : List U) → AreFactors outs factors → (factor : ℕ) (turned : Bool) (a b : Val) → IsSide factors factor turned a b → IsKnownValue outs b
 side-known outs factors ready factor false a b is = right-known outs a b (each-at (IsKnown 0 outs) factors factor (a ≐ b) ready.known is)
 side-known outs factors ready factor true a b is = left-known outs b a (each-at (IsKnown 0 outs) factors factor (b ≐ a) ready.known is)
-
-module _ (facts : Facts) (outs : ℕ) (factors : List U) (ready : AreFactors outs factors) (body : U) (factor : ℕ) (turned : Bool) (at : Followed) (stands : Stands facts outs factors body at)
-    (side : HasSide factors factor turned at.value) (part : Derivation) (ex : IsExchange facts outs factors factor body at.value side.to part)
-    (front : List U) (front_is : front ≡ take factor factors) where
-  pub part-stands : at.deriv.to ≡ spine front part.from
-  part-stands = stands.to ∙ ex.from ∙ ap (λ (xs : List U). spine xs part.from) (sym front_is)
-
-  ends-there : spine factors (put side.to body) ≡ spine front part.to
-  ends-there = ex.to ∙ ap (λ (xs : List U). spine xs part.to) (sym front_is)
-
-  begins-there : spine factors (put at.value body) ≡ spine front part.from
-  begins-there = ex.from ∙ ap (λ (xs : List U). spine xs part.from) (sym front_is)
-
-  module _ (d : Derivation) (made : IsMadeBehind front at.deriv part d) (w : Val) (is : w ≡ side.to) where
-    abbrev after : Followed
-    after = record { deriv = d; value = w }
-
-    pub given-stands : Stands facts outs factors body after
-    given-stands = record {
-      facts = made.facts ∙ stands.facts;
-      outs = made.outs ∙ stands.outs;
-      to = made.to ∙ sym ends-there ∙ ap (λ (x : Val). spine factors (put x body)) (sym is);
-      value = subst (IsKnownValue outs) (sym is) (side-known outs factors ready factor turned at.value side.to side.is);
-    }
-
-    bounded-after : (n m : ℕ) → SidesWithin n m factors body → IsBounded n m at.deriv → IsBounded n m d
-    bounded-after n m sides bounded =
-        let both = side-within factors body factor turned at.value side.to side.is n m sides in
-        let w = both.0 in
-        let x = both.1 in
-        record {
-          few = omega (arith, made.nodes, ex.nodes, nodes-spine front part.from, nodes-spine front part.to, ap nodes begins-there, ap nodes ends-there, w.few, x.few, bounded.few);
-          shallow = omega (arith, made.depth, ex.depth, depth-behind front part.from, depth-behind front part.to, ap depth begins-there, ap depth ends-there, w.shallow, x.shallow, bounded.shallow);
-        }
-
-    pub given-followed : IsFollowed factors body (link.Given factor turned ∷ []) at after
-    given-followed = record {
-      from = made.from;
-      arrives = λ to h.
-          let p = parted factors at.value to (link.Given factor turned) [] h in
-          is ∙ other-side factors factor turned at.value side.to p.mid side.is (given-side factors at.value p.mid (link.Given factor turned) p.one factor turned refl) ∙ ended factors p.mid to p.more;
-      steps = λ n c. omega (arith, made.steps, ex.steps, count-some (link.Given factor turned) [] n c);
-      within = λ n m given sides bounded. bounded-after n m sides bounded;
-    }
 
 pub side-in : (factors : List U) (factor : ℕ) (turned : Bool) (a b : Val) → IsSide factors factor turned a b → factor < length factors
 side-in factors factor false a b is = slice_get_within factors factor (a ≐ b) is
 side-in factors factor true a b is = slice_get_within factors factor (b ≐ a) is
+
+pub hop-spot : (factors : List U) (u : U) (hop : Hop) (place : List ℕ) → hop.place ≡ place → ((to : U) × HopLeads factors u hop to) → HasSpot u place
+hop-spot factors u hop place is leads = let h = leads.1 in record { spot = h.spot; value = h.left; at = h.at ∙ is; is = h.from }
+
+pub hop-within : (factors : List U) (u : U) (hop : Hop) → ((to : U) × HopLeads factors u hop to) → hop.factor < length factors
+hop-within factors u hop leads = let h = leads.1 in side-in factors hop.factor hop.turned h.left h.right h.side
+
+pub hop-side : (factors : List U) (u : U) (hop : Hop) → ((to : U) × HopLeads factors u hop to) → (a : Val) × HasSide factors hop.factor hop.turned a
+hop-side factors u hop leads = let h = leads.1 in (h.left, record { to = h.right; is = h.side })
+
+module _ (outs : ℕ) (factors : List U) (first : U) (known : IsKnown 0 outs first) (hop : Hop) (place : List ℕ) (place_is : hop.place ≡ place) (body : U) (made : IsPut first place (v.Bound 0) body) where
+  body-is : (to : U) (h : HopLeads factors first hop to) → body ≡ filled h.spot (v.Bound 0)
+  body-is to h = made.each h.spot h.left (h.at ∙ place_is) h.from
+
+  pub body-known : ((to : U) × HopLeads factors first hop to) → IsKnown 1 outs body
+  body-known leads =
+      let h = leads.1 in
+      let k = subst (λ (x : U). IsKnown 0 outs x) h.from known in
+      subst (λ (x : U). IsKnown 1 outs x) (sym (body-is leads.0 h)) (record {
+        closed = spot-closed 1 (v.Bound 0) (bound-closed 1 0 (omega arith)) h.spot h.left k.closed;
+        named = spot-named (λ x. x < outs) (v.Bound 0) (bound-names (λ x. x < outs) 0) h.spot h.left k.named;
+      })
+
+  put-is : (to : U) (h : HopLeads factors first hop to) (c : Val) → put c body ≡ filled h.spot c
+  put-is to h c =
+      let k = subst (λ (x : U). IsKnown 0 outs x) h.from known in
+      ap (λ (x : U). put c x) (body-is to h) ∙ spot-put c h.spot h.left k.closed
+
+  pub crosses : (facts : Facts) (d : Derivation) → Exchanges facts outs factors hop.factor hop.turned body d → Crosses facts outs factors first hop d
+  crosses facts d e = record {
+    each = λ to h.
+        subst (λ (x : U). IsExchange facts outs factors hop.factor x to d) (put-is to h h.left ∙ sym h.from)
+        (subst (λ (x : U). IsExchange facts outs factors hop.factor (put h.left body) x d) (put-is to h h.right ∙ sym h.to) (e.each h.left h.right h.side));
+  }
+
+pub lands : (factors : List U) (first : U) (hop : Hop) (place : List ℕ) → hop.place ≡ place → (side : Val) → ((a b : Val) → IsSide factors hop.factor hop.turned a b → side ≡ b) → (new : U)
+    → IsPut first place side new → LandsAt factors first hop new
+lands factors first hop place place_is side tells new made = record {
+  each = λ to h. made.each h.spot h.left (h.at ∙ place_is) h.from ∙ ap (λ (c : Val). filled h.spot c) (tells h.left h.right h.side) ∙ sym h.to;
+}
+
+module _ (facts : Facts) (outs : ℕ) (factors : List U) (ready : AreFactors outs factors) (hop : Hop) (at : Followed) (stands : Stands facts outs factors at)
+    (leads : (to : U) × HopLeads factors at.last hop to) (part : Derivation) (over : Crosses facts outs factors at.last hop part) (front : List U) (front_is : front ≡ take hop.factor factors) where
+  abbrev to : U
+  to = leads.0
+
+  ex : IsExchange facts outs factors hop.factor at.last to part
+  ex = over.each to leads.1
+
+  pub part-facts : at.deriv.facts ≡ part.facts
+  part-facts = let e = ex in stands.facts ∙ sym e.facts
+
+  pub part-outs : at.deriv.outs ≡ part.outs
+  part-outs = let e = ex in stands.outs ∙ sym e.outs
+
+  pub part-closed : IsClosed 0 part.from
+  part-closed = let e = ex in e.closed_from
+
+  begins-there : spine factors at.last ≡ spine front part.from
+  begins-there = let e = ex in e.from ∙ ap (λ (xs : List U). spine xs part.from) (sym front_is)
+
+  ends-there : spine factors to ≡ spine front part.to
+  ends-there = let e = ex in e.to ∙ ap (λ (xs : List U). spine xs part.to) (sym front_is)
+
+  pub part-stands : at.deriv.to ≡ spine front part.from
+  part-stands = stands.to ∙ begins-there
+
+  to-known : IsKnown 0 outs to
+  to-known =
+      let h = leads.1 in
+      let k = subst (λ (x : U). IsKnown 0 outs x) h.from stands.known in
+      let s = side-known outs factors ready hop.factor hop.turned h.left h.right h.side in
+      subst (λ (x : U). IsKnown 0 outs x) (sym h.to) (record {
+        closed = spot-closed 0 h.right s.closed h.spot h.left k.closed;
+        named = spot-named (λ x. x < outs) h.right s.named h.spot h.left k.named;
+      })
+
+  module _ (d : Derivation) (made : IsMadeBehind front at.deriv part d) (w : U) (land : LandsAt factors at.last hop w) where
+    abbrev after : Followed
+    after = record { deriv = d; last = w }
+
+    pub hop-stands : Stands facts outs factors after
+    hop-stands = record {
+      facts = made.facts ∙ stands.facts;
+      outs = made.outs ∙ stands.outs;
+      to = made.to ∙ sym ends-there ∙ ap (λ (x : U). spine factors x) (sym (land.each to leads.1));
+      known = subst (λ (x : U). IsKnown 0 outs x) (sym (land.each to leads.1)) to-known;
+    }
+
+    bounded-after : (n m : ℕ) → StayWithin n m factors at.last (hop ∷ []) → IsBounded n m at.deriv → IsBounded n m d
+    bounded-after n m stay bounded =
+        let e = ex in
+        let both = stay to leads.1 in
+        let x = both.0 in
+        let y = both.1 in
+        record {
+          few = omega (arith, made.nodes, e.nodes, nodes-spine front part.from, nodes-spine front part.to, ap nodes begins-there, ap nodes ends-there, x.few, y.few, bounded.few);
+          shallow = omega (arith, made.depth, e.depth, depth-behind front part.from, depth-behind front part.to, ap depth begins-there, ap depth ends-there, x.shallow, y.shallow, bounded.shallow);
+        }
+
+    pub hop-followed : IsFollowed factors (hop ∷ []) at after
+    hop-followed = record {
+      from = made.from;
+      arrives = λ last h.
+          let p = parted factors at.last last hop [] h in
+          land.each p.mid p.one ∙ ended factors p.mid last p.more;
+      steps = let e = ex in omega (arith, made.steps, e.steps);
+      within = bounded-after;
+    }

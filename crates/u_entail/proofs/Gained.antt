@@ -1,5 +1,5 @@
 -- An equality in the place of a last factor 1: how it is gained, and how large the terms on the way are.
-use Rattle.std.proofs.Common.{◌≡◌, ℕ, ◌+◌, ◌*◌, ◌^◌, ◌<◌, ◌≤◌, max, List, [], ◌∷◌, ◌++◌, length, refl, ap, sym, ◌∙◌, subst, arith}
+use Rattle.std.proofs.Common.{◌≡◌, ℕ, Bool, true, false, ◌+◌, ◌*◌, ◌^◌, ◌<◌, ◌≤◌, max, List, [], ◌∷◌, ◌++◌, length, refl, ap, sym, ◌∙◌, subst, arith}
 use Rattle.std.specs.Prelude.{Some, slice_get, IsPermutation, IfOk, Result, Ok, Err}
 use Rattle.std.proofs.lemmas.List.{append-nil, length-append}
 use Rattle.std.proofs.lemmas.List.Sorted.{IsPermutation-refl}
@@ -18,12 +18,18 @@ use Rattle.u_equal.specs.Links.{HasCount, IsChain}
 use Rattle.u_moves.specs.Derivations.{Derivation, IsKnown, IsWithin, IsOneStep, IsStill, IsJoined}
 use Rattle.u_moves.specs.Moving.{IsKnownValue}
 use Rattle.u_entail.specs.declared.following.Followed.{Followed}
-use Rattle.u_entail.specs.Following.{AreFactors, AreGiven, IsBounded, IsFollowed, Lead, LeadsBy, SidesWithin, Stands}
-use Rattle.u_entail.specs.Gaining.{with_place, EndsIn, HasStepsOf, IsBegun, IsGained, IsGainedBy, IsGainedIn, IsLed, IsRegathered, IsRegrouped, IsShort, IsStarted, IsWidened, LeadsBetween}
+use Rattle.u_entail.specs.declared.hops.Hop.{Hop}
+use Rattle.u_entail.specs.Sides.{AreFactors, IsSide}
+use Rattle.u_entail.specs.Spots.{ValueSpot, here, in_call, filled_value, value_way, Spot, in_predicate, at_left, at_right, in_negation, filled, way}
+use Rattle.u_entail.specs.Hops.{AreAt, AreHops, HopLeads, HopsLead, StayWithin}
+use Rattle.u_entail.specs.Following.{IsBounded, IsFollowed, Stands}
+use Rattle.u_entail.specs.Gaining.{right_side, EndsIn, HasStepsOf, IsBegun, IsGained, IsGainedBy, IsGainedIn, IsLed, IsRegathered, IsRegrouped, IsShort, IsWidened, LeadsBetween}
 use Rattle.u_entail.specs.Spines.{spine, weight, IsMadeBehind}
 use Rattle.u_entail.proofs.Bounds.{AreWithin, weight-at, weight-leaves, weight-product, depth-leaves, depth-product, depth-spine}
 use Rattle.u_entail.proofs.Leading.{leads-entail, leads-given, count-given}
-use Rattle.u_entail.proofs.Parts.{each-at, each-append, each-parts, place-put, spine-known}
+use Rattle.u_entail.proofs.Lists.{each-at, each-append, each-parts}
+use Rattle.u_entail.proofs.Parts.{spine-known}
+use Rattle.u_entail.proofs.Placed.{eq-not, heads, pred-eq, sides, tails}
 use Rattle.u_entail.proofs.Spines.{nodes-spine, depth-behind, spine-append, product-spine}
 
 -- ---- leaves
@@ -107,45 +113,54 @@ module _ (facts : Facts) (outs : ℕ) (factors : List U) (a : Val) (first itself
         within = begun-bounded;
       }
 
--- ---- and along the links
-module _ (facts : Facts) (outs : ℕ) (factors : List U) (a : Val) (known : IsKnownValue outs a) (begun : Derivation) (ends : EndsIn facts outs (spine factors (a ≐ a)) begun) (body : U) (is : body ≡ with_place a)
-    (at : Followed) (start : IsStarted begun a at) where
-  pub start-stands : Stands facts outs factors body at
-  start-stands = record {
-    facts = ap (λ (d : Derivation). d.facts) start.deriv ∙ ends.facts;
-    outs = ap (λ (d : Derivation). d.outs) start.deriv ∙ ends.outs;
-    to =
-        ap (λ (d : Derivation). d.to) start.deriv ∙ ends.to
-        ∙ ap (λ (t : U). spine factors t) (sym (place-put outs a a known) ∙ sym (ap (λ (t : U). put a t) is) ∙ sym (ap (λ (c : Val). put c body) start.value));
-    value = subst (IsKnownValue outs) (sym start.value) known;
-  }
+-- ---- and along the hops
+module _ (facts : Facts) (outs : ℕ) (factors : List U) (last : U) (begun : Derivation) where
+  pub start-stands : EndsIn facts outs (spine factors last) begun → IsKnown 0 outs last → Stands facts outs factors (record { deriv = begun; last = last })
+  start-stands ends known = record { facts = ends.facts; outs = ends.outs; to = ends.to; known = known }
 
-  pub start-leads : (links : List Link) → Lead factors a links → Lead factors at.value links
-  start-leads links lead = subst (λ (c : Val). Lead factors c links) (sym start.value) lead
-
-  pub equality-led : (links : List Link) (end : Followed) → Stands facts outs factors body end → IsFollowed factors body links at end → IsLed facts outs factors a links begun end.deriv
-  equality-led links end h f = record {
+  pub last-led : (hops : List Hop) (end : Followed) → Stands facts outs factors end → IsFollowed factors hops (record { deriv = begun; last = last }) end → IsLed facts outs factors last hops begun end.deriv
+  last-led hops end h f = record {
     facts = h.facts;
     outs = h.outs;
-    from = f.from ∙ ap (λ (d : Derivation). d.from) start.deriv;
-    arrives = λ b leads.
-        let there : end.value ≡ b = f.arrives b (subst (λ (c : Val). LeadsBy factors c links b) (sym start.value) leads) in
-        h.to ∙ ap (λ (t : U). spine factors t) (ap (λ (c : Val). put c body) there ∙ ap (λ (t : U). put b t) is ∙ place-put outs a b known);
-    steps = λ n c. omega (arith, f.steps n c, ap (λ (d : Derivation). length d.steps) start.deriv);
-    within = λ n m given sides bounded.
-        f.within n m given (subst (λ (t : U). SidesWithin n m factors t) (sym is) sides) (subst (IsBounded n m) (sym start.deriv) bounded);
+    from = f.from;
+    arrives = λ to leads. h.to ∙ ap (λ (x : U). spine factors x) (f.arrives to leads);
+    steps = f.steps;
+    within = f.within;
   }
 
-pub equality-gained : (facts : Facts) (outs : ℕ) (factors : List U) (a : Val) (links : List Link) (first begun d : Derivation) → EndsIn facts outs (spine factors I) first
-    → IsBegun facts outs factors a first begun → IsLed facts outs factors a links begun d → IsGained factors a links first d
-equality-gained facts outs factors a links first begun d ends b l = record {
-  facts = l.facts ∙ sym ends.facts;
-  outs = l.outs ∙ sym ends.outs;
-  from = l.from ∙ b.from;
-  arrives = l.arrives;
-  steps = λ n c. omega (arith, l.steps n c, b.steps);
-  within = λ n m given sides w x bounded. l.within n m given sides (b.within n m w x bounded);
-}
+pub equality-gained : (facts : Facts) (outs : ℕ) (factors : List U) (a : Val) (hops : List Hop) (first begun d : Derivation) (last : U) → last ≡ (a ≐ a) → EndsIn facts outs (spine factors I) first
+    → IsBegun facts outs factors a first begun → IsLed facts outs factors last hops begun d → IsGained factors a hops first d
+equality-gained facts outs factors a hops first begun d last is ends b l =
+    let k = subst (λ (x : U). IsLed facts outs factors x hops begun d) is l in
+    record {
+      facts = k.facts ∙ sym ends.facts;
+      outs = k.outs ∙ sym ends.outs;
+      from = k.from ∙ b.from;
+      arrives = k.arrives;
+      steps = omega (arith, k.steps, b.steps);
+      within = λ n m stay w x bounded. k.within n m stay (b.within n m w x bounded);
+    }
+
+-- a hop at the right side of an equality
+record RightHop (factors : List U) (a : Val) (hop : Hop) (mid : U) : Type 0 where
+  left : Val
+  right : Val
+  is : mid ≡ a ≐ right
+  side : IsSide factors hop.factor hop.turned left right
+
+right-hop : (factors : List U) (a w : Val) (hop : Hop) (mid : U) → hop.place ≡ right_side → HopLeads factors (a ≐ w) hop mid → RightHop factors a hop mid
+right-hop factors a w hop mid place h = by h.spot h.left h.right (h.at ∙ place) h.from h.to h.side where
+  at_end : (spot : ValueSpot) → value_way spot ≡ [] → (x : Val) → filled_value spot x ≡ x
+  at_end here none x = refl
+  at_end (in_call f before spot after) none x = absurd (omega (arith, ap length none))
+
+  by : (spot : Spot) (x y : Val) → way spot ≡ right_side → a ≐ w ≡ filled spot x → mid ≡ filled spot y → IsSide factors hop.factor hop.turned x y → RightHop factors a hop mid
+  by (in_predicate j before spot after) x y at from to side = absurd (pred-eq j (before ++ filled_value spot x ∷ after) a w (sym from))
+  by (at_left spot b) x y at from to side = absurd (omega (arith, heads 0 1 (value_way spot) [] at))
+  by (at_right b spot) x y at from to side =
+      let p = sides a w b (filled_value spot x) from in
+      record { left = x; right = y; is = to ∙ ap (λ (c : Val). c ≐ filled_value spot y) (sym p.0) ∙ ap (λ (c : Val). a ≐ c) (at_end spot (tails 1 1 (value_way spot) [] at) y); side = side }
+  by (in_negation spot) x y at from to side = absurd (eq-not a w (filled spot x) from)
 
 -- ---- how large
 module _ (outs : ℕ) (factors : List U) (first : U) (weighs : weight factors ≤ nodes first + 1) (deep : AreWithin (depth first) factors) (a b : Val) (known : IsKnownValue outs a) where
@@ -169,11 +184,18 @@ module _ (outs : ℕ) (factors : List U) (first : U) (weighs : weight factors �
         },
       )
 
-  pub sides-within : SidesWithin most_nodes most_depth factors (with_place a)
-  sides-within i x y at =
-      let both = equal-within x y i at in (
-        subst (λ (t : U). IsWithin most_nodes most_depth (spine factors t)) (sym (place-put outs a x known)) both.0,
-        subst (λ (t : U). IsWithin most_nodes most_depth (spine factors t)) (sym (place-put outs a y known)) both.1,
+  side-within : (factor : ℕ) (turned : Bool) (x y : Val) → IsSide factors factor turned x y → IsWithin most_nodes most_depth (spine factors (a ≐ y))
+  side-within factor false x y is = let both = equal-within x y factor is in both.1
+  side-within factor true x y is = let both = equal-within y x factor is in both.0
+
+  pub stay-within : (w : Val) → IsWithin most_nodes most_depth (spine factors (a ≐ w)) → (hops : List Hop) → AreAt right_side hops → StayWithin most_nodes most_depth factors (a ≐ w) hops
+  stay-within w now [] flat = tt
+  stay-within w now (first ∷ rest) flat = λ mid h.
+      let r = right-hop factors a w first mid flat.0 h in
+      let next = side-within first.factor first.turned r.left r.right r.side in (
+        now,
+        subst (λ (x : U). IsWithin most_nodes most_depth (spine factors x)) (sym r.is) next,
+        subst (λ (x : U). StayWithin most_nodes most_depth factors x rest) (sym r.is) (stay-within r.right next rest flat.1),
       )
 
   pub one-within : IsWithin most_nodes most_depth (spine factors I)
@@ -204,13 +226,13 @@ module _ (outs : ℕ) (factors : List U) (first : U) (weighs : weight factors �
 pub spread-ends : (facts : Facts) (outs : ℕ) (first last : U) (d : Derivation) → IsRegrouped facts outs first last d → EndsIn facts outs last d
 spread-ends facts outs first last d r = let l = r.leads in record { facts = l.facts; outs = l.outs; to = l.to }
 
-pub gained-between : (facts : Facts) (outs : ℕ) (product : U) (factors : List U) (a b : Val) (links : List Link) (d : Derivation) → LeadsBy factors a links b
-    → IsGainedIn facts outs product factors a links d → LeadsBetween facts outs product (spine factors (a ≐ b)) d
-gained-between facts outs product factors a b links d leads h =
+pub gained-between : (facts : Facts) (outs : ℕ) (product : U) (factors : List U) (a b : Val) (hops : List Hop) (d : Derivation) → HopsLead factors (a ≐ a) hops (a ≐ b)
+    → IsGainedIn facts outs product factors a hops d → LeadsBetween facts outs product (spine factors (a ≐ b)) d
+gained-between facts outs product factors a b hops d leads h =
     let s = h.first in
     let l = s.leads in
     let g = h.gained in
-    record { facts = g.facts ∙ l.facts; outs = g.outs ∙ l.outs; from = g.from ∙ l.from; to = g.arrives b leads }
+    record { facts = g.facts ∙ l.facts; outs = g.outs ∙ l.outs; from = g.from ∙ l.from; to = g.arrives (a ≐ b) leads }
 
 pub regathered : {E : Type 0} (facts : Facts) (outs : ℕ) (factors : List U) (product : U) (a b : Val) (gained gathered : Derivation) → IsRegrouped facts outs (spine factors (a ≐ b)) (product ⊗ (a ≐ b)) gathered
     → (r : Result Derivation E) → IfOk r (λ d. d.facts ≡ gained.facts) → IfOk r (λ d. d.outs ≡ gained.outs) → IfOk r (λ d. d.from ≡ gained.from) → IfOk r (λ d. d.to ≡ gathered.to)
@@ -219,8 +241,8 @@ regathered facts outs factors product a b gained gathered last (Ok d) ef eo ea e
     record { gathered = gathered; last = last; facts = ef; outs = eo; from = ea; to = eb; steps = es; bounds = j }
 regathered facts outs factors product a b gained gathered last (Err e) ef eo ea eb es j = tt
 
-module _ (facts : Facts) (outs : ℕ) (product : U) (factors : List U) (is : factors ≡ mul_leaves product) (a b : Val) (known : IsKnownValue outs a) (links : List Link) (leads : LeadsBy factors a links b)
-    (gained d : Derivation) (h : IsGainedIn facts outs product factors a links gained) (k : IsRegathered facts outs factors product a b gained d) where
+module _ (facts : Facts) (outs : ℕ) (product : U) (factors : List U) (is : factors ≡ mul_leaves product) (a b : Val) (known : IsKnownValue outs a) (hops : List Hop) (leads : HopsLead factors (a ≐ a) hops (a ≐ b))
+    (gained d : Derivation) (h : IsGainedIn facts outs product factors a hops gained) (k : IsRegathered facts outs factors product a b gained d) where
   weighs : weight factors ≤ nodes product + 1
   weighs = omega (arith, ap weight is, weight-leaves product)
 
@@ -240,51 +262,51 @@ module _ (facts : Facts) (outs : ℕ) (product : U) (factors : List U) (is : fac
       let x = one-within outs factors product weighs deep a b known in
       record { few = omega (arith, s.nodes, w.few, x.few); shallow = omega (arith, s.depth, w.shallow, x.shallow) }
 
-  gained-bounded : AreGiven links → IsBounded many level gained
-  gained-bounded given =
+  gained-bounded : AreAt right_side hops → IsBounded many level gained
+  gained-bounded flat =
       let g = h.gained in
-      g.within many level given (sides-within outs factors product weighs deep a b known) (one-within outs factors product weighs deep a b known) (itself-within outs factors product weighs deep a b known)
-      spread-bounded
+      let itself = itself-within outs factors product weighs deep a b known in
+      g.within many level (stay-within outs factors product weighs deep a b known a itself hops flat) (one-within outs factors product weighs deep a b known) itself spread-bounded
 
-  whole-bounded : AreGiven links → IsBounded many level d
-  whole-bounded given =
+  whole-bounded : AreAt right_side hops → IsBounded many level d
+  whole-bounded flat =
       let j = k.bounds in
       let last = k.last in
-      let w = gained-bounded given in
+      let w = gained-bounded flat in
       let x = end-within outs factors product weighs deep a b known in
       let y = whole-within outs factors product weighs deep a b known in
       record { few = omega (arith, j.nodes, w.few, last.nodes, x.few, y.few); shallow = omega (arith, j.depth, w.shallow, last.depth, x.shallow, y.shallow) }
 
-  whole-steps : (n : ℕ) → HasCount links n → length d.steps ≤ n + 3
-  whole-steps n c =
+  whole-steps : length d.steps ≤ length hops + 3
+  whole-steps =
       let s = h.first in
       let g = h.gained in
       let last = k.last in
-      omega (arith, g.steps n c, s.steps, last.steps, ap length k.steps, length-append gained.steps k.gathered.steps)
+      omega (arith, g.steps, s.steps, last.steps, ap length k.steps, length-append gained.steps k.gathered.steps)
 
-  pub product-gained : IsGainedBy facts outs factors product (product ⊗ (a ≐ b)) a b links 3 d
+  pub product-gained : IsGainedBy facts outs factors product (product ⊗ (a ≐ b)) a b hops 3 d
   product-gained =
-      let l = gained-between facts outs product factors a b links gained leads h in
+      let l = gained-between facts outs product factors a b hops gained leads h in
       let last = k.last in
       let m = last.leads in
       record {
         leads = record { facts = k.facts ∙ l.facts; outs = k.outs ∙ l.outs; from = k.from ∙ l.from; to = k.to ∙ m.to };
         steps = whole-steps;
-        nodes = λ given. let w = whole-bounded given in w.few;
-        depth = λ given. let w = whole-bounded given in w.shallow;
+        nodes = λ flat. let w = whole-bounded flat in w.few;
+        depth = λ flat. let w = whole-bounded flat in w.shallow;
       }
 
 -- ---- by a chain
-module _ (facts : Facts) (outs : ℕ) (product : U) (factors : List U) (first last : U) (a b : Val) (links : List Link) (more : ℕ) (d : Derivation)
-    (chain : IsChain product a b (Some links)) (g : IsGainedBy facts outs factors first last a b links more d) where
+module _ (facts : Facts) (outs : ℕ) (product : U) (factors : List U) (first last : U) (a b : Val) (links : List Link) (hops : List Hop) (are : AreHops right_side links hops) (more : ℕ) (d : Derivation)
+    (chain : IsChain product a b (Some links)) (g : IsGainedBy facts outs factors first last a b hops more d) where
   pub by-links : HasStepsOf product a b more d
-  by-links = record { links = links; leads = chain.0; each = g.steps }
+  by-links = record { links = links; leads = chain.0; each = λ n c. omega (arith, g.steps, are.few n c) }
 
   pub by-chain : IsShort product factors first a b more d
   by-chain = record {
-    steps = λ none. omega (arith, g.steps (length links) (count-given links (leads-given product none a b links chain.0)), chain.1 none);
-    nodes = λ none. g.nodes (leads-given product none a b links chain.0);
-    depth = λ none. g.depth (leads-given product none a b links chain.0);
+    steps = λ none. omega (arith, g.steps, are.few (length links) (count-given links (leads-given product none a b links chain.0)), chain.1 none);
+    nodes = λ none. g.nodes (are.given (leads-given product none a b links chain.0));
+    depth = λ none. g.depth (are.given (leads-given product none a b links chain.0));
   }
 
   pub by-entailment : Entails product a b
@@ -342,26 +364,26 @@ module _ (outs : ℕ) (factors front : List U) (last : U) (parts : factors ≡ f
   whole-shallow w is room = omega (arith, room, ap depth is, ap (λ (xs : List U). depth (product_of xs)) parts, ap depth (product-spine front last))
 
 -- ---- the equality behind the factors
-module _ (facts : Facts) (outs : ℕ) (factors : List U) (a b : Val) (known : IsKnownValue outs a) (links : List Link) (leads : LeadsBy factors a links b) (first d : Derivation)
-    (w : IsWidened facts outs factors first) (g : IsGained factors a links first d) where
+module _ (facts : Facts) (outs : ℕ) (factors : List U) (a b : Val) (known : IsKnownValue outs a) (hops : List Hop) (leads : HopsLead factors (a ≐ a) hops (a ≐ b)) (first d : Derivation)
+    (w : IsWidened facts outs factors first) (g : IsGained factors a hops first d) where
   abbrev whole : U
   whole = product_of factors
 
-  appended-bounded : AreGiven links → IsBounded (most_nodes outs factors whole (weight-product factors) (depth-product factors) a b known) (most_depth outs factors whole (weight-product factors) (depth-product factors) a b known) d
-  appended-bounded given =
+  appended-bounded : AreAt right_side hops → IsBounded (most_nodes outs factors whole (weight-product factors) (depth-product factors) a b known) (most_depth outs factors whole (weight-product factors) (depth-product factors) a b known) d
+  appended-bounded flat =
       let n : ℕ = most_nodes outs factors whole (weight-product factors) (depth-product factors) a b known in
       let m : ℕ = most_depth outs factors whole (weight-product factors) (depth-product factors) a b known in
       let one = one-within outs factors whole (weight-product factors) (depth-product factors) a b known in
-      g.within n m given (sides-within outs factors whole (weight-product factors) (depth-product factors) a b known) one
-      (itself-within outs factors whole (weight-product factors) (depth-product factors) a b known)
+      let itself = itself-within outs factors whole (weight-product factors) (depth-product factors) a b known in
+      g.within n m (stay-within outs factors whole (weight-product factors) (depth-product factors) a b known a itself hops flat) one itself
       (w.within n m (first-within outs factors whole (weight-product factors) (depth-product factors) a b known) one)
 
-  pub product-appended : IsGainedBy facts outs factors (product_of factors) (product_of (factors ++ (a ≐ b) ∷ [])) a b links 2 d
+  pub product-appended : IsGainedBy facts outs factors (product_of factors) (product_of (factors ++ (a ≐ b) ∷ [])) a b hops 2 d
   product-appended =
       let l = w.leads in
       record {
-        leads = record { facts = g.facts ∙ l.facts; outs = g.outs ∙ l.outs; from = g.from ∙ l.from; to = g.arrives b leads ∙ sym (product-spine factors (a ≐ b)) };
-        steps = λ n c. omega (arith, g.steps n c, w.steps);
-        nodes = λ given. let h = appended-bounded given in h.few;
-        depth = λ given. let h = appended-bounded given in h.shallow;
+        leads = record { facts = g.facts ∙ l.facts; outs = g.outs ∙ l.outs; from = g.from ∙ l.from; to = g.arrives (a ≐ b) leads ∙ sym (product-spine factors (a ≐ b)) };
+        steps = omega (arith, g.steps, w.steps);
+        nodes = λ flat. let h = appended-bounded flat in h.few;
+        depth = λ flat. let h = appended-bounded flat in h.shallow;
       }

@@ -10,7 +10,7 @@ use Rattle.u_equal.specs.declared.link.Link.TheVariants as link
 use Rattle.u_equal.specs.Standing.{standing}
 use Rattle.u_equal.specs.Entails.{Entails, EntailsEach, itself, given, turned, through, calls, none, more}
 use Rattle.u_equal.specs.Links.{Leads, LeadsEach, no_link, forth, back, called, no_pair, pair, HasCount, nothing, given_more, HasNoCall}
-use Rattle.u_entail.specs.Following.{LeadsBy, LeadsEachBy, at_end, along, by_given, by_call, at_last, and_then, AreGiven}
+use Rattle.u_entail.specs.Sides.{LeadsBy, LeadsEachBy, at_end, along, by_given, by_call, at_last, and_then, AreGiven}
 
 -- ---- what links lead to is entailed
 mutual

@@ -6,53 +6,17 @@ use Rattle.std.proofs.lemmas.List.{take-map, drop-map, take_rest, take_more}
 use Rattle.std.proofs.lemmas.Option.{none-some, same_Some}
 use denote.Ref.{Bor}
 use Rattle.data_model.specs.Lists.{Each}
-use Rattle.u_terms.specs.Syntax.{U, Val, Bound}
-use Rattle.u_terms.specs.Binding.{mapped}
+use Rattle.u_terms.specs.Syntax.{U, Val}
 use Rattle.u_terms.specs.Names.{EachName}
 use Rattle.u_terms.specs.Places.{IsClosed}
 use Rattle.u_terms.specs.Syntax.{constructors}
-use Rattle.u_terms.proofs.Closedness.{closed-more, value_closed-more}
-use Rattle.u_rules.specs.Terms.{◌⊗◌, ◌≐◌, I, put, terms}
+use Rattle.u_terms.proofs.Closedness.{closed-more}
+use Rattle.u_rules.specs.Terms.{◌⊗◌, ◌≐◌, I, terms}
 use Rattle.u_moves.specs.Derivations.{IsKnown}
 use Rattle.u_moves.specs.Moving.{IsKnownValue}
 use Rattle.u_entail.specs.Spines.{spine}
+use Rattle.u_entail.proofs.Lists.{each-weaker, split-at, each-drop}
 use Rattle.u_entail.proofs.Spines.{spine-append}
-use Rattle.u_entail.proofs.Places.{value-unaffected}
-
--- ---- lists
-pub each-at : {X : Type 0} (P : X → Type 0) (xs : List X) (i : ℕ) (x : X) → Each P xs → slice_get xs i ≡ Some x → P x
-each-at P [] i x each at = absurd (none-some x at)
-each-at P (y ∷ ys) zero x each at = subst P (same_Some y x at) each.0
-each-at P (y ∷ ys) (suc i) x each at = each-at P ys i x each.1 at
-
-pub each-drop : {X : Type 0} (P : X → Type 0) (xs : List X) (i : ℕ) → Each P xs → Each P (drop i xs)
-each-drop P [] zero each = tt
-each-drop P [] (suc i) each = tt
-each-drop P (x ∷ xs) zero each = each
-each-drop P (x ∷ xs) (suc i) each = each-drop P xs i each.1
-
-pub each-weaker : {X : Type 0} (P Q : X → Type 0) → ((x : X) → P x → Q x) → (xs : List X) → Each P xs → Each Q xs
-each-weaker P Q h [] each = tt
-each-weaker P Q h (x ∷ xs) each = (h x each.0, each-weaker P Q h xs each.1)
-
-pub each-append : {X : Type 0} (P : X → Type 0) (xs ys : List X) → Each P xs → Each P ys → Each P (xs ++ ys)
-each-append P [] ys h k = k
-each-append P (x ∷ xs) ys h k = (h.0, each-append P xs ys h.1 k)
-
-pub each-parts : {X : Type 0} (P : X → Type 0) (xs ys : List X) → Each P (xs ++ ys) → Each P xs × Each P ys
-each-parts P [] ys h = (tt, h)
-each-parts P (x ∷ xs) ys h = let both = each-parts P xs ys h.1 in ((h.0, both.0), both.1)
-
-split-suc : {X : Type 0} (xs : List X) (i : ℕ) (x : X) → slice_get xs i ≡ Some x → xs ≡ take i xs ++ x ∷ drop (suc i) xs
-split-suc [] i x at = absurd (none-some x at)
-split-suc (y ∷ ys) zero x at = ap (λ z. z ∷ ys) (same_Some y x at)
-split-suc (y ∷ ys) (suc i) x at = ap (λ zs. y ∷ zs) (split-suc ys i x at)
-
-pub split-at : {X : Type 0} (xs : List X) (i : ℕ) (x : X) → slice_get xs i ≡ Some x → xs ≡ take i xs ++ x ∷ drop (i + 1) xs
-split-at xs i x at = split-suc xs i x at ∙ ap (λ n. take i xs ++ x ∷ drop n xs) (sym (add-one i))
-
-pub drop-item : {X : Type 0} (xs : List X) (i : ℕ) (x : X) → i < length xs → x ≡ get_or xs i x → drop i xs ≡ x ∷ drop (i + 1) xs
-drop-item xs i x within is = drop-cons xs i x within ∙ ap (λ y. y ∷ drop (suc i) xs) (sym is) ∙ ap (λ n. x ∷ drop n xs) (sym (add-one i))
 
 -- ---- lists that are lent
 pub terms-front : (refs : List (Bor U)) (n : ℕ) → terms (take n refs) ≡ take n (terms refs)
@@ -108,15 +72,3 @@ module _ (outs : ℕ) where
 
   pub all-closed : (factors : List U) → Each (IsKnown 0 outs) factors → Each (IsClosed 0) factors
   all-closed factors each = each-weaker (IsKnown 0 outs) (IsClosed 0) (λ x k. k.closed) factors each
-
--- ---- the body of an equality with a place at its right
-abbrev pub with_place : Val → U
-with_place a = a ≐ Bound 0
-
-pub place-known : (outs : ℕ) (a : Val) → IsKnownValue outs a → IsKnown 1 outs (with_place a)
-unfolding IsClosed EachName
-place-known outs a k = record { closed = (value_closed-more a 0 1 (omega arith) k.closed, omega arith); named = (k.named, tt) }
-
-pub place-put : (outs : ℕ) (a b : Val) → IsKnownValue outs a → put b (with_place a) ≡ a ≐ b
-unfolding mapped
-place-put outs a b k = ap (λ (x : Val). x ≐ b) (value-unaffected b a 0 k.closed)

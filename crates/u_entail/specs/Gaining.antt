@@ -1,10 +1,9 @@
 -- An equality that is entailed, gained as a factor.
-use Rattle.std.specs.Prelude.{◌≡◌, ℕ, ◌+◌, ◌*◌, ◌≤◌, max, List, [], ◌∷◌, ◌++◌, length, count_by}
+use Rattle.std.specs.Prelude.{◌≡◌, ℕ, ◌+◌, ◌*◌, ◌≤◌, max, List, [], ◌∷◌, ◌++◌, Option, Some, None, length, count_by}
 use Rattle.u_terms.specs.Syntax.{U, Val}
 use Rattle.u_terms.specs.Size as size
 use Rattle.u_terms.specs.Products.{product_of}
 use Rattle.u_terms.specs.declared.facts.Facts.{Facts}
-use Rattle.u_terms.specs.declared.term.Val.TheVariants as v
 use Rattle.u_rules.specs.Terms.{◌⊗◌, ◌≐◌, I, mul_leaves}
 use Rattle.u_moves.specs.Derivations.{Derivation, IsJoined, IsWithin}
 use Rattle.u_equal.specs.declared.link.Link.{Link}
@@ -12,24 +11,24 @@ use Rattle.u_equal.specs.Standing.{standing}
 use Rattle.u_equal.specs.Entails.{Entails}
 use Rattle.u_equal.specs.Links.{Leads, HasCount, HasNoCall, is_equality}
 use Rattle.u_entail.specs.Spines.{spine}
-use Rattle.u_entail.specs.declared.entailed.Entailed.{Entailed}
-use Rattle.u_entail.specs.declared.entailed.Entailed.TheVariants.{Found, Nothing, Calls}
 use Rattle.u_entail.specs.declared.following.Followed.{Followed}
-use Rattle.u_entail.specs.Following.{AreGiven, IsBounded, LeadsBy, SidesWithin}
+use Rattle.u_entail.specs.declared.hops.Hop.{Hop}
+use Rattle.u_entail.specs.Following.{IsBounded}
+use Rattle.u_entail.specs.Hops.{AreAt, HopsLead, StayWithin}
 
--- the equality whose right side is still open
-abbrev pub with_place : Val → U
-with_place a = a ≐ v.Bound 0
+-- where the right side of an equality stands
+abbrev pub right_side : List ℕ
+right_side = 1 ∷ []
 
--- In the place of a last factor 1 stands an equality: the right side has gone from the left one along the links.
-pub record IsGained (factors : List U) (a : Val) (links : List Link) (first d : Derivation) : Type 0 where
+-- In the place of a last factor 1 stands an equality: the one of the value with itself has gone along the hops.
+pub record IsGained (factors : List U) (a : Val) (hops : List Hop) (first d : Derivation) : Type 0 where
   pub facts : d.facts ≡ first.facts
   pub outs : d.outs ≡ first.outs
   pub from : d.from ≡ first.from
-  pub arrives : (b : Val) → LeadsBy factors a links b → d.to ≡ spine factors (a ≐ b)
-  pub steps : (n : ℕ) → HasCount links n → length d.steps ≤ length first.steps + 1 + n
-  pub within : (nodes depth : ℕ) → AreGiven links → SidesWithin nodes depth factors (with_place a) → IsWithin nodes depth (spine factors I) → IsWithin nodes depth (spine factors (a ≐ a))
-      → IsBounded nodes depth first → IsBounded nodes depth d
+  pub arrives : (last : U) → HopsLead factors (a ≐ a) hops last → d.to ≡ spine factors last
+  pub steps : length d.steps ≡ length first.steps + 1 + length hops
+  pub within : (nodes depth : ℕ) → StayWithin nodes depth factors (a ≐ a) hops → IsWithin nodes depth (spine factors I) → IsWithin nodes depth (spine factors (a ≐ a)) → IsBounded nodes depth first
+      → IsBounded nodes depth d
 
 -- a derivation by these facts, with the names from `outs` on for binders, that leads from the one term to the other
 pub record LeadsBetween (F : Facts) (names : ℕ) (first last : U) (d : Derivation) : Type 0 where
@@ -65,25 +64,20 @@ pub record IsBegun (facts : Facts) (outs : ℕ) (factors : List U) (a : Val) (fi
   pub steps : length d.steps ≡ length first.steps + 1
   pub within : (nodes depth : ℕ) → IsWithin nodes depth (spine factors I) → IsWithin nodes depth (spine factors (a ≐ a)) → IsBounded nodes depth first → IsBounded nodes depth d
 
--- no link has been followed yet
-pub record IsStarted (d : Derivation) (a : Val) (at : Followed) : Type 0 where
-  pub deriv : at.deriv ≡ d
-  pub value : at.value ≡ a
-
--- the right side of the equality of a value with itself has gone along the links
-pub record IsLed (F : Facts) (names : ℕ) (factors : List U) (a : Val) (links : List Link) (begun d : Derivation) : Type 0 where
+-- the last factor has gone along the hops
+pub record IsLed (F : Facts) (names : ℕ) (factors : List U) (last : U) (hops : List Hop) (begun d : Derivation) : Type 0 where
   pub facts : d.facts ≡ F
   pub outs : d.outs ≡ names
   pub from : d.from ≡ begun.from
-  pub arrives : (b : Val) → LeadsBy factors a links b → d.to ≡ spine factors (a ≐ b)
-  pub steps : (n : ℕ) → HasCount links n → length d.steps ≤ length begun.steps + n
-  pub within : (nodes depth : ℕ) → AreGiven links → SidesWithin nodes depth factors (with_place a) → IsBounded nodes depth begun → IsBounded nodes depth d
+  pub arrives : (to : U) → HopsLead factors last hops to → d.to ≡ spine factors to
+  pub steps : length d.steps ≡ length begun.steps + length hops
+  pub within : (nodes depth : ℕ) → StayWithin nodes depth factors last hops → IsBounded nodes depth begun → IsBounded nodes depth d
 
 -- the product leans to the right, and behind its factors the equality is gained
-pub record IsGainedIn (facts : Facts) (outs : ℕ) (product : U) (factors : List U) (a : Val) (links : List Link) (d : Derivation) : Type 0 where
+pub record IsGainedIn (facts : Facts) (outs : ℕ) (product : U) (factors : List U) (a : Val) (hops : List Hop) (d : Derivation) : Type 0 where
   pub spread : Derivation
   pub first : IsRegrouped facts outs product (spine factors I) spread
-  pub gained : IsGained factors a links spread d
+  pub gained : IsGained factors a hops spread d
 
 -- the factors before the equality are the product again
 pub record IsRegathered (F : Facts) (names : ℕ) (factors : List U) (product : U) (a b : Val) (gained d : Derivation) : Type 0 where
@@ -96,12 +90,12 @@ pub record IsRegathered (F : Facts) (names : ℕ) (factors : List U) (product : 
   pub steps : d.steps ≡ gained.steps ++ gathered.steps
   pub bounds : IsJoined gained gathered d
 
--- by these links
-pub record IsGainedBy (facts : Facts) (outs : ℕ) (factors : List U) (first last : U) (a b : Val) (links : List Link) (more : ℕ) (d : Derivation) : Type 0 where
+-- by these hops
+pub record IsGainedBy (facts : Facts) (outs : ℕ) (factors : List U) (first last : U) (a b : Val) (hops : List Hop) (more : ℕ) (d : Derivation) : Type 0 where
   pub leads : LeadsBetween facts outs first last d
-  pub steps : (n : ℕ) → HasCount links n → length d.steps ≤ n + more
-  pub nodes : AreGiven links → d.nodes ≤ 2 * (size.nodes first + size.nodes (a ≐ b))
-  pub depth : AreGiven links → d.depth ≤ length factors + max (size.depth first) (size.depth (a ≐ b)) + 1
+  pub steps : length d.steps ≤ length hops + more
+  pub nodes : AreAt right_side hops → d.nodes ≤ 2 * (size.nodes first + size.nodes (a ≐ b))
+  pub depth : AreAt right_side hops → d.depth ≤ length factors + max (size.depth first) (size.depth (a ≐ b)) + 1
 
 -- ---- how many steps, and how large
 -- One step for each link of a chain, those of the arguments of calls too, and a few more.
@@ -124,14 +118,9 @@ pub record Derives (facts : Facts) (outs : ℕ) (product : U) (a b : Val) (d : D
   pub links : HasStepsOf product a b 3 d
   pub short : IsShort product (mul_leaves product) product a b 3 d
 
--- it is entailed, and a call stands in the product
-abbrev pub IsThroughCalls : U → Val → Val → Type 0
-IsThroughCalls product a b = Entails product a b × (HasNoCall (standing product) → ⊥)
-
-abbrev pub IsDerived : Facts → ℕ → U → Val → Val → Entailed → Type 0
-IsDerived facts outs product a b Nothing = Entails product a b → ⊥
-IsDerived facts outs product a b (Found d) = Derives facts outs product a b d
-IsDerived facts outs product a b Calls = IsThroughCalls product a b
+abbrev pub IsDerived : Facts → ℕ → U → Val → Val → Option Derivation → Type 0
+IsDerived facts outs product a b None = Entails product a b → ⊥
+IsDerived facts outs product a b (Some d) = Derives facts outs product a b d
 
 -- ---- the equality behind the factors
 -- the factors of the product are the first ones
@@ -145,7 +134,6 @@ pub record Appends (facts : Facts) (outs : ℕ) (product : U) (factors : List U)
   pub links : HasStepsOf product a b 2 d
   pub short : IsShort product factors (product_of factors) a b 2 d
 
-abbrev pub IsAppended : Facts → ℕ → U → List U → Val → Val → Entailed → Type 0
-IsAppended facts outs product factors a b Nothing = Entails product a b → ⊥
-IsAppended facts outs product factors a b (Found d) = Appends facts outs product factors a b d
-IsAppended facts outs product factors a b Calls = IsThroughCalls product a b
+abbrev pub IsAppended : Facts → ℕ → U → List U → Val → Val → Option Derivation → Type 0
+IsAppended facts outs product factors a b None = Entails product a b → ⊥
+IsAppended facts outs product factors a b (Some d) = Appends facts outs product factors a b d

@@ -1,4 +1,10 @@
 pub mod Spines
+pub mod Sides
+pub mod Spots
+pub mod Hops
 pub mod Following
 pub mod Gaining
+pub mod Appending
+pub mod Carrying
+pub mod Copies
 pub mod Marks

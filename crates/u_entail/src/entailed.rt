@@ -6,28 +6,23 @@ ghost use Rattle.u_rules.specs.Terms.{◌⊗◌, ◌≐◌, mul_leaves, terms};
 ghost use Rattle.u_moves.specs.Derivations.{IsKnown};
 ghost use Rattle.u_moves.specs.Moving.{IsKnownValue};
 ghost use Rattle.u_equal.specs.Links.{IsChain};
-ghost use Rattle.u_entail.specs.Following.{AreFactors, AreGiven, Lead, LeadsBy};
+ghost use Rattle.u_entail.specs.Appending.{AppendsAlong, IsAppendedBy};
+ghost use Rattle.u_entail.specs.Sides.{AreFactors, LeadsBy};
+ghost use Rattle.u_entail.specs.Hops.{HopsLead, Lead};
 ghost use Rattle.u_entail.specs.Gaining.{Begins, IsAppended, IsDerived, IsGainedBy, IsGainedIn, IsRegathered, LeadsBetween};
 ghost use Rattle.u_entail.specs.Spines as spec;
 
 use crate::NoMemory;
-use crate::following::{Front, are_given};
+use crate::following::Front;
+use crate::hops::{Hop, hops_at};
 use std::alloc::Global;
-use u_equal::{Classes, Link};
+use u_equal::{Classes, Link, Route};
 use u_moves::{Deriv, Moves};
 use u_rules::leaves;
 use u_terms::{Facts, U, Val};
 
-/// Whether the equality of two values is entailed, and how it is gained.
-#[derive(Drop)]
-pub enum Entailed<'f> {
-    /// It is, and this derivation gains it.
-    Found { deriv: Deriv<'f> },
-    /// It is not.
-    Nothing,
-    /// It is, by a chain that leads from call to call, which is not followed. Where no call stands in the product this does not come.
-    Calls,
-}
+/// Where the right side of an equality stands.
+const RIGHT_SIDE: [usize; 1] = [1];
 
 /// From a product to the product times the equality of two values, where its equalities entail that they are equal.
 pub fn derive<'f>(
@@ -37,7 +32,7 @@ pub fn derive<'f>(
     product: &U,
     a: &Val,
     b: &Val,
-) -> Result<Entailed<'f>, NoMemory>
+) -> Result<Option<Deriv<'f>>, NoMemory>
     requires few { length (mul_leaves product.now) < 2 ^ 32 }
     requires product { IsKnown 0 outs product.now }
     requires a { IsKnownValue outs a.now }
@@ -47,7 +42,7 @@ pub fn derive<'f>(
     let moves = Moves { alloc, facts, outs };
     let classes = Classes::of(alloc, product)?;
     match classes.chain(alloc, a, b)? {
-        None => Ok(Entailed::Nothing),
+        None => Ok(None),
         Some(links) => derive_by(moves, product, a, b, links.as_slice()),
     }
 }
@@ -58,7 +53,7 @@ fn derive_by<'f>(
     a: &Val,
     b: &Val,
     links: &[Link],
-) -> Result<Entailed<'f>, NoMemory>
+) -> Result<Option<Deriv<'f>>, NoMemory>
     requires few { length (mul_leaves product.now) < 2 ^ 32 }
     requires product { IsKnown 0 moves.outs product.now }
     requires a { IsKnownValue moves.outs a.now }
@@ -66,16 +61,14 @@ fn derive_by<'f>(
     requires chain { IsChain product.now a.now b.now (Some links.now) }
     ensures { IfOk result (IsDerived moves.entry.facts.now moves.entry.outs product.now a.now b.now) }
 {
-    if !are_given(links) {
-        return Ok(Entailed::Calls);
-    }
+    let hops = hops_at(moves.alloc, links, &RIGHT_SIDE)?;
     let factors = leaves(moves.alloc, product, true)?;
     let front = Front {
         moves,
         factors: factors.as_slice(),
     };
-    let deriv = front.derived(product, a, b, links)?;
-    Ok(Entailed::Found { deriv })
+    let deriv = front.derived(product, a, b, hops.as_slice())?;
+    Ok(Some(deriv))
 }
 
 /// From the product of the factors to that with the equality of two values behind them, where the first factors, which are those of the
@@ -86,7 +79,7 @@ pub fn append<'f>(
     factors: &[&U],
     a: &Val,
     b: &Val,
-) -> Result<Entailed<'f>, NoMemory>
+) -> Result<Option<Deriv<'f>>, NoMemory>
     requires factors { AreFactors moves.outs (terms factors.now) }
     requires begins { Begins classes.now (terms factors.now) }
     requires shallow { moves.outs + depth_of (product_of (terms factors.now)) < 2 ^ 32 }
@@ -94,7 +87,7 @@ pub fn append<'f>(
     ensures { IfOk result (IsAppended moves.entry.facts.now moves.entry.outs classes.now (terms factors.now) a.now b.now) }
 {
     match classes.chain(moves.alloc, a, b)? {
-        None => Ok(Entailed::Nothing),
+        None => Ok(None),
         Some(links) => append_by(moves, classes, factors, a, b, links.as_slice()),
     }
 }
@@ -106,7 +99,7 @@ fn append_by<'f>(
     a: &Val,
     b: &Val,
     links: &[Link],
-) -> Result<Entailed<'f>, NoMemory>
+) -> Result<Option<Deriv<'f>>, NoMemory>
     requires factors { AreFactors moves.outs (terms factors.now) }
     requires begins { Begins classes.now (terms factors.now) }
     requires shallow { moves.outs + depth_of (product_of (terms factors.now)) < 2 ^ 32 }
@@ -114,42 +107,70 @@ fn append_by<'f>(
     requires chain { IsChain classes.now a.now b.now (Some links.now) }
     ensures { IfOk result (IsAppended moves.entry.facts.now moves.entry.outs classes.now (terms factors.now) a.now b.now) }
 {
-    if !are_given(links) {
-        return Ok(Entailed::Calls);
-    }
     let front = Front { moves, factors };
-    let first = front.widened()?;
-    let deriv = front.gained(first, a, links)?;
-    Ok(Entailed::Found { deriv })
+    let deriv = front.appended(a, links)?;
+    Ok(Some(deriv))
+}
+
+/// The same along a chain that was counted: whoever does not want one of so many links does not call this.
+pub fn append_along<'f>(
+    moves: Moves<'f>,
+    route: &Route<'_, '_>,
+    factors: &[&U],
+    a: &Val,
+    b: &Val,
+) -> Result<Deriv<'f>, NoMemory>
+    requires factors { AreFactors moves.outs (terms factors.now) }
+    requires begins { Begins route.now.product (terms factors.now) }
+    requires shallow { moves.outs + depth_of (product_of (terms factors.now)) < 2 ^ 32 }
+    requires a { IsKnownValue moves.outs a.now }
+    requires from { route.now.from ≡ a.now }
+    requires to { route.now.to ≡ b.now }
+    ensures { IfOk result (AppendsAlong moves.entry.facts.now moves.entry.outs route.now (terms factors.now) a.now b.now) }
+{
+    let links = route.chain(moves.alloc)?;
+    let front = Front { moves, factors };
+    front.appended(a, links.as_slice())
 }
 
 impl<'f, 'p, 'a> Front<'f, 'p, 'a> {
+    // From the product of the factors to that with the equality behind them that the links lead to.
+    fn appended(&self, a: &Val, links: &[Link]) -> Result<Deriv<'f>, NoMemory>
+        requires factors { AreFactors self.now.moves.outs (terms self.now.factors.now) }
+        requires shallow { self.now.moves.outs + depth_of (product_of (terms self.now.factors.now)) < 2 ^ 32 }
+        requires a { IsKnownValue self.now.moves.outs a.now }
+        requires leads { (b : Val) × LeadsBy (terms self.now.factors.now) a.now links.now b }
+        ensures { IfOk result (IsAppendedBy self.now.moves.facts.now self.now.moves.outs (terms self.now.factors.now) a.now links.now) }
+    {
+        let hops = hops_at(self.moves.alloc, links, &RIGHT_SIDE)?;
+        let first = self.widened()?;
+        self.gained(first, a, hops.as_slice())
+    }
+
     // From the product, which has these factors, to the product times the equality.
-    fn derived(&self, product: &U, a: &Val, b: &Val, links: &[Link]) -> Result<Deriv<'f>, NoMemory>
+    fn derived(&self, product: &U, a: &Val, b: &Val, hops: &[Hop]) -> Result<Deriv<'f>, NoMemory>
         requires factors { AreFactors self.now.moves.outs (terms self.now.factors.now) }
         requires leaves { terms self.now.factors.now ≡ mul_leaves product.now }
         requires product { IsKnown 0 self.now.moves.outs product.now }
         requires a { IsKnownValue self.now.moves.outs a.now }
         requires b { IsKnownValue self.now.moves.outs b.now }
-        requires leads { LeadsBy (terms self.now.factors.now) a.now links.now b.now }
-        requires given { AreGiven links.now }
-        ensures { IfOk result (IsGainedBy self.now.moves.facts.now self.now.moves.outs (terms self.now.factors.now) product.now (product.now ⊗ (a.now ≐ b.now)) a.now b.now links.now 3) }
+        requires lead { HopsLead (terms self.now.factors.now) (a.now ≐ a.now) hops.now (a.now ≐ b.now) }
+        ensures { IfOk result (IsGainedBy self.now.moves.facts.now self.now.moves.outs (terms self.now.factors.now) product.now (product.now ⊗ (a.now ≐ b.now)) a.now b.now hops.now 3) }
     {
-        let gained = self.gained_in(product, a, links)?;
+        let gained = self.gained_in(product, a, hops)?;
         self.regathered(gained, product, a, b)
     }
 
-    fn gained_in(&self, product: &U, a: &Val, links: &[Link]) -> Result<Deriv<'f>, NoMemory>
+    fn gained_in(&self, product: &U, a: &Val, hops: &[Hop]) -> Result<Deriv<'f>, NoMemory>
         requires factors { AreFactors self.now.moves.outs (terms self.now.factors.now) }
         requires leaves { terms self.now.factors.now ≡ mul_leaves product.now }
         requires product { IsKnown 0 self.now.moves.outs product.now }
         requires a { IsKnownValue self.now.moves.outs a.now }
-        requires lead { Lead (terms self.now.factors.now) a.now links.now }
-        requires given { AreGiven links.now }
-        ensures { IfOk result (IsGainedIn self.now.moves.facts.now self.now.moves.outs product.now (terms self.now.factors.now) a.now links.now) }
+        requires lead { Lead (terms self.now.factors.now) (a.now ≐ a.now) hops.now }
+        ensures { IfOk result (IsGainedIn self.now.moves.facts.now self.now.moves.outs product.now (terms self.now.factors.now) a.now hops.now) }
     {
         let spread = self.spread(product)?;
-        self.gained(spread, a, links)
+        self.gained(spread, a, hops)
     }
 
     // The factors before the equality become the product again.

@@ -1,13 +1,15 @@
-//! Chains of links, followed in the last factor of a product: one step by each equality.
-ghost use Rattle.std.specs.Prelude.{◌≡◌, ◌↔◌, ◌∷◌, [], IfOk, IsTrue, Some, slice_get};
-ghost use Rattle.u_rules.specs.Terms.{◌≐◌, terms};
+//! Hops followed in the last factor of a product: one step by each equality.
+ghost use Rattle.std.specs.Prelude.{◌≡◌, ◌∷◌, [], IfOk, Some, slice_get};
+ghost use Rattle.u_rules.specs.Terms.{◌≐◌, put, terms};
 ghost use Rattle.u_moves.specs.Derivations.{IsKnown};
-ghost use Rattle.u_equal.specs.declared.link.Link.TheVariants as link;
-ghost use Rattle.u_entail.specs.Following.{AreFactors, AreGiven, Exchanges, HasSide, IsExchange, IsFollowed, IsGivenLink, IsSide, Lead, Stands};
+ghost use Rattle.u_entail.specs.Sides.{AreFactors, HasSide, IsSide};
+ghost use Rattle.u_entail.specs.Hops.{HopLeads, Lead};
+ghost use Rattle.u_entail.specs.Following.{Crosses, Exchanges, IsExchange, IsFollowed, LandsAt, Stands};
 
 use crate::NoMemory;
+use crate::hops::Hop;
+use crate::place::put_at;
 use crate::spine::{spine, then_behind};
-use u_equal::Link;
 use u_moves::{Deriv, Moves};
 use u_terms::{Boxed, U, Val};
 
@@ -18,76 +20,69 @@ pub struct Front<'f, 'p, 'a> {
     pub factors: &'p [&'a U],
 }
 
-/// How far a chain has been followed: the steps so far, and the value that stands at the place now.
+/// How far hops have been followed: the steps so far, and the last factor as it is now.
 #[derive(Drop)]
 pub struct Followed<'f> {
     pub deriv: Deriv<'f>,
-    pub value: Boxed<Val>,
+    pub last: Boxed<U>,
 }
 
 impl<'f, 'p, 'a> Front<'f, 'p, 'a> {
-    /// Follows the links from the value that stands at the body's place.
-    pub fn follow(
-        &self,
-        at: Followed<'f>,
-        body: &U,
-        links: &[Link],
-    ) -> Result<Followed<'f>, NoMemory>
+    /// Follows the hops.
+    pub fn follow(&self, at: Followed<'f>, hops: &[Hop]) -> Result<Followed<'f>, NoMemory>
         requires factors { AreFactors self.now.moves.outs (terms self.now.factors.now) }
-        requires body { IsKnown 1 self.now.moves.outs body.now }
-        requires stands { Stands self.now.moves.facts.now self.now.moves.outs (terms self.now.factors.now) body.now at }
-        requires lead { Lead (terms self.now.factors.now) at.value links.now }
-        requires given { AreGiven links.now }
-        ensures stands { IfOk result (Stands self.now.moves.facts.now self.now.moves.outs (terms self.now.factors.now) body.now) }
-        ensures followed { IfOk result (IsFollowed (terms self.now.factors.now) body.now links.now at.entry) }
+        requires stands { Stands self.now.moves.facts.now self.now.moves.outs (terms self.now.factors.now) at }
+        requires lead { Lead (terms self.now.factors.now) at.last hops.now }
+        ensures stands { IfOk result (Stands self.now.moves.facts.now self.now.moves.outs (terms self.now.factors.now)) }
+        ensures followed { IfOk result (IsFollowed (terms self.now.factors.now) hops.now at.entry) }
     {
         let mut at = at;
-        for link in links {
-            at = self.along(at, body, link)?;
+        for hop in hops {
+            at = self.along(at, hop)?;
         }
         Ok(at)
     }
 
-    fn along(&self, at: Followed<'f>, body: &U, link: &Link) -> Result<Followed<'f>, NoMemory>
+    fn along(&self, at: Followed<'f>, hop: &Hop) -> Result<Followed<'f>, NoMemory>
         requires factors { AreFactors self.now.moves.outs (terms self.now.factors.now) }
-        requires body { IsKnown 1 self.now.moves.outs body.now }
-        requires stands { Stands self.now.moves.facts.now self.now.moves.outs (terms self.now.factors.now) body.now at }
-        requires lead { Lead (terms self.now.factors.now) at.value (link.now ∷ []) }
-        requires given { IsGivenLink link.now }
-        ensures stands { IfOk result (Stands self.now.moves.facts.now self.now.moves.outs (terms self.now.factors.now) body.now) }
-        ensures followed { IfOk result (IsFollowed (terms self.now.factors.now) body.now (link.now ∷ []) at.entry) }
+        requires stands { Stands self.now.moves.facts.now self.now.moves.outs (terms self.now.factors.now) at }
+        requires leads { (last : U) × HopLeads (terms self.now.factors.now) at.last hop.now last }
+        ensures stands { IfOk result (Stands self.now.moves.facts.now self.now.moves.outs (terms self.now.factors.now)) }
+        ensures followed { IfOk result (IsFollowed (terms self.now.factors.now) (hop.now ∷ []) at.entry) }
     {
-        match link {
-            Link::Given { factor, turned } => self.along_given(at, body, *factor, *turned),
-            Link::Call { .. } => unreachable!(),
-        }
+        let Followed { deriv, last } = at;
+        let part = self.crossed(last.get(), hop)?;
+        let front = &self.factors[..hop.factor as usize];
+        let deriv = then_behind(self.moves.alloc, deriv, front, part)?;
+        let last = self.landed(last.get(), hop)?;
+        Ok(Followed { deriv, last })
     }
 
-    // From the one side of an equality among the factors to its other side.
-    fn along_given(
-        &self,
-        at: Followed<'f>,
-        body: &U,
-        factor: u32,
-        turned: bool,
-    ) -> Result<Followed<'f>, NoMemory>
+    // The step of the hop, in what stands behind the factors before its equality.
+    fn crossed(&self, last: &U, hop: &Hop) -> Result<Deriv<'f>, NoMemory>
         requires factors { AreFactors self.now.moves.outs (terms self.now.factors.now) }
-        requires body { IsKnown 1 self.now.moves.outs body.now }
-        requires stands { Stands self.now.moves.facts.now self.now.moves.outs (terms self.now.factors.now) body.now at }
-        requires side { HasSide (terms self.now.factors.now) factor turned at.value }
-        ensures stands { IfOk result (Stands self.now.moves.facts.now self.now.moves.outs (terms self.now.factors.now) body.now) }
-        ensures followed { IfOk result (IsFollowed (terms self.now.factors.now) body.now (link.Given factor turned ∷ []) at.entry) }
+        requires known { IsKnown 0 self.now.moves.outs last.now }
+        requires leads { (to : U) × HopLeads (terms self.now.factors.now) last.now hop.now to }
+        ensures { IfOk result (Crosses self.now.moves.facts.now self.now.moves.outs (terms self.now.factors.now) last.now hop.now) }
     {
-        let Followed { deriv, value: _ } = at;
-        let factor = factor as usize;
-        let part = self.exchanged(body, factor, turned)?;
-        let deriv = then_behind(self.moves.alloc, deriv, &self.factors[..factor], part)?;
-        let value = self.other_side(factor, turned).copy(self.moves.alloc)?;
-        let value = Boxed::new(self.moves.alloc, value)?;
-        Ok(Followed { deriv, value })
+        let alloc = self.moves.alloc;
+        let body = put_at(alloc, last, hop.place.as_slice(), &Val::Bound(0))?;
+        let body = Boxed::new(alloc, body)?;
+        self.exchanged(body.get(), hop.factor as usize, hop.turned)
     }
 
-    // The side of an equality that a link leads to.
+    // The last factor that the hop leads to.
+    fn landed(&self, last: &U, hop: &Hop) -> Result<Boxed<U>, NoMemory>
+        requires { (to : U) × HopLeads (terms self.now.factors.now) last.now hop.now to }
+        ensures { IfOk result (LandsAt (terms self.now.factors.now) last.now hop.now) }
+    {
+        let alloc = self.moves.alloc;
+        let side = self.other_side(hop.factor as usize, hop.turned);
+        let landed = put_at(alloc, last, hop.place.as_slice(), side)?;
+        Boxed::new(alloc, landed)
+    }
+
+    // The side of an equality that a hop leads to.
     fn other_side(&self, factor: usize, turned: bool) -> &Val
         requires { (a : Val) × HasSide (terms self.now.factors.now) factor turned a }
         ensures { (a b : Val) → IsSide (terms self.now.factors.now) factor turned a b → result.now ≡ b }
@@ -130,31 +125,10 @@ impl<'f, 'p, 'a> Front<'f, 'p, 'a> {
         requires factors { AreFactors self.now.moves.outs (terms self.now.factors.now) }
         requires body { IsKnown 1 self.now.moves.outs body.now }
         requires is { slice_get (terms self.now.factors.now) factor ≡ Some (a.now ≐ b.now) }
-        ensures { IfOk result (IsExchange self.now.moves.facts.now self.now.moves.outs (terms self.now.factors.now) factor body.now a.now b.now) }
+        ensures { IfOk result (IsExchange self.now.moves.facts.now self.now.moves.outs (terms self.now.factors.now) factor (put a.now body.now) (put b.now body.now)) }
     {
         let alloc = self.moves.alloc;
         let rest = spine(alloc, &self.factors[factor + 1..], body.copy(alloc)?)?;
         self.moves.eq_subst(a.copy(alloc)?, b.copy(alloc)?, rest)
-    }
-}
-
-/// Whether no link leads from call to call.
-pub fn are_given(links: &[Link]) -> bool
-    ensures { IsTrue result ↔ AreGiven links.now }
-{
-    for link in links {
-        if !is_given(link) {
-            return false;
-        }
-    }
-    true
-}
-
-fn is_given(link: &Link) -> bool
-    ensures { IsTrue result ↔ IsGivenLink link.now }
-{
-    match link {
-        Link::Given { .. } => true,
-        Link::Call { .. } => false,
     }
 }

@@ -5,7 +5,7 @@ ghost use Rattle.u_terms.specs.Size.{depth as depth_of};
 ghost use Rattle.u_rules.specs.Terms.{◌⊗◌, ◌≐◌, I, mul_leaves, terms};
 ghost use Rattle.u_moves.specs.Derivations.{IsKnown, IsStill};
 ghost use Rattle.u_moves.specs.Moving.{IsKnownValue};
-ghost use Rattle.u_entail.specs.Following.{AreFactors};
+ghost use Rattle.u_entail.specs.Sides.{AreFactors};
 ghost use Rattle.u_entail.specs.Gaining.{IsRegrouped, IsWidened};
 ghost use Rattle.u_entail.specs.Spines as spec;
 
@@ -104,7 +104,8 @@ impl<'f, 'p, 'a> Front<'f, 'p, 'a> {
     }
 }
 
-fn equality(alloc: Global, a: &Val, b: &Val) -> Result<U, NoMemory>
+/// The equality of both.
+pub fn equality(alloc: Global, a: &Val, b: &Val) -> Result<U, NoMemory>
     ensures { IfOk result (λ u. u ≡ (a.now ≐ b.now)) }
 {
     Ok(U::Eq(a.copy(alloc)?, b.copy(alloc)?))

@@ -3,7 +3,7 @@ ghost use Rattle.std.specs.Prelude.{◌≡◌, IfOk, Some, slice_get};
 ghost use Rattle.u_terms.specs.Products.{product_of};
 ghost use Rattle.u_rules.specs.Terms.{◌⊗◌, sq, terms};
 ghost use Rattle.u_moves.specs.Derivations.{IsKnown};
-ghost use Rattle.u_entail.specs.Following.{AreFactors};
+ghost use Rattle.u_entail.specs.Sides.{AreFactors};
 ghost use Rattle.u_entail.specs.Gaining.{IsRegrouped};
 ghost use Rattle.u_entail.specs.Marks.{HasMark, IsAgain, IsDoubled, IsDoubledBehind, IsMark, IsParted, StandsAgain, without};
 ghost use Rattle.u_entail.specs.Spines as spec;
@@ -29,7 +29,8 @@ pub fn repeat_mark<'f>(
 }
 
 impl<'f, 'p, 'a> Front<'f, 'p, 'a> {
-    fn again(&self, place: usize) -> Result<Deriv<'f>, NoMemory>
+    /// The factor at the place behind the factors once more.
+    pub fn again(&self, place: usize) -> Result<Deriv<'f>, NoMemory>
         requires factors { AreFactors self.now.moves.outs (terms self.now.factors.now) }
         requires mark { HasMark (terms self.now.factors.now) place }
         ensures { IfOk result (StandsAgain self.now.moves.facts.now self.now.moves.outs (terms self.now.factors.now) place) }

@@ -1,43 +1,40 @@
 use Rattle.std.proofs.Common.{◌≡◌, ◌+◌, List, ◌∷◌, drop, sym, subst, arith}
 use Rattle.std.proofs.lemmas.List.{drop_all}
 use Rattle.u_rules.specs.Terms.{terms}
-use Rattle.u_equal.specs.declared.link.Link.{Link}
-use Rattle.u_entail.specs.Following.{AreGiven, IsFollowed, Lead}
-use Rattle.u_entail.proofs.Parts.{drop-item}
+use Rattle.u_entail.specs.declared.hops.Hop.{Hop}
+use Rattle.u_entail.specs.Hops.{Lead}
+use Rattle.u_entail.specs.Following.{IsFollowed}
+use Rattle.u_entail.proofs.Lists.{drop-item}
 use Rattle.u_entail.proofs.Followed.{lead-first, lead-rest, followed-none, followed-more}
 use Rattle.u_entail.proofs.following.Front.follow.Goals as goal
 
-pub along-requires-clause-lead : goal.along-requires-clause-lead
-along-requires-clause-lead c =
+pub along-requires-clause-leads : goal.along-requires-clause-leads
+along-requires-clause-leads c =
     let factors = terms c.args.self.now.factors.now in
-    let at = c.loop-link.at in
-    let next : drop c.loop-link.link-index c.args.links.now ≡ c.link-item.result ∷ drop (c.loop-link.link-index + 1) c.args.links.now =
-    drop-item c.args.links.now c.loop-link.link-index c.link-item.result (omega arith) c.link-item.is in
-    lead-first factors at.value c.link-item.result (drop (c.loop-link.link-index + 1) c.args.links.now) (subst (λ (ls : List Link). Lead factors at.value ls) next c.loop-link.invariant.lead)
+    let hop = c.hop-item.result in
+    let left : List Hop = drop (c.loop-hop.hop-index + 1) c.args.hops.now in
+    let next : drop c.loop-hop.hop-index c.args.hops.now ≡ hop ∷ left = drop-item c.args.hops.now c.loop-hop.hop-index hop (omega arith) c.hop-item.is in
+    lead-first factors c.loop-hop.at.last hop left (subst (λ (hs : List Hop). Lead factors c.loop-hop.at.last hs) next c.loop-hop.invariant.lead)
 
-pub loop-link-preserved : goal.loop-link-preserved
-loop-link-preserved c =
+pub loop-hop-preserved : goal.loop-hop-preserved
+loop-hop-preserved c =
     let factors = terms c.args.self.now.factors.now in
-    let body = c.args.body.now in
-    let at = c.loop-link.at in
+    let at = c.loop-hop.at in
     let mid = c.in_ok-at.at in
-    let link = c.link-item.result in
-    let left : List Link = drop (c.loop-link.link-index + 1) c.args.links.now in
-    let next : drop c.loop-link.link-index c.args.links.now ≡ link ∷ left = drop-item c.args.links.now c.loop-link.link-index link (omega arith) c.link-item.is in
-    let both = subst (λ (ls : List Link). AreGiven ls) next c.loop-link.invariant.given in
+    let hop = c.hop-item.result in
+    let left : List Hop = drop (c.loop-hop.hop-index + 1) c.args.hops.now in
+    let next : drop c.loop-hop.hop-index c.args.hops.now ≡ hop ∷ left = drop-item c.args.hops.now c.loop-hop.hop-index hop (omega arith) c.hop-item.is in
+    let lead = subst (λ (hs : List Hop). Lead factors at.last hs) next c.loop-hop.invariant.lead in
     record {
       stands = c.in_ok-at.ensures.stands;
-      lead = lead-rest factors body link left at mid c.in_ok-at.ensures.followed (subst (λ (ls : List Link). Lead factors at.value ls) next c.loop-link.invariant.lead);
-      given = both.1;
+      lead = lead-rest factors hop left at mid c.in_ok-at.ensures.followed lead;
       rest = λ end f.
-          c.loop-link.invariant.rest end
-          (subst (λ (ls : List Link). IsFollowed factors body ls at end) (sym next) (followed-more factors body link left at mid end c.in_ok-at.ensures.followed f));
+          c.loop-hop.invariant.rest end
+          (subst (λ (hs : List Hop). IsFollowed factors hs at end) (sym next) (followed-more factors hop left at mid end (lead-first factors at.last hop left lead) c.in_ok-at.ensures.followed f));
     }
 
 pub returns-clause-followed : goal.returns-clause-followed
 returns-clause-followed c =
     let factors = terms c.args.self.now.factors.now in
-    let body = c.args.body.now in
-    let at = c.loop-link.at in
-    c.loop-link.invariant.rest at
-    (subst (λ (ls : List Link). IsFollowed factors body ls at at) (sym (drop_all c.loop-link.link-index c.args.links.now (omega arith))) (followed-none factors body at))
+    let at = c.loop-hop.at in
+    c.loop-hop.invariant.rest at (subst (λ (hs : List Hop). IsFollowed factors hs at at) (sym (drop_all c.loop-hop.hop-index c.args.hops.now (omega arith))) (followed-none factors at))

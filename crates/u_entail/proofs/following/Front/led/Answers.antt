@@ -1,5 +1,13 @@
-use Rattle.std.proofs.Common.{◌∙◌}
+use Rattle.u_rules.specs.Terms.{terms}
+use Rattle.u_entail.proofs.Gained.{start-stands, last-led}
 use Rattle.u_entail.proofs.following.Front.led.Goals as goal
 
-pub led_in-requires-clause-body : goal.led_in-requires-clause-body
-led_in-requires-clause-body c = c.get.ensures ∙ c.in_ok-body.ensures {u = tt}
+pub follow-requires-clause-stands : goal.follow-requires-clause-stands
+follow-requires-clause-stands c =
+    let m = c.args.self.now.moves in
+    start-stands m.facts.now m.outs (terms c.args.self.now.factors.now) c.args.last c.args.begun c.requires.begun c.requires.known
+
+pub returns : goal.returns
+returns c =
+    let m = c.args.self.now.moves in
+    last-led m.facts.now m.outs (terms c.args.self.now.factors.now) c.args.last c.args.begun c.args.hops.now c.in_ok-end.end c.in_ok-end.ensures.stands c.in_ok-end.ensures.followed
