@@ -1,5 +1,5 @@
 //! The limits that a proof keeps, told of the derivation that it is to be the text of.
-ghost use Rattle.std.specs.Prelude.{◌≤◌, IsTrue};
+ghost use Rattle.std.specs.Prelude.{◌≡◌, ◌≤◌, ◌↔◌, [], IsTrue};
 ghost use Rattle.data_model.specs.Lists.{Each};
 ghost use Rattle.proof_check.specs.Limits.{IsWithin, SidesAreSmall, most_steps};
 ghost use Rattle.proof_text.specs.Limits.{most_depth, most_nodes};
@@ -23,7 +23,8 @@ const MOST_DEPTH: u64 = 2_048;
 
 /// Whether the derivation's proof keeps each limit but that on bytes. One with inner steps is not told to.
 pub fn keeps_limits(d: &Deriv<'_>) -> bool
-    ensures { IsTrue result → KeepsLimits d.now }
+    ensures kept { IsTrue result → KeepsLimits d.now }
+    ensures still { d.now.steps ≡ [] → IsWithin d.now.nodes d.now.depth → IsTrue result }
 {
     d.steps().len() <= MOST_STEPS
         && is_within(d.nodes(), d.depth())
@@ -32,7 +33,8 @@ pub fn keeps_limits(d: &Deriv<'_>) -> bool
 
 // Whether no step has inner steps, or an argument or a side that passes a limit.
 fn are_small(facts: &Facts, steps: &[Step]) -> bool
-    ensures { IsTrue result → Each (IsSmallStep facts.now) steps.now }
+    ensures small { IsTrue result → Each (IsSmallStep facts.now) steps.now }
+    ensures none { steps.now ≡ [] → IsTrue result }
 {
     for step in steps {
         if !is_small_step(facts, step) {
@@ -93,7 +95,7 @@ fn are_small_values(values: &[Val]) -> bool
 
 // Whether so many nodes and this depth keep the limits of a term.
 fn is_within(nodes: u64, depth: u64) -> bool
-    ensures { IsTrue result → IsWithin nodes depth }
+    ensures { IsTrue result ↔ IsWithin nodes depth }
 {
     nodes <= MOST_NODES && depth <= MOST_DEPTH
 }

@@ -1,17 +1,22 @@
 //! The search for a derivation.
 ghost use Rattle.std.specs.Prelude.{◌≡◌, IfOk, IfSome};
-ghost use Rattle.u_congruence.specs.Congruence.{IsFromTo};
+ghost use Rattle.u_congruence.specs.Congruence.{IsBy, IsFromTo};
 ghost use Rattle.u_moves.specs.Derivations.{IsKnown};
-ghost use Rattle.u_prover.specs.Proving.{IsOutcome};
+ghost use Rattle.u_prover.specs.Proving.{IsOutcome, IsWithinLimits};
+ghost use Rattle.u_simple.specs.Passes.{IsFrom};
 
 use crate::NoMemory;
 use crate::limits::keeps_limits;
 use crate::rearranging::rearranged;
-use std::alloc::Global;
-use u_congruence::Derived;
+use std::alloc::{AllocError, Global};
+use u_congruence::{Derived, joined};
 use u_moves::{Deriv, Moves};
-use u_normal::normal;
-use u_terms::{Boxed, Facts, U};
+use u_normal::{NormalFault, normal};
+use u_simple::{in_order, without_points};
+use u_terms::{Boxed, Facts, U, depth, same};
+
+/// Names and depth together are below this.
+const ROOM: u64 = 0x1_0000_0000;
 
 /// What a search comes to.
 #[derive(Drop)]
@@ -41,15 +46,30 @@ pub fn prove<'f>(
     ensures { IfOk result (IsOutcome facts.now outs left.now right.now) }
 {
     let moves = Moves { alloc, facts, outs };
+    if same(left, right) {
+        return no_step(moves, left);
+    }
     match derived(moves, left, right)? {
         Some(d) => Ok(within_limits(d.into_inner())),
         None => Ok(Outcome::Unknown { spent: false }),
     }
 }
 
+// The proof without a step. There is no memory for terms without room for names.
+fn no_step<'f>(moves: Moves<'f>, u: &U) -> Result<Outcome<'f>, NoMemory>
+    requires { IsKnown 0 moves.outs u.now }
+    ensures { IfOk result (IsOutcome moves.entry.facts.now moves.entry.outs u.now u.now) }
+{
+    if u64::from(moves.outs).saturating_add(depth(u)) >= ROOM {
+        return Err(AllocError);
+    }
+    let deriv = Deriv::refl(moves.alloc, moves.facts, moves.outs, u)?;
+    Ok(within_limits(deriv))
+}
+
 // The derivation is found where its proof keeps the limits.
 fn within_limits(deriv: Deriv<'_>) -> Outcome<'_>
-    ensures { IsOutcome deriv.entry.facts deriv.entry.outs deriv.entry.from deriv.entry.to result }
+    ensures { IsWithinLimits deriv.entry result }
 {
     if keeps_limits(&deriv) {
         Outcome::Found { deriv }
@@ -58,8 +78,7 @@ fn within_limits(deriv: Deriv<'_>) -> Outcome<'_>
     }
 }
 
-// From the left term to the right one: as they are, where they are the same but for the order of their parts, and else by way of their
-// normal forms.
+// From the left term to the right one: by one step, where they differ in one order alone, and else by way of simpler terms.
 fn derived<'f>(moves: Moves<'f>, left: &U, right: &U) -> Result<Option<Derived<'f>>, NoMemory>
     requires left { IsKnown 0 moves.outs left.now }
     requires right { IsKnown 0 moves.outs right.now }
@@ -67,12 +86,12 @@ fn derived<'f>(moves: Moves<'f>, left: &U, right: &U) -> Result<Option<Derived<'
 {
     match rearranged(moves, left, right)? {
         Some(turn) => Ok(Some(turn)),
-        None => by_normal_terms(moves, left, right),
+        None => by_simpler_terms(moves, left, right),
     }
 }
 
-// From the left term to the right one, where the normal forms of both are the same but for the order of their parts.
-fn by_normal_terms<'f>(
+// From the left term to the right one, where both lead to the same simpler term.
+fn by_simpler_terms<'f>(
     moves: Moves<'f>,
     left: &U,
     right: &U,
@@ -81,26 +100,58 @@ fn by_normal_terms<'f>(
     requires right { IsKnown 0 moves.outs right.now }
     ensures { IfOk result (λ found. IfSome found (IsFromTo moves.entry.facts.now moves.entry.outs left.now right.now)) }
 {
-    let down = normal(moves, left)?;
-    let up = normal(moves, right)?;
-    match rearranged(moves, down.get().to(), up.get().to())? {
-        Some(turn) => {
-            let first = joined(moves.alloc, down, turn)?;
-            Ok(Some(joined_back(moves.alloc, first, up)?))
-        }
-        None => Ok(None),
+    let Some(down) = simpler(moves, left)? else {
+        return Ok(None);
+    };
+    let Some(up) = simpler(moves, right)? else {
+        return Ok(None);
+    };
+    if same(down.get().to(), up.get().to()) {
+        Ok(Some(joined_back(moves.alloc, down, up)?))
+    } else {
+        Ok(None)
     }
 }
 
-// The first derivation, and then the other one.
-fn joined<'f>(alloc: Global, first: Derived<'f>, rest: Derived<'f>) -> Result<Derived<'f>, NoMemory>
-    requires joins { first.to ≡ rest.from }
-    requires facts { first.facts ≡ rest.facts }
-    requires outs { first.outs ≡ rest.outs }
-    ensures { IfOk result (IsFromTo first.entry.facts first.entry.outs first.entry.from rest.entry.to) }
+// From a term to its normal form, unless that is too large, and then to one without sums over single values and with its parts in order.
+fn simpler<'f>(moves: Moves<'f>, u: &U) -> Result<Option<Derived<'f>>, NoMemory>
+    requires { IsKnown 0 moves.outs u.now }
+    ensures { IfOk result (λ found. IfSome found (IsFrom moves.entry.facts.now moves.entry.outs u.now)) }
 {
-    let first = first.into_inner();
-    Boxed::new(alloc, first.then(alloc, rest.into_inner())?)
+    match normal(moves, u) {
+        Ok(normal) => Ok(Some(then_simpler(moves, normal)?)),
+        Err(NormalFault::TooLarge { nodes: _ }) => Ok(None),
+        Err(NormalFault::NoMemory) => Err(AllocError),
+    }
+}
+
+// The derivation, and then its last term without sums over single values and with its parts in order. They are put in order first, so that
+// which value a sum has does not depend on how its factors were written.
+fn then_simpler<'f>(moves: Moves<'f>, d: Derived<'f>) -> Result<Derived<'f>, NoMemory>
+    requires { IsBy moves.facts.now moves.outs d }
+    ensures { IfOk result (IsFrom moves.entry.facts.now moves.entry.outs d.entry.from) }
+{
+    let first = then_in_order(moves, d)?;
+    let fewer = then_without_points(moves, first)?;
+    then_in_order(moves, fewer)
+}
+
+// The derivation, and then its last term without sums over single values.
+fn then_without_points<'f>(moves: Moves<'f>, d: Derived<'f>) -> Result<Derived<'f>, NoMemory>
+    requires { IsBy moves.facts.now moves.outs d }
+    ensures { IfOk result (IsFrom moves.entry.facts.now moves.entry.outs d.entry.from) }
+{
+    let rest = without_points(moves, d.get().to())?;
+    joined(moves.alloc, d, rest)
+}
+
+// The derivation, and then its last term in order.
+fn then_in_order<'f>(moves: Moves<'f>, d: Derived<'f>) -> Result<Derived<'f>, NoMemory>
+    requires { IsBy moves.facts.now moves.outs d }
+    ensures { IfOk result (IsFrom moves.entry.facts.now moves.entry.outs d.entry.from) }
+{
+    let rest = in_order(moves, d.get().to())?;
+    joined(moves.alloc, d, rest)
 }
 
 // The first derivation, and then the other one backward.

@@ -1,13 +1,14 @@
 //! Terms that differ in the order of their parts alone.
-ghost use Rattle.std.specs.Prelude.{IfOk, IfSome, IsPermutation};
+ghost use Rattle.std.specs.Prelude.{IfOk, IfSome};
 ghost use Rattle.u_congruence.specs.Congruence.{IsFromTo};
 ghost use Rattle.u_moves.specs.Derivations.{IsKnown};
-ghost use Rattle.u_rules.specs.Terms.{S, add_leaves, mul_leaves, sq};
+ghost use Rattle.u_rules.specs.Terms.{S, sq};
 
 use crate::NoMemory;
 use u_congruence::{Derived, copied, inside, opened, squashed, still, summed};
 use u_moves::Moves;
 use u_rules::same_leaves;
+use u_simple::{products_rearranged, sums_rearranged};
 use u_terms::{Boxed, U, same};
 
 /// From the one term to the other, if they differ at most, inside the squashes and sums over all values that both begin with, in the
@@ -73,30 +74,4 @@ fn at_root<'f>(moves: Moves<'f>, left: &U, right: &U) -> Result<Option<Derived<'
     } else {
         Ok(None)
     }
-}
-
-// A sum becomes one of the same terms.
-fn sums_rearranged<'f>(moves: Moves<'f>, left: &U, right: &U) -> Result<Derived<'f>, NoMemory>
-    requires left { IsKnown 0 moves.outs left.now }
-    requires right { IsKnown 0 moves.outs right.now }
-    requires leaves { IsPermutation (add_leaves left.now) (add_leaves right.now) }
-    ensures { IfOk result (IsFromTo moves.entry.facts.now moves.entry.outs left.now right.now) }
-{
-    let x = left.copy(moves.alloc)?;
-    let y = right.copy(moves.alloc)?;
-    let step = moves.add_ac(x, y)?;
-    Boxed::new(moves.alloc, step)
-}
-
-// A product becomes one of the same factors.
-fn products_rearranged<'f>(moves: Moves<'f>, left: &U, right: &U) -> Result<Derived<'f>, NoMemory>
-    requires left { IsKnown 0 moves.outs left.now }
-    requires right { IsKnown 0 moves.outs right.now }
-    requires leaves { IsPermutation (mul_leaves left.now) (mul_leaves right.now) }
-    ensures { IfOk result (IsFromTo moves.entry.facts.now moves.entry.outs left.now right.now) }
-{
-    let x = left.copy(moves.alloc)?;
-    let y = right.copy(moves.alloc)?;
-    let step = moves.mul_ac(x, y)?;
-    Boxed::new(moves.alloc, step)
 }

@@ -1,0 +1,10 @@
+use Rattle.std.proofs.Common.{ap, sym, subst, ◌∙◌}
+use Rattle.u_terms.specs.Syntax.{U}
+use Rattle.u_moves.specs.Derivations.{Derivation, IsKnown, IsSound}
+use Rattle.u_normal.proofs.KnownParts.{to-known}
+use Rattle.u_simple.proofs.points.then_without_point.Goals as goal
+
+pub reduced-requires : goal.reduced-requires
+reduced-requires c =
+    subst (λ (u : U). IsKnown 0 c.args.moves.outs u) (sym (c.to.ensures.lent ∙ ap (λ (d : Derivation). d.to) c.get.ensures))
+    (to-known c.args.moves.facts.now c.args.moves.outs c.args.d c.requires (subst (λ (d : Derivation). IsSound d) c.get.ensures c.to.ensures.sound))

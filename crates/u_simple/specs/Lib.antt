@@ -1,0 +1,4 @@
+pub mod Order
+pub mod Passes
+pub mod Points
+pub mod Sums
