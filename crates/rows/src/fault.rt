@@ -1,28 +1,22 @@
 //! Why a text of rows is not read.
 
-use crate::template::MOST_BYTES;
+use row_text::TextFault;
 use std::alloc::{AllocError, AllocFailed};
 use thiserror::Error;
 
 /// Why a line of a text of rows is not read.
 #[derive(Debug, Drop, Error)]
 pub enum RowFault {
+    #[error("{0}")]
+    Text(TextFault),
     #[error("no field begins with this word")]
     NoSuchField,
     #[error("an indented line belongs to no field")]
     NoField,
-    #[error("these braces have no such form")]
-    BadBraces,
-    #[error("this number of a pass stands in no repetition")]
-    NoPass,
-    #[error("nothing is repeated")]
-    NothingRepeated,
-    #[error("a repetition is not closed")]
-    NotClosed,
-    #[error("a text is written in more than {MOST_BYTES} bytes")]
-    TooLong,
     #[error("a status is a number of at most 255")]
     BadStatus,
+    #[error("three numbers are wanted: bytes, the first call and the last one")]
+    BadCalls,
     #[error("the row before has no output")]
     NoOutput,
     #[error("want of memory")]
@@ -38,5 +32,11 @@ impl From<AllocError> for RowFault {
 impl<T: Drop> From<AllocFailed<T>> for RowFault {
     fn from(_: AllocFailed<T>) -> RowFault {
         RowFault::NoMemory
+    }
+}
+
+impl From<TextFault> for RowFault {
+    fn from(fault: TextFault) -> RowFault {
+        RowFault::Text(fault)
     }
 }

@@ -1,7 +1,7 @@
 //! A field with lines below it, as it is read.
 
 use crate::fault::RowFault;
-use crate::template::Template;
+use row_text::Template;
 use std::alloc::Global;
 
 /// What a field says.
@@ -35,7 +35,10 @@ impl Field {
         self.template.read(line)?;
         match self.kind {
             FieldKind::Text(_) => Ok(()),
-            FieldKind::Lines(_) | FieldKind::Output => self.template.push(b"\n"),
+            FieldKind::Lines(_) | FieldKind::Output => {
+                self.template.push(b"\n")?;
+                Ok(())
+            }
         }
     }
 }

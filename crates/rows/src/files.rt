@@ -1,10 +1,10 @@
 //! Runs the rows of a file, and writes a line of each that comes out otherwise.
 
-use crate::fault::RowFault;
-use crate::outcome::{Outcome, run_row};
+use crate::outcome::Outcome;
 use crate::row::{Row, RowReader};
-use crate::tally::Tally;
+use crate::runs::run_row;
 use anyhow::{Context, Result};
+use row_text::Tally;
 use std::rt::Files;
 use std::{fs, io};
 

@@ -6,12 +6,11 @@ mod field;
 mod files;
 mod outcome;
 mod row;
-mod tally;
-mod template;
+mod runs;
 
 use crate::files::report_file;
-use crate::tally::Tally;
 use anyhow::Result;
+use row_text::Tally;
 use std::env;
 use std::process::ExitCode;
 use std::rt::{Env, Files};

@@ -20,7 +20,41 @@ pub struct Row {
     /// The words of a second run, which has what the first one wrote as a text. There is none without words.
     pub then: Vec<String>,
     pub texts: Vec<Text>,
+    pub often: Often,
     pub expected: Outcome,
+}
+
+/// How often a row is run.
+#[derive(Drop)]
+pub enum Often {
+    Once,
+    /// Once for each front of the text of this name, of no byte first and of all at last.
+    Cuts(String),
+    /// Once for each of these calls of the store, which fails.
+    FailingStore(Calls),
+    /// The same of the sink.
+    FailingSink(Calls),
+}
+
+/// Calls of a store or a sink that gives or takes so many bytes at once.
+#[derive(Clone, Copy)]
+pub struct Calls {
+    pub piece: usize,
+    pub first: u64,
+    pub last: u64,
+}
+
+// The calls that three numbers say.
+fn failing(alloc: Global, text: &str) -> Result<Calls, RowFault> {
+    let words: Vec<&str> = text.split(' ').collect(alloc)?;
+    let [piece, first, last] = words.as_slice() else {
+        return Err(RowFault::BadCalls);
+    };
+    Ok(Calls {
+        piece: piece.parse().map_err(|_| RowFault::BadCalls)?,
+        first: first.parse().map_err(|_| RowFault::BadCalls)?,
+        last: last.parse().map_err(|_| RowFault::BadCalls)?,
+    })
 }
 
 impl Row {
@@ -38,7 +72,8 @@ fn words(alloc: Global, text: &str) -> Result<Vec<String>, AllocError> {
         .try_collect(alloc)
 }
 
-/// Reads rows line by line. What a row does not say stays as it was said before it, but for the output.
+/// Reads rows line by line. What a row does not say stays as it was said before it, but for the output and for how
+/// often it is run.
 #[derive(Drop)]
 pub struct RowReader {
     alloc: Global,
@@ -60,6 +95,7 @@ impl RowReader {
                 words: Vec::new(alloc),
                 then: Vec::new(alloc),
                 texts: Vec::new(alloc),
+                often: Often::Once,
                 expected: Outcome {
                     status: 0,
                     written: Vec::new(alloc),
@@ -103,6 +139,7 @@ impl RowReader {
         match word {
             "row" => {
                 self.row.name = String::from_str(self.alloc, rest)?;
+                self.row.often = Often::Once;
                 self.has_row = true;
                 self.has_output = false;
             }
@@ -122,6 +159,9 @@ impl RowReader {
                 let name = String::from_str(self.alloc, rest)?;
                 self.field = Some(Field::new(self.alloc, FieldKind::Lines(name)));
             }
+            "cuts" => self.row.often = Often::Cuts(String::from_str(self.alloc, rest)?),
+            "failing-store" => self.row.often = Often::FailingStore(failing(self.alloc, rest)?),
+            "failing-sink" => self.row.often = Often::FailingSink(failing(self.alloc, rest)?),
             "output" => return self.begin_output(rest),
             _ => return Err(RowFault::NoSuchField),
         }

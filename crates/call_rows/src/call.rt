@@ -1,0 +1,32 @@
+//! The calls by their names.
+
+use crate::alike::alike;
+use crate::entailed::{derived, entails, links};
+use crate::fault::CallFault;
+use crate::lines::line;
+use crate::moves::moved;
+use crate::normal::{normal_form, rests};
+use crate::places::{part, step};
+use crate::rules::{side_sizes, sides};
+use std::alloc::Global;
+use u_terms::Facts;
+
+/// What a call is answered, as text.
+pub fn answer(alloc: Global, facts: &Facts, call: &str) -> Result<String, CallFault> {
+    let (name, words) = call.split_once(' ').unwrap_or((call, ""));
+    match name {
+        "alike" => alike(alloc, words),
+        "derive" => derived(alloc, facts, words),
+        "entails" => entails(alloc, words),
+        "line" => line(alloc, words),
+        "links" => links(alloc, words),
+        "move" => moved(alloc, facts, words),
+        "normal" => normal_form(alloc, facts, words),
+        "part" => part(alloc, words),
+        "rests" => rests(alloc, facts, words),
+        "sides" => sides(alloc, facts, words),
+        "sizes" => side_sizes(alloc, facts, words),
+        "step" => step(alloc, facts, words),
+        _ => Err(CallFault::NoSuchCall),
+    }
+}

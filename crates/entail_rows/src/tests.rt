@@ -1,2 +1,0 @@
-mod given;
-mod rows;

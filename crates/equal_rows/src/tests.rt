@@ -1,5 +1,0 @@
-mod closure;
-mod drawn;
-mod rows;
-mod terms;
-mod towers;

@@ -1,3 +1,0 @@
-mod given;
-mod joined;
-mod moved;

@@ -1,6 +1,0 @@
-mod answers;
-mod readings;
-mod rings;
-mod searches;
-mod terms;
-mod written;

@@ -1,5 +1,0 @@
-mod calls;
-mod keyed;
-mod paths;
-mod places;
-mod terms;
