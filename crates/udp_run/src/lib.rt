@@ -1,4 +1,4 @@
-//! Everything that the program does, over any store and any sink.
+//! Checks of proofs, over any store and any sink.
 #![tactic(auto)]
 
 mod answer;
