@@ -45,8 +45,8 @@ class Cost:
     memory: int
 
 
-def cost(command, output):
-    """The cost of one run, which must end with status 0, and write this output where one is given."""
+def cost(command, output, status_wanted=0):
+    """The cost of one run, which must end with this status, and write this output where one is given."""
     with tempfile.TemporaryFile() as written, tempfile.NamedTemporaryFile("r") as peak:
         began = time.monotonic()
         # A child of Python begins with Python's own peak. A child of `time` does not.
@@ -56,7 +56,7 @@ def cost(command, output):
         run.returncode = os.waitstatus_to_exitcode(status)
         written.seek(0)
         got = written.read()
-        if run.returncode != 0 or output not in (None, got):
+        if run.returncode != status_wanted or output not in (None, got):
             sys.exit(f"{command} ended with {run.returncode} and wrote {got!r}")
         return Cost(used.ru_utime + used.ru_stime, elapsed, int(peak.read()) * 1024)
 

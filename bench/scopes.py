@@ -1,17 +1,29 @@
 #!/usr/bin/env python3
-"""Cases whose scopes are wide, deep or long. Each function gives the text of one; as a script it writes them all to a folder.
+"""Measures the reader of cases on texts whose scopes are wide, deep or long. README.md says what a row shows.
 
-A reader is to take time and memory linear in each of them.
+A folder as the only word gets the texts, and nothing is measured. Two words `--reader PROGRAM` measure a program that is built already.
 """
 
+import os
+import re
+import subprocess
 import sys
+import tempfile
 from pathlib import Path
+
+from bench import MEGABYTE, SHORTEST, least
+from steps import ROOT, built, libraries_in, program_in
+
+TEMPLATE = ROOT / "bench" / "read_case.txt"
+DEFAULT_STACK = 8_192
+SQLITE = "/usr/bin/sqlite3"
 
 MOST_ENTRIES = 31
 MOST_BYTES = 1_048_576
 MOST_LISTED = 256
 MOST_OPERANDS = 64
 DEEPEST = 60
+MOST_LEVELS = 64
 
 TABLE = "CREATE TABLE r (a INT, z INT);\n"
 ONE_MORE = "SELECT a FROM r;\n"
@@ -103,15 +115,139 @@ def copied_names(listed=60, length=4_000):
     return f"CREATE TABLE r (a INT, {name} INT);\nSELECT a FROM r WHERE {value} IN ({ones});\n{ONE_MORE}"
 
 
+def operators(first, most=MOST_OPERANDS):
+    """The longest chains of both kinds of operators around a value."""
+    return first + "*1" * (most - 1) + "+1" * (most - 1)
+
+
+def sets(first, most=MOST_OPERANDS):
+    """The longest chains of both kinds of set operators around a query."""
+    one = "SELECT a FROM r"
+    return first + f" INTERSECT {one}" * (most - 1) + f" UNION ALL {one}" * (most - 1)
+
+
+def deepest_value(levels):
+    """The deepest value that well-formed cases have: each level is compared in a scalar subquery, as an operand of the longest chains."""
+    value = "a"
+    for _ in range(levels):
+        value = f"(SELECT COUNT(*) FROM r WHERE {operators(value)} = 1)"
+    return value
+
+
+def deepest_query(levels):
+    """The deepest query that is read at all: each level is a scalar subquery in the longest chains of operators and of set operators."""
+    query = "SELECT a FROM r"
+    for _ in range(levels):
+        query = sets(f"SELECT {operators(f'({query})')} FROM r")
+    return query
+
+
+def deep_values():
+    """A value as deep as there may be; the parenthesis of the innermost COUNT opens a level too."""
+    return case("", f"SELECT a FROM r WHERE {deepest_value(MOST_LEVELS - 1)} = 1")
+
+
+def deep_sources():
+    """Derived tables within derived tables, each in the longest chains of set operators."""
+    query = "SELECT a FROM r"
+    for _ in range(MOST_LEVELS):
+        query = sets(f"SELECT d.a FROM ({query}) d")
+    return case("", query)
+
+
+def deep_query():
+    """A query as deep as one may be in the text. Its scalar subqueries are refused, behind the reading."""
+    return case("", deepest_query(MOST_LEVELS))
+
+
+def deep_view():
+    """The same as a view, whose tree is copied."""
+    return case(f"CREATE VIEW v AS {deepest_query(MOST_LEVELS)};\n", "SELECT a FROM r")
+
+
+def deep_operand():
+    """The same as the operand that BETWEEN stands for twice."""
+    return case("", f"SELECT a FROM r WHERE ({deepest_query(MOST_LEVELS - 1)}) BETWEEN 1 AND 2")
+
+
 CASES = [sought_outwards, stars, nested_sources, set_chains, derived_from_sets, named_views, named_view, copied_names]
+DEEP_CASES = [deep_values, deep_sources, deep_query, deep_view, deep_operand]
+
+
+def write_all(folder):
+    """Writes all texts to a folder, and answers where they are."""
+    places = []
+    for made in CASES + DEEP_CASES:
+        place = folder / f"{made.__name__}.sql"
+        place.write_text(made(), encoding="ascii")
+        places.append(place)
+    return places
+
+
+def ends(reader, text, stack):
+    """Whether the reader ends by itself with a stack of so many KiB."""
+    ran = subprocess.run(["bash", "-c", f'ulimit -S -s {stack}; exec "$0" "$1"', reader, text], stdout=subprocess.DEVNULL, stderr=subprocess.DEVNULL)
+    return ran.returncode == 0
+
+
+def least_stack(reader, text):
+    """The least stack, to 16 KiB, with which the reader ends by itself; None where the default stack does not suffice."""
+    if not ends(reader, text, DEFAULT_STACK):
+        return None
+    too_small, enough = 0, DEFAULT_STACK
+    while enough - too_small > 16:
+        middle = (too_small + enough) // 2
+        if ends(reader, text, middle):
+            enough = middle
+        else:
+            too_small = middle
+    return enough
+
+
+def seconds_of_sqlite(text, folder):
+    """The seconds in which sqlite3 takes the same schema and explains the same queries; None where it refuses them."""
+    script = folder / "explained.sql"
+    script.write_text(re.sub(r"(?m)^SELECT", "EXPLAIN SELECT", text.read_text(encoding="ascii")), encoding="ascii")
+    command = [SQLITE, "-bail", ":memory:", f".read {script}"]
+    ran = subprocess.run(command, stdout=subprocess.DEVNULL, stderr=subprocess.DEVNULL)
+    return least(command).processor if ran.returncode == 0 else None
+
+
+def shown(figure, form):
+    return "-" if figure is None else format(figure, form)
+
+
+def measure(reader, text, folder):
+    size = text.stat().st_size
+    took = least([reader, text])
+    seconds = max(took.processor, SHORTEST)
+    other = seconds_of_sqlite(text, folder) if Path(SQLITE).exists() else None
+    print(
+        f"{text.stem:20}{size / MEGABYTE:>8.3f}{seconds:>9.3f}{size / MEGABYTE / seconds:>8.1f}{took.memory / MEGABYTE:>10.1f}"
+        f"{took.memory / size:>8.1f}{shown(least_stack(reader, text), ','):>12}{shown(other, '.3f'):>9}",
+        flush=True,
+    )
 
 
 def main():
-    folder = Path(sys.argv[1])
-    for made in CASES:
-        text = made()
-        (folder / f"{made.__name__}.sql").write_text(text, encoding="ascii")
-        print(f"{made.__name__}: {len(text):,} bytes")
+    words = sys.argv[1:]
+    if len(words) == 1:
+        for place in write_all(Path(words[0])):
+            print(f"{place.stem}: {place.stat().st_size:,} bytes")
+        return
+    load = ", ".join(f"{it:.1f}" for it in os.getloadavg())
+    print(f"{os.cpu_count()} processors, load {load}\n")
+    with tempfile.TemporaryDirectory(prefix="udp-scopes-") as room:
+        folder = Path(room)
+        texts = write_all(folder)
+        if words[:1] == ["--reader"]:
+            reader = words[1]
+        else:
+            used = libraries_in(folder, ROOT, ["case_core", "udp_io"])
+            reader = built(program_in(folder, "read_case", TEMPLATE, used), [str(texts[-1])])
+        print(f"{'':20}{'MB':>8}{'seconds':>9}{'MB/s':>8}{'peak MB':>10}{'x text':>8}{'stack KiB':>12}{'sqlite3':>9}")
+        for text in texts:
+            measure(reader, text, folder)
 
 
 if __name__ == "__main__":
