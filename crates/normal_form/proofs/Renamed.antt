@@ -157,3 +157,8 @@ module _ (x : ℕ) where
 
   pub normal-closed : (u : U) → IsNormal u → IsNormal (closed_at u x)
   normal-closed u h = normal-mapped same_place (place_for_name x) (λ k i. bound) (λ k y. bound-or-free _ k y) 0 u h
+
+  pub added-closed : (u : U) → AreBlocks (add_leaves u) → AreBlocks (add_leaves (closed_at u x))
+  added-closed u h =
+      subst AreBlocks (sym (add_leaves-mapped same_place (place_for_name x) (λ k i. bound) (λ k y. bound-or-free _ k y) 0 u))
+      (blocks-mapped same_place (place_for_name x) (λ k i. bound) (λ k y. bound-or-free _ k y) 0 (add_leaves u) h)

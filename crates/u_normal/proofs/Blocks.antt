@@ -6,7 +6,7 @@ use Rattle.u_terms.specs.declared.term.U.TheVariants as u
 use Rattle.u_terms.specs.Syntax.{U, Zero, One, Add, Mul, Squash as SquashOf, Not, Sum, Rel, Eq, Pred, constructors}
 use Rattle.u_terms.specs.Products.{product_of}
 use Rattle.u_rules.specs.Terms.{◌⊕◌, add_leaves, mul_leaves}
-use Rattle.u_rules.proofs.LeavesAt.{add_leaves-Add}
+use Rattle.u_rules.proofs.LeavesAt.{add_leaves-Add, add_leaves-Zero}
 use Rattle.normal_form.specs.Kinds.{ordered}
 use Rattle.normal_form.specs.NormalTerms.{sum_of, IsNormal, AreBlocks, IsBlock, sum_of_blocks, no_block, block_then, sum_over}
 use Rattle.normal_form.specs.LooseTerms.{IsSomeFactor, IsProduct}
@@ -15,15 +15,17 @@ use Rattle.normal_form.proofs.Ordered.{kind-of_factor}
 use Rattle.u_normal.specs.Merging.{HasKind, HasKinds}
 use Rattle.u_normal.specs.Heads.{IsTidy}
 use Rattle.u_normal.specs.Finishing.{IsFinished}
-use Rattle.u_normal.specs.Summing.{over_each}
+use Rattle.u_normal.specs.Summing.{IsBlockSum, over_each}
 
-pub zero-normal : IsNormal u.Zero
-zero-normal = sum_of_blocks [] no_block refl
+-- ---- sums of blocks
+pub zero-blocks : (t : U) → t ≡ u.Zero → IsBlockSum t
+zero-blocks t e = record { blocks = subst (λ (us : List U). AreBlocks us) (sym (ap add_leaves e ∙ add_leaves-Zero)) no_block }
 
-pub added-normal : (a b : U) → IsNormal a → IsNormal b → IsNormal (sum_of (add_leaves (a ⊕ b)))
-added-normal a b h k =
-    in_row-normal (a ⊕ b)
-    (subst (λ (us : List U). AreBlocks us) (sym (add_leaves-Add a b)) (blocks-append (add_leaves a) (add_leaves b) (normal-blocks a h) (normal-blocks b k)))
+pub added-blocks : (a b : U) → IsBlockSum a → IsBlockSum b → IsBlockSum (a ⊕ b)
+added-blocks a b h k = record { blocks = subst (λ (us : List U). AreBlocks us) (sym (add_leaves-Add a b)) (blocks-append (add_leaves a) (add_leaves b) h.blocks k.blocks) }
+
+pub row-normal : (t : U) → IsBlockSum t → IsNormal (sum_of (add_leaves t))
+row-normal t h = in_row-normal t h.blocks
 
 -- ---- a sum over all values before each block
 pub over_each-Zero : over_each u.Zero ≡ u.Zero
@@ -70,8 +72,8 @@ blocks-over : (us : List U) → AreBlocks us → AreBlocks (map u.Sum us)
 blocks-over us no_block = no_block
 blocks-over us (block_then {block = block} {rest = rest} h hs) = block_then (block-over block h) (blocks-over rest hs)
 
-pub over-normal : (t : U) → IsNormal t → IsNormal (sum_of (add_leaves (over_each t)))
-over-normal t h = in_row-normal (over_each t) (subst (λ (us : List U). AreBlocks us) (sym (each-leaves t)) (blocks-over (add_leaves t) (normal-blocks t h)))
+pub over-blocks : (t : U) → IsBlockSum t → IsBlockSum (over_each t)
+over-blocks t h = record { blocks = subst (λ (us : List U). AreBlocks us) (sym (each-leaves t)) (blocks-over (add_leaves t) h.blocks) }
 
 -- ---- a block
 each-kind : (us : List U) → Each IsSomeFactor us → Each HasKind us
@@ -87,7 +89,9 @@ finished-kinds t s h = product-kinds s h.product
 pub one-block : (t : U) → IsBlock t → IsNormal t
 one-block t h = sum_of_blocks (t ∷ []) (block_then h no_block) refl
 
-pub ordered-normal : (t s : U) → IsTidy t → IsFinished t s → IsNormal (product_of (ordered (mul_leaves s)))
-ordered-normal t s tidy h =
-    one-block (product_of (ordered (mul_leaves s)))
-    (in_order-block s h.product (omega (arith, h.squashes, tidy.squashes)) (omega (arith, h.negations, tidy.negations)))
+pub ordered-blocks : (t s : U) → IsTidy t → IsFinished t s → IsBlockSum (product_of (ordered (mul_leaves s)))
+ordered-blocks t s tidy h = record {
+  blocks = normal-blocks (product_of (ordered (mul_leaves s)))
+      (one-block (product_of (ordered (mul_leaves s)))
+      (in_order-block s h.product (omega (arith, h.squashes, tidy.squashes)) (omega (arith, h.negations, tidy.negations))));
+}

@@ -381,10 +381,10 @@ sum-lighter t a b e = omega (arith, ap load e, load-leaf (u.Add a b) (mul_leaves
 pub body-lighter : (t f : U) → t ≡ u.Sum f → 8 * load f + 9 < 8 * load t + 7
 body-lighter t f e = omega (arith, ap load e, load-leaf (u.Sum f) (mul_leaves-Sum f), nodes-Sum f, load-small f)
 
-pub squash-lighter : (t p : U) → t ≡ u.Squash p → 8 * load p + 7 < 8 * load t + 3
+pub squash-lighter : (t p : U) → t ≡ u.Squash p → 8 * load p + 8 < 8 * load t + 3
 squash-lighter t p e = omega (arith, ap load e, load-leaf (u.Squash p) (mul_leaves-Squash p), nodes-Squash p, load-small p)
 
-pub not-lighter : (t p : U) → t ≡ u.Not p → 8 * load p + 7 < 8 * load t + 3
+pub not-lighter : (t p : U) → t ≡ u.Not p → 8 * load p + 8 < 8 * load t + 3
 not-lighter t p e = omega (arith, ap load e, load-leaf (u.Not p) (mul_leaves-Not p), nodes-Not p, load-small p)
 
 pub head_sum-lighter : (t a b : U) → t ≡ u.Add a b → 8 * max (load a) (load b) + 8 < 8 * head_load t + 5

@@ -9,11 +9,10 @@ use Rattle.u_terms.proofs.MappedSizes.{closed_at-nodes}
 use Rattle.u_terms.proofs.Sizes.{nodes-Add, nodes-Mul, nodes-Squash, nodes-Not, nodes-Sum}
 use Rattle.u_rules.specs.Terms.{◌⊗◌, ◌⊕◌, S, neg, sq}
 use Rattle.u_moves.specs.Derivations.{Derivation}
-use Rattle.normal_form.proofs.Renamed.{normal-closed}
-use Rattle.normal_form.specs.NormalTerms.{IsNormal}
+use Rattle.normal_form.proofs.Renamed.{added-closed}
 use Rattle.u_normal.specs.Leading.{Leads}
 use Rattle.u_normal.specs.Rooms.{InRoom, BecomesInRoom, beside}
-use Rattle.u_normal.specs.Summing.{IsSumOverBlocks}
+use Rattle.u_normal.specs.Summing.{IsBlockSum, IsSumOverBlocks}
 use Rattle.u_normal.specs.Values.{LeadsOn}
 
 pub within : (room : ℕ) (P : U → Type 0) (u : U) → P u → InRoom room P u
@@ -62,17 +61,14 @@ module _ (room : ℕ) (P Q : U → Type 0) where
 pub mul-within : (room : ℕ) (P Q R : U → Type 0) (a b : U) → (P a → Q b → R (a ⊗ b)) → InRoom room P a → InRoom (beside room a) Q b → InRoom room R (a ⊗ b)
 mul-within room P Q R a b keeps h k = record { fits = λ small. keeps (h.fits (omega (arith, small, nodes-Mul a b))) (k.fits (omega (arith, small, nodes-Mul a b))) }
 
-pub add-left : (room : ℕ) (P : U → Type 0) (a b : U) → nodes (a ⊕ b) ≤ room → InRoom room P a → P a
-add-left room P a b small h = h.fits (omega (arith, small, nodes-Add a b))
+pub add-within : (room : ℕ) (P Q R : U → Type 0) (a b : U) → (P a → Q b → R (a ⊕ b)) → InRoom room P a → InRoom (beside room a) Q b → InRoom room R (a ⊕ b)
+add-within room P Q R a b keeps h k = record { fits = λ small. keeps (h.fits (omega (arith, small, nodes-Add a b))) (k.fits (omega (arith, small, nodes-Add a b))) }
 
-pub add-right : (room : ℕ) (P : U → Type 0) (a b : U) → nodes (a ⊕ b) ≤ room → InRoom (beside room a) P b → P b
-add-right room P a b small h = h.fits (omega (arith, small, nodes-Add a b))
-
-pub sum-within : (room outs : ℕ) (a t : U) → t ≡ S (closed_at a outs) → InRoom room IsNormal a → InRoom room IsSumOverBlocks t
+pub sum-within : (room outs : ℕ) (a t : U) → t ≡ S (closed_at a outs) → InRoom room IsBlockSum a → InRoom room IsSumOverBlocks t
 sum-within room outs a t e h = record {
   fits = λ small. record {
     body = closed_at a outs;
     is = e;
-    normal = normal-closed outs a (h.fits (omega (arith, small, ap nodes e, nodes-Sum (closed_at a outs), closed_at-nodes a outs)));
+    sum = record { blocks = added-closed outs a (h.fits (omega (arith, small, ap nodes e, nodes-Sum (closed_at a outs), closed_at-nodes a outs))).blocks };
   };
 }

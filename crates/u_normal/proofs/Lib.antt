@@ -5,6 +5,7 @@ pub mod Takings
 pub mod Merges
 pub mod Finishes
 pub mod Blocks
+pub mod Vanishings
 pub mod KnownParts
 pub mod Led
 pub mod InRooms

@@ -95,28 +95,28 @@ ahead-at vs i value less is =
     let n : suc i ≡ i + 1 = omega arith in
     drop-cons vs i value less ∙ ap (λ (x : Val). x ∷ drop (suc i) vs) (sym is) ∙ ap (λ (k : ℕ). value ∷ drop k vs) n
 
-pub item-lighter : (vs : List Val) (i : ℕ) (value : Val) → drop i vs ≡ value ∷ drop (i + 1) vs → 8 * value_nodes value + 9 < 8 * list_nodes vs + 10
+pub item-lighter : (vs : List Val) (i : ℕ) (value : Val) → drop i vs ≡ value ∷ drop (i + 1) vs → 8 * value_nodes value + 10 < 8 * list_nodes vs + 11
 item-lighter vs i value ahead =
     let e : list_nodes (drop i vs) ≡ value_nodes value + list_nodes (drop (i + 1) vs) = ap list_nodes ahead ∙ sum_by-cons value_nodes value (drop (i + 1) vs) in
     omega (arith, e, nodes-dropped i vs)
 
 -- ---- how much there is to do in values
-pub relation-lighter : (t : U) (table : ℕ) (vs : List Val) → t ≡ u.Rel table vs → 8 * list_nodes vs + 10 < 8 * load t + 2
+pub relation-lighter : (t : U) (table : ℕ) (vs : List Val) → t ≡ u.Rel table vs → 8 * list_nodes vs + 11 < 8 * load t + 2
 relation-lighter t table vs e = omega (arith, ap load e, load-leaf (u.Rel table vs) (mul_leaves-Rel table vs), nodes-Rel table vs)
 
-pub predicate-lighter : (t : U) (symbol : ℕ) (vs : List Val) → t ≡ u.Pred symbol vs → 8 * list_nodes vs + 10 < 8 * load t + 2
+pub predicate-lighter : (t : U) (symbol : ℕ) (vs : List Val) → t ≡ u.Pred symbol vs → 8 * list_nodes vs + 11 < 8 * load t + 2
 predicate-lighter t symbol vs e = omega (arith, ap load e, load-leaf (u.Pred symbol vs) (mul_leaves-Pred symbol vs), nodes-Pred symbol vs)
 
-pub left-lighter : (t : U) (a b : Val) → t ≡ u.Eq a b → 8 * value_nodes a + 9 < 8 * load t + 2
+pub left-lighter : (t : U) (a b : Val) → t ≡ u.Eq a b → 8 * value_nodes a + 10 < 8 * load t + 2
 left-lighter t a b e = omega (arith, ap load e, load-leaf (u.Eq a b) (mul_leaves-Eq a b), nodes-Eq a b)
 
-pub right-lighter : (t : U) (a b : Val) → t ≡ u.Eq a b → 8 * value_nodes b + 9 < 8 * load t + 2
+pub right-lighter : (t : U) (a b : Val) → t ≡ u.Eq a b → 8 * value_nodes b + 10 < 8 * load t + 2
 right-lighter t a b e = omega (arith, ap load e, load-leaf (u.Eq a b) (mul_leaves-Eq a b), nodes-Eq a b)
 
-pub function-lighter : (value : Val) (symbol : ℕ) (vs : List Val) → value ≡ v.Fun symbol vs → 8 * list_nodes vs + 10 < 8 * value_nodes value + 9
+pub function-lighter : (value : Val) (symbol : ℕ) (vs : List Val) → value ≡ v.Fun symbol vs → 8 * list_nodes vs + 11 < 8 * value_nodes value + 10
 function-lighter value symbol vs e = omega (arith, ap value_nodes e, nodes-Fun symbol vs)
 
-pub aggregate-lighter : (value : Val) (number : ℕ) (body : U) → value ≡ v.Agg number body → 8 * load body + 8 < 8 * value_nodes value + 9
+pub aggregate-lighter : (value : Val) (number : ℕ) (body : U) → value ≡ v.Agg number body → 8 * load body + 9 < 8 * value_nodes value + 10
 aggregate-lighter value number body e = omega (arith, ap value_nodes e, nodes-Agg number body, load-small body)
 
 -- ---- derivations that lead on

@@ -4,6 +4,7 @@ pub mod Taking
 pub mod Merging
 pub mod Heads
 pub mod Summing
+pub mod Vanishing
 pub mod Finishing
 pub mod Values
 pub mod Shaped

@@ -10,7 +10,9 @@ mod steps;
 mod sums;
 mod taking;
 mod values;
+mod vanishing;
 mod whole;
 
 pub use limits::{NormalFault, normal};
 pub use std::alloc::AllocError as NoMemory;
+pub use values::{extended, then_in_aggregate};

@@ -4,12 +4,11 @@ ghost use Rattle.u_rules.specs.Terms.{S};
 ghost use Rattle.u_moves.specs.Derivations.{IsKnown};
 ghost use Rattle.u_congruence.specs.Congruence.{IsBy, IsFromTo};
 ghost use Rattle.u_normal.specs.Leading.{Leads};
-ghost use Rattle.normal_form.specs.NormalTerms.{IsNormal};
 ghost use Rattle.u_normal.specs.Summing as spec;
-ghost use Rattle.u_normal.specs.Summing.{IsSumOverBlocks};
+ghost use Rattle.u_normal.specs.Summing.{IsBlockSum, IsSumOverBlocks};
 
 use crate::NoMemory;
-use crate::steps::{parted, then_in_row, zero_sum};
+use crate::steps::{parted, zero_sum};
 use u_congruence::{Derived, added, copied, joined, still};
 use u_moves::Moves;
 use u_terms::{Boxed, U};
@@ -35,17 +34,16 @@ pub fn over_each<'f>(moves: Moves<'f>, f: &U) -> Result<Derived<'f>, NoMemory>
     }
 }
 
-/// The derivation, and then a sum over all values before each block of its last term, in one row.
+/// The derivation, and then a sum over all values before each block of its last term.
 pub fn then_over_each<'f>(moves: Moves<'f>, d: Derived<'f>) -> Result<Derived<'f>, NoMemory>
     requires by { IsBy moves.facts.now moves.outs d }
     requires sum { IsSumOverBlocks d.to }
-    ensures { IfOk result (Leads IsNormal moves.entry.facts.now moves.entry.outs d.entry.from) }
+    ensures { IfOk result (Leads IsBlockSum moves.entry.facts.now moves.entry.outs d.entry.from) }
 {
     match d.get().to() {
         U::Sum(f) => {
             let each = over_each(moves, f.get())?;
-            let all = joined(moves.alloc, d, each)?;
-            then_in_row(moves, all)
+            joined(moves.alloc, d, each)
         }
         _ => unreachable!(),
     }

@@ -12,8 +12,8 @@ ghost use Rattle.u_congruence.specs.Congruence.{IsBy};
 ghost use Rattle.u_normal.specs.Finishing.{IsFactorOrOne, IsFinished, IsFinishedPlain, IsPlain};
 ghost use Rattle.u_normal.specs.Heads.{HasHead, IsFactorRow, IsTidy};
 ghost use Rattle.u_normal.specs.Leading.{Leads};
-ghost use Rattle.u_normal.specs.Rooms.{InRoom, BecomesInRoom, beside};
-ghost use Rattle.u_normal.specs.Summing.{IsSumOverBlocks};
+ghost use Rattle.u_normal.specs.Rooms.{InRoom, BecomesInRoom};
+ghost use Rattle.u_normal.specs.Summing.{IsBlockSum, IsSumOverBlocks};
 ghost use Rattle.u_normal.specs.Values.{AreNormalAt, AreStanding, IsNormalAt, LeadsOn, Stands};
 
 use crate::NoMemory;
@@ -22,6 +22,7 @@ use crate::rooms::{is_over, room_beside};
 use crate::steps::{then_in_order, then_in_row};
 use crate::sums::then_over_each;
 use crate::values::{extended, then_in_aggregate};
+use crate::vanishing::{nothing, vanishes};
 use normal_form::{Kind, kind_of};
 use u_congruence::{
     Derived, added, copied, inside, joined, multiplied, negated, opened, squashed, still, summed,
@@ -30,80 +31,93 @@ use u_moves::Moves;
 use u_terms::{Boxed, U, Val};
 
 /// From a term to a normal one. Nothing is simplified that the form does not ask for. A factor beside a sum is copied into each product
-/// as it is, and made normal there.
+/// as it is, and made normal there. What is added is gathered in one row by one step at the end, however deep it is nested.
 #[cycle(normal)]
 pub fn normal_within<'f>(moves: Moves<'f>, room: u64, u: &U) -> Result<Derived<'f>, NoMemory>
     requires { IsKnown 0 moves.outs u.now }
     ensures { IfOk result (Leads (InRoom room IsNormal) moves.entry.facts.now moves.entry.outs u.now) }
 {
+    let sum = block_sum(moves, room, u)?;
+    gathered(moves, room, sum)
+}
+
+// From a term to a sum of normal blocks.
+#[cycle(normal)]
+fn block_sum<'f>(moves: Moves<'f>, room: u64, u: &U) -> Result<Derived<'f>, NoMemory>
+    requires { IsKnown 0 moves.outs u.now }
+    ensures { IfOk result (Leads (InRoom room IsBlockSum) moves.entry.facts.now moves.entry.outs u.now) }
+{
     match u {
         U::Zero => still(moves, copied(moves.alloc, u)?),
-        U::Add(a, b) => normal_sum(moves, room, a.get(), b.get()),
-        U::Sum(f) => normal_body(moves, room, f.get()),
-        _ => normal_product(moves, room, u),
+        U::Add(a, b) => sum_of_parts(moves, room, a.get(), b.get()),
+        U::Sum(f) => sum_of_body(moves, room, f.get()),
+        _ => sum_of_product(moves, room, u),
     }
 }
 
 // The same of a sum. What the first part leads to takes room from the second.
 #[cycle(normal)]
-fn normal_sum<'f>(moves: Moves<'f>, room: u64, a: &U, b: &U) -> Result<Derived<'f>, NoMemory>
+fn sum_of_parts<'f>(moves: Moves<'f>, room: u64, a: &U, b: &U) -> Result<Derived<'f>, NoMemory>
     requires a { IsKnown 0 moves.outs a.now }
     requires b { IsKnown 0 moves.outs b.now }
-    ensures { IfOk result (Leads (InRoom room IsNormal) moves.entry.facts.now moves.entry.outs (a.now ⊕ b.now)) }
+    ensures { IfOk result (Leads (InRoom room IsBlockSum) moves.entry.facts.now moves.entry.outs (a.now ⊕ b.now)) }
 {
-    let left = normal_within(moves, room, a)?;
+    let left = block_sum(moves, room, a)?;
     let left_over = room_beside(room, &left);
-    let right = normal_within(moves, left_over, b)?;
-    added_in_row(moves, room, left, right)
+    let right = block_sum(moves, left_over, b)?;
+    added(moves, left, right)
 }
 
 // The same of a sum over all values.
 #[cycle(normal)]
-fn normal_body<'f>(moves: Moves<'f>, room: u64, f: &U) -> Result<Derived<'f>, NoMemory>
+fn sum_of_body<'f>(moves: Moves<'f>, room: u64, f: &U) -> Result<Derived<'f>, NoMemory>
     requires { IsKnown 1 moves.outs f.now }
-    ensures { IfOk result (Leads (InRoom room IsNormal) moves.entry.facts.now moves.entry.outs (S f.now)) }
+    ensures { IfOk result (Leads (InRoom room IsBlockSum) moves.entry.facts.now moves.entry.outs (S f.now)) }
 {
-    let part = normal_opened(moves, room, f)?;
+    let part = sum_opened(moves, room, f)?;
     let sum = summed(moves, part)?;
-    over_each_in_row(moves, room, sum)
+    over_each_in_room(moves, room, sum)
 }
 
 // The same of a body, with the name `outs` for its place.
 #[cycle(normal)]
-fn normal_opened<'f>(moves: Moves<'f>, room: u64, f: &U) -> Result<Derived<'f>, NoMemory>
+fn sum_opened<'f>(moves: Moves<'f>, room: u64, f: &U) -> Result<Derived<'f>, NoMemory>
     requires { IsKnown 1 moves.outs f.now }
-    ensures { IfOk result (Leads (InRoom room IsNormal) moves.entry.facts.now (moves.entry.outs + 1) (opened f.now moves.entry.outs)) }
+    ensures { IfOk result (Leads (InRoom room IsBlockSum) moves.entry.facts.now (moves.entry.outs + 1) (opened f.now moves.entry.outs)) }
 {
     let inner = inside(moves)?;
     let body = Boxed::new(moves.alloc, opened(moves.alloc, f, moves.outs)?)?;
-    normal_within(inner, room, body.get())
+    block_sum(inner, room, body.get())
 }
 
-// The same of a product.
+// The same of a product. One of which nothing is left is not taken apart, so each one that is ends in a block at least.
 #[cycle(normal)]
-fn normal_product<'f>(moves: Moves<'f>, room: u64, u: &U) -> Result<Derived<'f>, NoMemory>
+fn sum_of_product<'f>(moves: Moves<'f>, room: u64, u: &U) -> Result<Derived<'f>, NoMemory>
     requires { IsKnown 0 moves.outs u.now }
-    ensures { IfOk result (Leads (InRoom room IsNormal) moves.entry.facts.now moves.entry.outs u.now) }
+    ensures { IfOk result (Leads (InRoom room IsBlockSum) moves.entry.facts.now moves.entry.outs u.now) }
 {
+    if vanishes(u) {
+        return nothing(moves, u);
+    }
     let first = headed(moves, u)?;
     if is_over(&first, room) {
         return Ok(first);
     }
-    let rest = normal_parts(moves, room, first.get().to())?;
+    let rest = sum_of_head(moves, room, first.get().to())?;
     joined(moves.alloc, first, rest)
 }
 
 // The same of a sum, or of a product without sums.
 #[cycle(normal)]
-fn normal_parts<'f>(moves: Moves<'f>, room: u64, u: &U) -> Result<Derived<'f>, NoMemory>
+fn sum_of_head<'f>(moves: Moves<'f>, room: u64, u: &U) -> Result<Derived<'f>, NoMemory>
     requires known { IsKnown 0 moves.outs u.now }
     requires head { HasHead u.now }
-    ensures { IfOk result (Leads (InRoom room IsNormal) moves.entry.facts.now moves.entry.outs u.now) }
+    ensures { IfOk result (Leads (InRoom room IsBlockSum) moves.entry.facts.now moves.entry.outs u.now) }
 {
     match u {
         U::Zero => still(moves, copied(moves.alloc, u)?),
-        U::Add(a, b) => normal_sum(moves, room, a.get(), b.get()),
-        U::Sum(f) => normal_body(moves, room, f.get()),
+        U::Add(a, b) => sum_of_parts(moves, room, a.get(), b.get()),
+        U::Sum(f) => sum_of_body(moves, room, f.get()),
         _ => {
             let row = normal_row(moves, room, u)?;
             in_block(moves, room, u, row)
@@ -230,6 +244,17 @@ fn normal_value<'f>(
     }
 }
 
+// From the body of an aggregate to a normal one, with the name `outs` for its place.
+#[cycle(normal)]
+fn normal_opened<'f>(moves: Moves<'f>, room: u64, f: &U) -> Result<Derived<'f>, NoMemory>
+    requires { IsKnown 1 moves.outs f.now }
+    ensures { IfOk result (Leads (InRoom room IsNormal) moves.entry.facts.now (moves.entry.outs + 1) (opened f.now moves.entry.outs)) }
+{
+    let inner = inside(moves)?;
+    let body = Boxed::new(moves.alloc, opened(moves.alloc, f, moves.outs)?)?;
+    normal_within(inner, room, body.get())
+}
+
 // Whether a factor is the negation of another term than an equality or a predicate.
 fn is_negation(u: &U) -> bool
     ensures { IsTrue result ↔ (spec.kind_of u.now ≡ Some kind.Negation) }
@@ -237,35 +262,27 @@ fn is_negation(u: &U) -> bool
     kind_of(u) == Some(Kind::Negation)
 }
 
-// The sum of what both lead to, in one row.
-fn added_in_row<'f>(
-    moves: Moves<'f>,
-    room: u64,
-    left: Derived<'f>,
-    right: Derived<'f>,
-) -> Result<Derived<'f>, NoMemory>
-    requires left { IsBy moves.facts.now moves.outs left }
-    requires right { IsBy moves.facts.now moves.outs right }
-    requires normal_left { InRoom room IsNormal left.to }
-    requires normal_right { InRoom (beside room left.to) IsNormal right.to }
-    ensures { IfOk result (Leads (InRoom room IsNormal) moves.entry.facts.now moves.entry.outs (left.entry.from ⊕ right.entry.from)) }
+// The blocks of the last term in one row, by one step at most.
+fn gathered<'f>(moves: Moves<'f>, room: u64, sum: Derived<'f>) -> Result<Derived<'f>, NoMemory>
+    requires by { IsBy moves.facts.now moves.outs sum }
+    requires sum { InRoom room IsBlockSum sum.to }
+    ensures { IfOk result (Leads (InRoom room IsNormal) moves.entry.facts.now moves.entry.outs sum.entry.from) }
 {
-    let both = added(moves, left, right)?;
-    if is_over(&both, room) {
-        return Ok(both);
+    if is_over(&sum, room) {
+        return Ok(sum);
     }
-    then_in_row(moves, both)
+    then_in_row(moves, sum)
 }
 
-// A sum over all values before each block of the last term, in one row.
-fn over_each_in_row<'f>(
+// A sum over all values before each block of the last term.
+fn over_each_in_room<'f>(
     moves: Moves<'f>,
     room: u64,
     sum: Derived<'f>,
 ) -> Result<Derived<'f>, NoMemory>
     requires by { IsBy moves.facts.now moves.outs sum }
     requires sum { InRoom room IsSumOverBlocks sum.to }
-    ensures { IfOk result (Leads (InRoom room IsNormal) moves.entry.facts.now moves.entry.outs sum.entry.from) }
+    ensures { IfOk result (Leads (InRoom room IsBlockSum) moves.entry.facts.now moves.entry.outs sum.entry.from) }
 {
     if is_over(&sum, room) {
         return Ok(sum);
@@ -282,7 +299,7 @@ fn in_block<'f>(
 ) -> Result<Derived<'f>, NoMemory>
     requires tidy { IsTidy u.now }
     requires row { Leads (InRoom room (IsFinished u.now)) moves.facts.now moves.outs u.now row }
-    ensures { IfOk result (Leads (InRoom room IsNormal) moves.entry.facts.now moves.entry.outs u.now) }
+    ensures { IfOk result (Leads (InRoom room IsBlockSum) moves.entry.facts.now moves.entry.outs u.now) }
 {
     if is_over(&row, room) {
         return Ok(row);

@@ -3,7 +3,7 @@ use Rattle.std.specs.Prelude.{IfOk}
 use Rattle.u_terms.specs.Syntax.{U, Val}
 use Rattle.u_terms.specs.Places.{IsClosed}
 use Rattle.u_terms.specs.Binding.{closed_at, opened}
-use Rattle.u_rules.specs.Terms.{◌⊗◌, S, sq, neg}
+use Rattle.u_rules.specs.Terms.{◌⊗◌, ◌⊕◌, O, S, sq, neg}
 use Rattle.u_moves.specs.Derivations.{Derivation, IsKnown, IsSound}
 use Rattle.u_moves.proofs.Whole.{if-ok}
 use Rattle.u_congruence.specs.Congruence.{IsFromTo, IsBy}
@@ -11,23 +11,32 @@ use Rattle.u_normal.specs.Taking.{load}
 use Rattle.u_normal.specs.Leading.{Leads}
 use Rattle.u_normal.specs.Rooms.{InRoom, BecomesInRoom}
 use Rattle.normal_form.specs.Kinds.{is_truth}
+use Rattle.u_normal.specs.Summing.{IsBlockSum}
 use Rattle.u_normal.specs.Values.{Stands, HasOtherBody, IsNormalAt, AreNormalAt, AreNormalUpTo, LeadsOn}
 use Rattle.u_normal.specs.Heads.{IsFactorRow, HasHead, head_load}
 use Rattle.u_normal.specs.Finishing.{IsFactorOrOne, IsFinished, IsFinishedPlain, IsPlain, factor}
 use Rattle.normal_form.specs.NormalTerms.{IsNormal}
 use Rattle.u_normal.proofs.KnownParts.{known-left, known-right, known-body, known-opened, known-factor_left, known-factor_right, known-squashed, known-negated, body-again, again-at, to-known}
 use Rattle.u_normal.proofs.Led.{leads-to, leads-same}
-use Rattle.u_normal.proofs.InRooms.{within, squash-within, not-within, mul-within, sum-within, led-in, not-over}
+use Rattle.u_normal.proofs.InRooms.{within, squash-within, not-within, mul-within, add-within, sum-within, led-in, not-over}
 use Rattle.u_normal.proofs.Standing.{bound-normal, free-normal, literal-normal, stands-function, stands-aggregate}
 use Rattle.u_normal.proofs.ValuesLed.{same-relation, same-predicate, same-function, same-aggregate, ahead-at, item-lighter, known-relation, known-predicate, known-equal_left, known-equal_right, known-function, known-aggregate, known-at, relation-lighter, predicate-lighter, left-lighter, right-lighter, function-lighter, aggregate-lighter, by-on, led-still, led-stands, led-next, led-function, led-aggregate, by-still, stands-relation, stands-predicate, stands-left, stands-right, leads-still, leads-relation, leads-predicate, leads-equality}
 use Rattle.u_normal.proofs.Loads.{load-opened}
 use Rattle.u_normal.proofs.Finishes.{sum-lighter, body-lighter, squash-lighter, not-lighter, head_sum-lighter, head_body-lighter, rest-lighter, first-lighter, row-load, row-first, row-rest, row-last, tidy-at, finished-squash, finished-not, finished-Mul, finished-bare_not, plain-lighter, plain-one, truth-negated_at, truth-plain}
-use Rattle.u_normal.proofs.Blocks.{zero-normal}
+use Rattle.u_normal.proofs.Blocks.{zero-blocks, added-blocks}
 use Rattle.u_normal.proofs.whole.+normal.Goals as goal
 
 -- ---- normal_within
-pub normal_within-normal_sum-requires : goal.normal_within-normal_sum-requires
-normal_within-normal_sum-requires t c =
+pub normal_within-block_sum-requires : goal.normal_within-block_sum-requires
+normal_within-block_sum-requires t c = (omega (arith, c.decreases), c.requires)
+
+pub normal_within-returns : goal.normal_within-returns
+normal_within-returns t c =
+    subst (λ (u : U). IfOk c.gathered.result (Leads (InRoom c.args.room IsNormal) c.args.moves.facts.now c.args.moves.outs u)) (c.in_ok-sum.ensures {u = tt}).from c.gathered.ensures
+
+-- ---- block_sum
+pub block_sum-sum_of_parts-requires : goal.block_sum-sum_of_parts-requires
+block_sum-sum_of_parts-requires t c =
     let known = subst (λ (u : U). IsKnown 0 c.args.moves.outs u) c.in-Add.is c.requires in (
       omega (arith, c.decreases, sum-lighter c.args.u.now c.in-Add.a c.in-Add.b c.in-Add.is, ap load c.get.ensures, ap load c.get-in-Add.ensures),
       (
@@ -36,31 +45,63 @@ normal_within-normal_sum-requires t c =
       ),
     )
 
-pub normal_within-normal_body-requires : goal.normal_within-normal_body-requires
-normal_within-normal_body-requires t c = (
+pub block_sum-sum_of_body-requires : goal.block_sum-sum_of_body-requires
+block_sum-sum_of_body-requires t c = (
   omega (arith, c.decreases, body-lighter c.args.u.now c.in-Sum.f c.in-Sum.is, ap load c.get-in-Sum.ensures),
   subst (λ (u : U). IsKnown 1 c.args.moves.outs u) (sym c.get-in-Sum.ensures) (known-body c.args.moves.outs c.in-Sum.f (subst (λ (u : U). IsKnown 0 c.args.moves.outs u) c.in-Sum.is c.requires)),
 )
 
-pub normal_within-returns-in_ok-copied-in-Zero : goal.normal_within-returns-in_ok-copied-in-Zero
-normal_within-returns-in_ok-copied-in-Zero t c =
+pub block_sum-returns-in_ok-copied-in-Zero : goal.block_sum-returns-in_ok-copied-in-Zero
+block_sum-returns-in_ok-copied-in-Zero t c =
     let e : c.in_ok-copied-in-Zero.field-0 ≡ c.args.u.now = c.in_ok-copied-in-Zero.ensures {u = tt} in
     if-ok (IsFromTo c.args.moves.facts.now c.args.moves.outs c.in_ok-copied-in-Zero.field-0 c.in_ok-copied-in-Zero.field-0)
-    (Leads (InRoom c.args.room IsNormal) c.args.moves.facts.now c.args.moves.outs c.args.u.now)
-    (leads-to (InRoom c.args.room IsNormal) c.args.moves.facts.now c.args.moves.facts.now c.args.moves.outs c.args.moves.outs c.args.u.now c.in_ok-copied-in-Zero.field-0 c.in_ok-copied-in-Zero.field-0
-    refl refl e (within c.args.room IsNormal c.in_ok-copied-in-Zero.field-0 (subst (λ u. IsNormal u) (sym (e ∙ c.in-Zero.is)) zero-normal)))
+    (Leads (InRoom c.args.room IsBlockSum) c.args.moves.facts.now c.args.moves.outs c.args.u.now)
+    (leads-to (InRoom c.args.room IsBlockSum) c.args.moves.facts.now c.args.moves.facts.now c.args.moves.outs c.args.moves.outs c.args.u.now c.in_ok-copied-in-Zero.field-0 c.in_ok-copied-in-Zero.field-0
+    refl refl e (within c.args.room IsBlockSum c.in_ok-copied-in-Zero.field-0 (zero-blocks c.in_ok-copied-in-Zero.field-0 (e ∙ c.in-Zero.is))))
     c.still.result c.still.ensures
 
--- ---- normal_body
-pub normal_body-over_each_in_row-requires-clause-sum : goal.normal_body-over_each_in_row-requires-clause-sum
-normal_body-over_each_in_row-requires-clause-sum t c =
+-- ---- sum_of_parts
+pub sum_of_parts-returns : goal.sum_of_parts-returns
+sum_of_parts-returns t c =
+    let left = c.in_ok-left.ensures {u = tt} in
+    let right = c.in_ok-right.ensures {u = tt} in
+    if-ok (IsFromTo c.args.moves.facts.now c.args.moves.outs (c.in_ok-left.left.from ⊕ c.in_ok-right.right.from) (c.in_ok-left.left.to ⊕ c.in_ok-right.right.to))
+    (Leads (InRoom c.args.room IsBlockSum) c.args.moves.facts.now c.args.moves.outs (c.args.a.now ⊕ c.args.b.now))
+    (leads-to (InRoom c.args.room IsBlockSum) c.args.moves.facts.now c.args.moves.facts.now c.args.moves.outs c.args.moves.outs (c.args.a.now ⊕ c.args.b.now)
+    (c.in_ok-left.left.from ⊕ c.in_ok-right.right.from) (c.in_ok-left.left.to ⊕ c.in_ok-right.right.to)
+    refl refl (ap (λ (u : U). u ⊕ c.in_ok-right.right.from) left.from ∙ ap (λ (u : U). c.args.a.now ⊕ u) right.from)
+    (add-within c.args.room IsBlockSum IsBlockSum IsBlockSum c.in_ok-left.left.to c.in_ok-right.right.to (added-blocks c.in_ok-left.left.to c.in_ok-right.right.to) left.reached
+    (subst (λ (n : ℕ). InRoom n IsBlockSum c.in_ok-right.right.to) c.room_beside-left_over.ensures right.reached)))
+    c.added.result c.added.ensures
+
+-- ---- sum_of_body
+pub sum_of_body-over_each_in_room-requires-clause-sum : goal.sum_of_body-over_each_in_room-requires-clause-sum
+sum_of_body-over_each_in_room-requires-clause-sum t c =
     sum-within c.args.room c.args.moves.outs c.in_ok-part.part.to c.in_ok-sum.sum.to (c.in_ok-sum.ensures {u = tt}).to (c.in_ok-part.ensures {u = tt}).reached
 
-pub normal_body-returns : goal.normal_body-returns
-normal_body-returns t c =
+pub sum_of_body-returns : goal.sum_of_body-returns
+sum_of_body-returns t c =
     let whole : c.in_ok-sum.sum.from ≡ S c.args.f.now =
     (c.in_ok-sum.ensures {u = tt}).from ∙ ap (λ (u : U). S (closed_at u c.args.moves.outs)) (c.in_ok-part.ensures {u = tt}).from ∙ ap (λ (u : U). S u) (body-again c.args.moves.outs c.args.f.now c.requires) in
-    subst (λ (u : U). IfOk c.over_each_in_row.result (Leads (InRoom c.args.room IsNormal) c.args.moves.facts.now c.args.moves.outs u)) whole c.over_each_in_row.ensures
+    subst (λ (u : U). IfOk c.over_each_in_room.result (Leads (InRoom c.args.room IsBlockSum) c.args.moves.facts.now c.args.moves.outs u)) whole c.over_each_in_room.ensures
+
+-- ---- sum_opened
+pub sum_opened-block_sum-requires : goal.sum_opened-block_sum-requires
+sum_opened-block_sum-requires t c =
+    let e : c.get.result.now ≡ opened c.args.f.now c.args.moves.outs = c.get.ensures ∙ c.in_ok-body.ensures {u = tt} ∙ c.in_ok-opened.ensures {u = tt} in
+    let n : c.in_ok-inner.inner.outs ≡ c.args.moves.outs + 1 = c.in_ok-inner.ensures.outs in (
+      omega (arith, c.decreases, ap load e, load-opened c.args.f.now c.args.moves.outs),
+      subst (λ (m : ℕ). IsKnown 0 m c.get.result.now) (sym n) (subst (λ (u : U). IsKnown 0 (c.args.moves.outs + 1) u) (sym e) (known-opened c.args.moves.outs c.args.f.now c.requires)),
+    )
+
+pub sum_opened-returns : goal.sum_opened-returns
+sum_opened-returns t c =
+    let e : c.get.result.now ≡ opened c.args.f.now c.args.moves.outs = c.get.ensures ∙ c.in_ok-body.ensures {u = tt} ∙ c.in_ok-opened.ensures {u = tt} in
+    if-ok (Leads (InRoom c.args.room IsBlockSum) c.in_ok-inner.inner.facts.now c.in_ok-inner.inner.outs c.get.result.now)
+    (Leads (InRoom c.args.room IsBlockSum) c.args.moves.facts.now (c.args.moves.outs + 1) (opened c.args.f.now c.args.moves.outs))
+    (leads-same (InRoom c.args.room IsBlockSum) c.args.moves.facts.now c.in_ok-inner.inner.facts.now (c.args.moves.outs + 1) c.in_ok-inner.inner.outs (opened c.args.f.now c.args.moves.outs) c.get.result.now
+    c.in_ok-inner.ensures.facts c.in_ok-inner.ensures.outs e)
+    c.block_sum.result c.block_sum.ensures
 
 -- ---- normal_opened
 pub normal_opened-normal_within-requires : goal.normal_opened-normal_within-requires
@@ -140,9 +181,9 @@ normal_factor-returns-in_ok-part-in-Not-2 t c =
     (finished-bare_not c.args.u.now (neg last) c.in-Not-2.p last c.in-Not-2.is refl is) (subst (λ (u : U). InRoom c.args.room (IsFinishedPlain u) last) c.get-in-Not-2.ensures part.reached)))
     c.negated-in-Not-2.result c.negated-in-Not-2.ensures
 
--- ---- normal_parts
-pub normal_parts-normal_sum-requires : goal.normal_parts-normal_sum-requires
-normal_parts-normal_sum-requires t c =
+-- ---- sum_of_head
+pub sum_of_head-sum_of_parts-requires : goal.sum_of_head-sum_of_parts-requires
+sum_of_head-sum_of_parts-requires t c =
     let known = subst (λ (u : U). IsKnown 0 c.args.moves.outs u) c.in-Add.is c.requires.known in (
       omega (arith, c.decreases, head_sum-lighter c.args.u.now c.in-Add.a c.in-Add.b c.in-Add.is, ap load c.get.ensures, ap load c.get-in-Add.ensures),
       (
@@ -151,35 +192,45 @@ normal_parts-normal_sum-requires t c =
       ),
     )
 
-pub normal_parts-normal_body-requires : goal.normal_parts-normal_body-requires
-normal_parts-normal_body-requires t c = (
+pub sum_of_head-sum_of_body-requires : goal.sum_of_head-sum_of_body-requires
+sum_of_head-sum_of_body-requires t c = (
   omega (arith, c.decreases, head_body-lighter c.args.u.now c.in-Sum.f c.in-Sum.is, ap load c.get-in-Sum.ensures),
   subst (λ (u : U). IsKnown 1 c.args.moves.outs u) (sym c.get-in-Sum.ensures) (known-body c.args.moves.outs c.in-Sum.f (subst (λ (u : U). IsKnown 0 c.args.moves.outs u) c.in-Sum.is c.requires.known)),
 )
 
-pub normal_parts-normal_row-requires : goal.normal_parts-normal_row-requires
-normal_parts-normal_row-requires t c =
+pub sum_of_head-normal_row-requires : goal.sum_of_head-normal_row-requires
+sum_of_head-normal_row-requires t c =
     let tidy = tidy-at c.args.u.now c.requires.head c.in_default.not-Zero c.in_default.not-Add c.in_default.not-Sum in
     (omega (arith, c.decreases, row-load c.args.u.now tidy.row), (c.requires.known, tidy.row))
 
-pub normal_parts-in_block-requires : goal.normal_parts-in_block-requires
-normal_parts-in_block-requires t c = record {
+pub sum_of_head-in_block-requires : goal.sum_of_head-in_block-requires
+sum_of_head-in_block-requires t c = record {
   tidy = tidy-at c.args.u.now c.requires.head c.in_default.not-Zero c.in_default.not-Add c.in_default.not-Sum;
   row = c.in_ok-row-in_default.ensures {u = tt};
 }
 
-pub normal_parts-returns-in_ok-copied-in-Zero : goal.normal_parts-returns-in_ok-copied-in-Zero
-normal_parts-returns-in_ok-copied-in-Zero t c =
+pub sum_of_head-returns-in_ok-copied-in-Zero : goal.sum_of_head-returns-in_ok-copied-in-Zero
+sum_of_head-returns-in_ok-copied-in-Zero t c =
     let e : c.in_ok-copied-in-Zero.field-0 ≡ c.args.u.now = c.in_ok-copied-in-Zero.ensures {u = tt} in
     if-ok (IsFromTo c.args.moves.facts.now c.args.moves.outs c.in_ok-copied-in-Zero.field-0 c.in_ok-copied-in-Zero.field-0)
-    (Leads (InRoom c.args.room IsNormal) c.args.moves.facts.now c.args.moves.outs c.args.u.now)
-    (leads-to (InRoom c.args.room IsNormal) c.args.moves.facts.now c.args.moves.facts.now c.args.moves.outs c.args.moves.outs c.args.u.now c.in_ok-copied-in-Zero.field-0 c.in_ok-copied-in-Zero.field-0
-    refl refl e (within c.args.room IsNormal c.in_ok-copied-in-Zero.field-0 (subst (λ u. IsNormal u) (sym (e ∙ c.in-Zero.is)) zero-normal)))
+    (Leads (InRoom c.args.room IsBlockSum) c.args.moves.facts.now c.args.moves.outs c.args.u.now)
+    (leads-to (InRoom c.args.room IsBlockSum) c.args.moves.facts.now c.args.moves.facts.now c.args.moves.outs c.args.moves.outs c.args.u.now c.in_ok-copied-in-Zero.field-0 c.in_ok-copied-in-Zero.field-0
+    refl refl e (within c.args.room IsBlockSum c.in_ok-copied-in-Zero.field-0 (zero-blocks c.in_ok-copied-in-Zero.field-0 (e ∙ c.in-Zero.is))))
     c.still.result c.still.ensures
 
--- ---- normal_product
-pub normal_product-normal_parts-requires : goal.normal_product-normal_parts-requires
-normal_product-normal_parts-requires t c =
+-- ---- sum_of_product
+pub sum_of_product-nothing-requires : goal.sum_of_product-nothing-requires
+sum_of_product-nothing-requires t c = record { known = c.requires; vanishes = c.vanishes.ensures.0 c.if-vanishes.true }
+
+pub sum_of_product-returns-then-vanishes : goal.sum_of_product-returns-then-vanishes
+sum_of_product-returns-then-vanishes t c =
+    if-ok (IsFromTo c.args.moves.facts.now c.args.moves.outs c.args.u.now O) (Leads (InRoom c.args.room IsBlockSum) c.args.moves.facts.now c.args.moves.outs c.args.u.now)
+    (leads-to (InRoom c.args.room IsBlockSum) c.args.moves.facts.now c.args.moves.facts.now c.args.moves.outs c.args.moves.outs c.args.u.now c.args.u.now O
+    refl refl refl (within c.args.room IsBlockSum O (zero-blocks O refl)))
+    c.nothing.result c.nothing.ensures
+
+pub sum_of_product-sum_of_head-requires : goal.sum_of_product-sum_of_head-requires
+sum_of_product-sum_of_head-requires t c =
     let first = c.in_ok-first.ensures {u = tt} in
     let by : IsBy c.args.moves.facts.now c.args.moves.outs c.in_ok-first.first = record { facts = first.facts; outs = first.outs } in
     let e : c.to.result.now ≡ c.in_ok-first.first.to = c.to.ensures.lent ∙ ap (λ (d : Derivation). d.to) c.get.ensures in (
