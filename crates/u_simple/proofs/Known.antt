@@ -3,10 +3,10 @@ use Rattle.std.proofs.Common.{◌≡◌, ℕ, zero, suc, ◌+◌, ◌<◌, Bool,
 use Rattle.std.specs.Prelude.{nat_eq, IsPermutation}
 use Rattle.std.proofs.lemmas.Bool.Decides.{nat_tests}
 use Rattle.std.proofs.lemmas.List.Sorted.{IsPermutation-trans, IsPermutation-append_comm}
-use Rattle.u_terms.specs.Syntax.{U, Val, Bound, Free, Mul, Eq, constructors}
-use Rattle.u_terms.specs.Places.{IsClosed, IsClosedValue}
-use Rattle.u_terms.specs.Names.{EachName, EachNameValue, IsFreeBelowValue}
-use Rattle.u_terms.specs.Binding.{closed_at, mapped, mapped_value, place_for_name, same_place, sums}
+use Rattle.u_terms.specs.Syntax.{U, Val, Bound, Free, constructors}
+use Rattle.u_terms.specs.Places.{IsClosed}
+use Rattle.u_terms.specs.Names.{EachName, IsFreeBelowValue}
+use Rattle.u_terms.specs.Binding.{closed_at, mapped, place_for_name, same_place, sums}
 use Rattle.u_terms.proofs.Binding.{mapped_value-same}
 use Rattle.u_rules.specs.Terms.{◌⊗◌, ◌≐◌, I, S, mul_leaves}
 use Rattle.u_rules.proofs.LeavesAt.{mul_leaves-Mul}

@@ -1,3 +1,4 @@
+pub mod Bodies
 pub mod Order
 pub mod Passes
 pub mod Points

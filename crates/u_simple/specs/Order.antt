@@ -1,5 +1,5 @@
 -- Terms chosen from a list by their places.
-use Rattle.std.specs.Prelude.{ℕ, ◌<◌, List, [], ◌∷◌, map, slice_index_or, All}
+use Rattle.std.specs.Prelude.{ℕ, ◌<◌, List, map, slice_index_or, All}
 use Rattle.u_terms.specs.Syntax.{U}
 use Rattle.u_rules.specs.Terms.{O}
 use Rattle.u_simple.specs.declared.order.Place.{Place}

@@ -1,5 +1,5 @@
 -- Equalities that say what value a name has. Contracts of private functions alone cite this.
-use Rattle.std.specs.Prelude.{◌≡◌, ℕ, Bool, true, false}
+use Rattle.std.specs.Prelude.{ℕ, Bool, true, false}
 use Rattle.u_terms.specs.Names.{IsFreeBelowValue}
 use Rattle.u_terms.specs.Syntax.{U, Val}
 use Rattle.u_terms.specs.declared.term.Val.TheVariants as v

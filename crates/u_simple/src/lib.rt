@@ -1,6 +1,7 @@
 //! Terms made simpler to compare: sums that count one value are gone, and parts stand in an order of their own.
 #![tactic(auto)]
 
+mod bodies;
 mod order;
 mod passes;
 mod points;

@@ -10,7 +10,7 @@ ghost use Rattle.u_congruence.specs.Congruence.{IsBy, IsFromTo};
 ghost use Rattle.u_normal.specs.Taking.{Takes};
 ghost use Rattle.u_simple.specs.Passes.{IsFrom};
 ghost use Rattle.u_simple.specs.Points.{IsPoint};
-ghost use Rattle.u_simple.specs.Sums.{HasSums};
+ghost use Rattle.u_simple.specs.Sums.{HasSide, HasSums};
 
 use crate::NoMemory;
 use crate::steps::{equality, products_rearranged, turned_round};
@@ -281,7 +281,9 @@ fn behind(alloc: Global, a: &U, found: Point) -> Result<Point, NoMemory>
 }
 
 // Whether an equality inside so many sums has the place around them as a side.
-fn has_side(u: &U, count: u32) -> bool {
+fn has_side(u: &U, count: u32) -> bool
+    ensures { IsTrue result ↔ HasSide count u.now }
+{
     match u {
         U::Sum(f) => has_side(f.get(), count),
         U::Mul(a, b) => has_side(a.get(), count) || has_side(b.get(), count),

@@ -11,10 +11,24 @@ use crate::steps::{equality, products_rearranged, sums_rearranged, turned_round,
 use u_congruence::{Derived, joined, still};
 use u_moves::Moves;
 use u_rules::code_of;
-use u_terms::{Boxed, Val, same, same_value};
+use u_terms::{Boxed, U, Val, same, same_value};
 
-/// The lesser of both sides of an equality comes first. One of a value with itself becomes `1`.
-pub fn sorted_equality<'f>(moves: Moves<'f>, a: &Val, b: &Val) -> Result<Derived<'f>, NoMemory>
+/// The derivation, and then, where its last term is an equality, the lesser of its sides first. One of a value with itself becomes `1`.
+pub fn then_equality_in_order<'f>(moves: Moves<'f>, d: Derived<'f>) -> Result<Derived<'f>, NoMemory>
+    requires { IsBy moves.facts.now moves.outs d }
+    ensures { IfOk result (IsFrom moves.entry.facts.now moves.entry.outs d.entry.from) }
+{
+    match d.get().to() {
+        U::Eq(a, b) => {
+            let step = sorted_equality(moves, a, b)?;
+            joined(moves.alloc, d, step)
+        }
+        _ => Ok(d),
+    }
+}
+
+// The lesser of both sides of an equality comes first. One of a value with itself becomes `1`.
+fn sorted_equality<'f>(moves: Moves<'f>, a: &Val, b: &Val) -> Result<Derived<'f>, NoMemory>
     requires a { IsKnownValue moves.outs a.now }
     requires b { IsKnownValue moves.outs b.now }
     ensures { IfOk result (IsFrom moves.entry.facts.now moves.entry.outs (a.now ≐ b.now)) }

@@ -7,7 +7,7 @@ ghost use Rattle.u_moves.specs.Moving.{IsKnownValue};
 
 use crate::NoMemory;
 use std::alloc::Global;
-use u_congruence::{Derived, still};
+use u_congruence::Derived;
 use u_moves::Moves;
 use u_terms::{Boxed, U, Val};
 
@@ -69,13 +69,4 @@ pub fn equality(alloc: Global, a: &Val, b: &Val) -> Result<Boxed<U>, NoMemory>
     let a = a.copy(alloc)?;
     let b = b.copy(alloc)?;
     Boxed::new(alloc, U::Eq(a, b))
-}
-
-/// An equality stays.
-pub fn still_equality<'f>(moves: Moves<'f>, a: &Val, b: &Val) -> Result<Derived<'f>, NoMemory>
-    requires a { IsKnownValue moves.outs a.now }
-    requires b { IsKnownValue moves.outs b.now }
-    ensures { IfOk result (IsFromTo moves.entry.facts.now moves.entry.outs (a.now ≐ b.now) (a.now ≐ b.now)) }
-{
-    still(moves, equality(moves.alloc, a, b)?)
 }

@@ -1,13 +1,13 @@
 //! The sums over all values that a term begins with.
-ghost use Rattle.std.specs.Prelude.{◌≡◌, ◌≤◌, IfSome};
+ghost use Rattle.std.specs.Prelude.{◌≡◌, ◌+◌, ◌≤◌, MatchOption};
 ghost use Rattle.u_terms.specs.Binding.{sums};
-ghost use Rattle.u_simple.specs.Sums.{HasSums};
+ghost use Rattle.u_simple.specs.Sums.{HasAllSums, HasSums};
 
 use u_terms::U;
 
-/// How many sums over all values a term begins with, if these are not more than the most.
+/// How many sums over all values a term begins with. None where these are more than the most.
 pub fn sums_of(u: &U, most: u32) -> Option<u32>
-    ensures { IfSome result (λ count. HasSums count u.now × count ≤ most) }
+    ensures { MatchOption result (HasSums (most + 1) u.now) (λ count. HasAllSums count u.now × count ≤ most) }
 {
     match u {
         U::Sum(f) => match most.checked_sub(1) {

@@ -1,13 +1,14 @@
-use Rattle.std.proofs.Common.{◌≡◌, ℕ, ◌+◌, ap, sym, subst, ◌∙◌, arith}
-use Rattle.u_terms.specs.Syntax.{U}
-use Rattle.u_terms.specs.Size.{nodes}
+use Rattle.std.proofs.Common.{◌≡◌, ℕ, ◌+◌, List, ap, sym, subst, ◌∙◌, arith}
+use Rattle.u_terms.specs.Syntax.{U, Val}
+use Rattle.u_terms.specs.Size.{nodes, value_nodes}
 use Rattle.u_terms.specs.Binding.{closed_at, opened}
-use Rattle.u_terms.proofs.Sizes.{nodes-Add, nodes-Mul, nodes-Squash, nodes-Not, nodes-Sum}
+use Rattle.u_terms.proofs.Sizes.{nodes-Add, nodes-Mul, nodes-Squash, nodes-Not, nodes-Sum, nodes-Rel, nodes-Eq, nodes-Pred, nodes-Agg}
 use Rattle.u_rules.specs.Terms.{S}
 use Rattle.u_moves.specs.Derivations.{IsKnown}
 use Rattle.u_moves.proofs.Whole.{if-ok}
 use Rattle.u_normal.proofs.KnownParts.{known-left, known-right, known-factor_left, known-factor_right, known-squashed, known-negated, known-body, known-opened, body-again}
 use Rattle.u_normal.proofs.Nodes.{opened-nodes}
+use Rattle.u_normal.proofs.ValuesLed.{same-relation, same-predicate, same-function, same-aggregate, ahead-at, item-lighter, function-lighter, known-relation, known-predicate, known-function, known-aggregate, known-at}
 use Rattle.u_simple.specs.Passes.{IsFrom}
 use Rattle.u_simple.proofs.Known.{known-first, known-second}
 use Rattle.u_simple.proofs.passes.+passed.Goals as goal
@@ -50,11 +51,68 @@ passed-passed_body-requires t c = (
   subst (λ (u : U). IsKnown 1 c.args.moves.outs u) (sym c.get-in-Sum.ensures) (known-body c.args.moves.outs c.in-Sum.f (subst (λ (u : U). IsKnown 0 c.args.moves.outs u) c.in-Sum.is c.requires)),
 )
 
-pub passed-passed_equality-requires-clause-a : goal.passed-passed_equality-requires-clause-a
-passed-passed_equality-requires-clause-a t c = known-first c.args.moves.outs c.in-Eq.a c.in-Eq.b (subst (λ (u : U). IsKnown 0 c.args.moves.outs u) c.in-Eq.is c.requires)
+pub passed-passed_equality-requires : goal.passed-passed_equality-requires
+passed-passed_equality-requires t c =
+    let known = subst (λ (u : U). IsKnown 0 c.args.moves.outs u) c.in-Eq.is c.requires in (
+      omega (arith, c.decreases, ap nodes c.in-Eq.is, nodes-Eq c.in-Eq.a c.in-Eq.b),
+      (c.requires, (known-first c.args.moves.outs c.in-Eq.a c.in-Eq.b known, known-second c.args.moves.outs c.in-Eq.a c.in-Eq.b known)),
+    )
 
-pub passed-passed_equality-requires-clause-b : goal.passed-passed_equality-requires-clause-b
-passed-passed_equality-requires-clause-b t c = known-second c.args.moves.outs c.in-Eq.a c.in-Eq.b (subst (λ (u : U). IsKnown 0 c.args.moves.outs u) c.in-Eq.is c.requires)
+pub passed-passed_row-requires : goal.passed-passed_row-requires
+passed-passed_row-requires t c =
+    let vs : List Val = c.as_slice.result.now in
+    let is = same-relation c.args.u.now c.in-Rel.field-0 c.in-Rel.values vs c.in-Rel.is c.as_slice.ensures in (
+      omega (arith, c.decreases, ap nodes is, nodes-Rel c.in-Rel.field-0 vs),
+      (c.requires, known-relation c.args.moves.outs c.in-Rel.field-0 vs c.args.u.now is c.requires),
+    )
+
+pub passed-passed_row-requires-in-Pred : goal.passed-passed_row-requires-in-Pred
+passed-passed_row-requires-in-Pred t c =
+    let vs : List Val = c.as_slice-in-Pred.result.now in
+    let is = same-predicate c.args.u.now c.in-Pred.field-0 c.in-Pred.values vs c.in-Pred.is c.as_slice-in-Pred.ensures in (
+      omega (arith, c.decreases, ap nodes is, nodes-Pred c.in-Pred.field-0 vs),
+      (c.requires, known-predicate c.args.moves.outs c.in-Pred.field-0 vs c.args.u.now is c.requires),
+    )
+
+-- ---- values
+pub passed_row-passed_values-requires : goal.passed_row-passed_values-requires
+passed_row-passed_values-requires t c =
+    let whole = c.in_ok-whole.ensures {u = tt} in (omega (arith, c.decreases), (record { facts = whole.facts; outs = whole.outs }, c.requires.values))
+
+pub passed_equality-passed_value-requires : goal.passed_equality-passed_value-requires
+passed_equality-passed_value-requires t c =
+    let whole = c.in_ok-whole.ensures {u = tt} in (omega (arith, c.decreases), (record { facts = whole.facts; outs = whole.outs }, c.requires.a))
+
+pub passed_equality-passed_value-requires-2 : goal.passed_equality-passed_value-requires-2
+passed_equality-passed_value-requires-2 t c =
+    let half = c.in_ok-half.ensures {u = tt} in (omega (arith, c.decreases), (record { facts = half.facts; outs = half.outs }, c.requires.b))
+
+pub passed_values-passed_value-requires : goal.passed_values-passed_value-requires
+passed_values-passed_value-requires t c =
+    let vs : List Val = c.args.values.now in
+    let i : ℕ = c.loop-index.index in
+    let ahead = ahead-at vs i c.index-values-index.result c.loop-index-test.true c.index-values-index.is in (
+      omega (arith, c.decreases, item-lighter vs i c.index-values-index.result ahead),
+      (
+        record { facts = c.loop-index.invariant.facts; outs = c.loop-index.invariant.outs },
+        known-at c.args.moves.outs vs i c.index-values-index.result ahead c.requires.known,
+      ),
+    )
+
+pub passed_value-passed_values-requires : goal.passed_value-passed_values-requires
+passed_value-passed_values-requires t c =
+    let vs : List Val = c.as_slice-in-Fun.result.now in
+    let is = same-function c.args.value.now c.in-Fun.field-0 c.in-Fun.values vs c.in-Fun.is c.as_slice-in-Fun.ensures in (
+      omega (arith, c.decreases, function-lighter c.args.value.now c.in-Fun.field-0 vs is),
+      (c.requires.by, known-function c.args.moves.outs c.in-Fun.field-0 vs c.args.value.now is c.requires.known),
+    )
+
+pub passed_value-passed_opened-requires : goal.passed_value-passed_opened-requires
+passed_value-passed_opened-requires t c =
+    let is = same-aggregate c.args.value.now c.in-Agg.field-0 c.in-Agg.body c.get.result.now c.in-Agg.is c.get.ensures in (
+      omega (arith, c.decreases, ap value_nodes is, nodes-Agg c.in-Agg.field-0 c.get.result.now),
+      known-aggregate c.args.moves.outs c.in-Agg.field-0 c.get.result.now c.args.value.now is c.requires.known,
+    )
 
 pub passed_parts-passed_parts-requires : goal.passed_parts-passed_parts-requires
 passed_parts-passed_parts-requires t c = (

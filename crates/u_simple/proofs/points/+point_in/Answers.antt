@@ -1,4 +1,4 @@
-use Rattle.std.proofs.Common.{◌≡◌, refl, sym, subst}
+use Rattle.std.proofs.Common.{◌≡◌, refl, subst}
 use Rattle.std.specs.Prelude.{IfSome}
 use Rattle.u_terms.specs.Syntax.{U}
 use Rattle.u_rules.specs.Terms.{◌⊗◌}

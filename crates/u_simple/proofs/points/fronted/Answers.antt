@@ -1,6 +1,6 @@
-use Rattle.std.proofs.Common.{◌≡◌, ℕ, ◌+◌, Bool, true, false, ap, sym, subst, ◌∙◌}
+use Rattle.std.proofs.Common.{◌≡◌, ℕ, ◌+◌, Bool, true, sym, subst, ◌∙◌}
 use Rattle.u_terms.specs.Binding.{opened}
-use Rattle.u_terms.specs.Syntax.{U, Val, Free}
+use Rattle.u_terms.specs.Syntax.{U, Free}
 use Rattle.u_rules.specs.Terms.{◌⊗◌, ◌≐◌}
 use Rattle.u_moves.specs.Derivations.{IsKnown}
 use Rattle.u_normal.specs.Taking.{Takes}

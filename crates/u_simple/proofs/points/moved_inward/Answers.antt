@@ -1,6 +1,5 @@
-use Rattle.std.proofs.Common.{◌≡◌, ℕ, ◌+◌, ap, sym, subst, ◌∙◌, arith}
+use Rattle.std.proofs.Common.{◌≡◌, ◌+◌, ap, sym, subst, ◌∙◌}
 use Rattle.u_terms.specs.Syntax.{U}
-use Rattle.u_terms.specs.Binding.{sums}
 use Rattle.u_moves.specs.Derivations.{Derivation, IsKnown, IsSound}
 use Rattle.u_normal.proofs.KnownParts.{to-known}
 use Rattle.u_simple.proofs.Known.{known-inside}

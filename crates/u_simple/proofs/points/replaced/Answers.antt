@@ -1,8 +1,7 @@
-use Rattle.std.proofs.Common.{◌≡◌, ℕ, ◌+◌, ap, sym, subst, ◌∙◌}
+use Rattle.std.proofs.Common.{◌≡◌, ◌+◌, ap, ◌∙◌}
 use Rattle.u_terms.specs.Binding.{closed_at, opened}
 use Rattle.u_terms.specs.Syntax.{U}
 use Rattle.u_rules.specs.Terms.{S}
-use Rattle.u_moves.specs.Derivations.{IsKnown}
 use Rattle.u_moves.proofs.Whole.{if-ok}
 use Rattle.u_normal.proofs.KnownParts.{known-opened, rest-known, body-again}
 use Rattle.u_simple.specs.Passes.{IsFrom}
