@@ -1,10 +1,11 @@
 -- Values have one code only where they are one value, so what a table finds by codes is the value.
-use Rattle.std.proofs.Common.{◌≡◌, ℕ, Bool, true, false, List, [], ◌∷◌, ◌++◌, get_or, inl, inr, refl, ap, sym, ◌∙◌}
+use Rattle.std.proofs.Common.{◌≡◌, ℕ, ◌+◌, ◌≤◌, Bool, true, false, List, [], ◌∷◌, ◌++◌, length, get_or, inl, inr, refl, ap, sym, ◌∙◌, arith}
 use Rattle.std.specs.Prelude.{◌⊎◌, Option, Some, None, slice_get, unwrap_or, is_some, MatchOption, position, IsTrue, ◌↔◌}
 use Rattle.std.specs.List.{list_any, IsDistinct}
 use Rattle.indexmap.specs.IndexSet.{insert_key}
 use Rattle.std.specs.Cmp.Lexicographic.{bytes_decides}
 use Rattle.std.proofs.lemmas.Bool.{cases_Bool, true≢false}
+use Rattle.std.proofs.lemmas.List.{length_push}
 use Rattle.std.proofs.lemmas.List.Folds.{Any-from_list_any, list_any_at}
 use Rattle.std.proofs.lemmas.List.Quantifiers.{position-Some}
 use Rattle.std.proofs.lemmas.Map.Made.{AllPairs-from_IsDistinct}
@@ -91,4 +92,10 @@ module _ (keys : List Val) (key : Val) where
   inserted-only a has = elim (cases_Bool (list_any (same_code key) keys)) [
     | inl met ↦ inl (rw met at has)
     | inr not_met ↦ in-push keys key a (rw not_met at has)
+  ]
+
+  pub inserted-few : length (insert_key same_code keys key) ≤ length keys + 1
+  inserted-few = elim (cases_Bool (list_any (same_code key) keys)) [
+    | inl met ↦ rw met (omega arith)
+    | inr not_met ↦ rw not_met (omega (arith, length_push keys key))
   ]

@@ -17,6 +17,8 @@ pub mod Rounds
 pub mod LinkNumbers
 pub mod Ways
 pub mod Listed
+pub mod Nested
 pub mod Linked
+pub mod Routed
 pub mod Arguments
 pub mod Made

@@ -15,7 +15,7 @@ use Rattle.u_equal.specs.Gathering.{values_at}
 use Rattle.u_equal.specs.Standing.{IsIn}
 use Rattle.u_equal.specs.Joined.{FirstAt}
 use Rattle.u_equal.specs.Tables.{ArePlaces, IsCall}
-use Rattle.u_equal.proofs.KeyLaws.{inserted-has, inserted-keeps, inserted-only}
+use Rattle.u_equal.proofs.KeyLaws.{inserted-has, inserted-keeps, inserted-only, inserted-few}
 
 -- ---- what references lead to
 pub item-here : {B X : Type 0} (now : B → X) (refs : List B) (i : ℕ) (r : B) → i < length refs → r ≡ get_or refs i r → slice_get (map now refs) i ≡ Some (now r)
@@ -60,6 +60,9 @@ module _ (standing : List (Bor Val)) (i : ℕ) (r : Bor Val) (within : i < lengt
     | inl before ↦ done a before
     | inr last ↦ subst (λ (x : Val). IsIn x (values_at standing)) (sym last) (record { place = i; here = item-here (λ (b : Bor Val). b.now) standing i r within is })
   ]
+
+  pub table-few : length keys ≤ i → length after ≤ i + 1
+  table-few few = omega (arith, few, ap length inserted, inserted-few keys r.now)
 
 -- ---- places
 pub places-none : (values : List Val) (places : List ℕ) → places ≡ [] → ArePlaces values [] places

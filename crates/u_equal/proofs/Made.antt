@@ -13,6 +13,7 @@ use Rattle.u_equal.specs.Standing.{standing, IsIn}
 use Rattle.u_equal.specs.Joined.{label_now, Same, seen, State, IsState, IsTree, HasReason, AreEdges, AreClasses, IsFresh, JoinsFactors, IsProgress, HoldsCalls, HoldsGiven}
 use Rattle.u_equal.specs.Links.{HasNoCall, is_equality}
 use Rattle.u_equal.specs.Tables.{AreValuesOf, HasArguments, HasSides}
+use Rattle.u_equal.proofs.Reaches.{fewer-edges}
 use Rattle.u_equal.proofs.Relabelled.{same-coarser}
 use Rattle.u_equal.proofs.Arguments.{standing-has, sides-stand}
 
@@ -80,4 +81,5 @@ module _ (product : U) (values : List Val) (s t w : Forest) (table : AreValuesOf
     given = given-now;
     calls = λ a b a_in b_in are. closed a b (in-w a a_in) (in-w b b_in) are;
     few = few-now;
+    narrow = omega (arith, fewer-edges (seen w) progress.state, ap length w-values, table.few);
   }

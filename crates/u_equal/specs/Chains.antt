@@ -9,7 +9,7 @@ use Rattle.u_equal.specs.declared.chains.Part.{Part}
 use Rattle.u_equal.specs.declared.chains.Part.TheVariants.{Found, Open}
 use Rattle.u_equal.specs.declared.link.Link.{Link}
 use Rattle.u_equal.specs.Standing.{standing}
-use Rattle.u_equal.specs.Links.{Leads, LeadsEach}
+use Rattle.u_equal.specs.Links.{Leads, LeadsEach, Nests}
 use Rattle.u_equal.specs.Joined.{State, AreEdges, edge_at, label_at, reach}
 use Rattle.u_equal.specs.LinkCounts.{links_between, links_of_hops, links_of_part, links_of_parts}
 
@@ -105,6 +105,10 @@ abbrev pub LinksHop : State → Hop → Link → Type 0
 LinksHop s hop link = (product : U) → HoldsEdges s product → (a b : Val)
     → slice_get s.values (near (edge_at s.edges hop.time) hop.turned) ≡ Some a → slice_get s.values (far (edge_at s.edges hop.time) hop.turned) ≡ Some b
     → Leads product a (link ∷ []) b
+
+-- of an edge of this time: the calls in it are those of earlier edges
+abbrev pub NestsFrom : ℕ → Link → Type 0
+NestsFrom time link = (n : ℕ) → time < n → Nests n (link ∷ [])
 
 -- a link for each step
 abbrev pub LinksHops : State → List Hop → List Link → Type 0

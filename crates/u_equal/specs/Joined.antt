@@ -158,6 +158,7 @@ pub record AreClasses (product : U) (forest : Forest) : Type 0 where
   pub given : HoldsGiven (mul_leaves product) forest.values.keys (label_now (seen forest))
   pub calls : HoldsCalls (standing product) forest.values.keys (label_now (seen forest))
   pub few : HasNoCall (standing product) → length forest.edges.items ≤ count_by is_equality (mul_leaves product)
+  pub narrow : length forest.edges.items ≤ length (standing product)
 
 -- ---- moves
 abbrev pub pushed : State → Edge → State

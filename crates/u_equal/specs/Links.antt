@@ -1,5 +1,5 @@
 -- What links lead to, and what a chain of them is.
-use Rattle.std.specs.Prelude.{ℕ, ◌+◌, ◌-◌, ◌^◌, ◌≤◌, min, Bool, true, false, List, [], ◌∷◌, Option, Some, None, length, count_by}
+use Rattle.std.specs.Prelude.{ℕ, ◌+◌, ◌-◌, ◌^◌, ◌<◌, ◌≤◌, min, Bool, true, false, List, [], ◌∷◌, Option, Some, None, length, count_by}
 use Rattle.u_terms.specs.Syntax.{U, Val, Eq}
 use Rattle.u_terms.specs.declared.term.Val.TheVariants as v
 use Rattle.u_equal.specs.declared.link.Link.{Link}
@@ -41,6 +41,18 @@ mutual
 abbrev pub told : ℕ → ℕ
 told n = min n (2 ^ 64 - 1)
 
+-- ---- how deep
+mutual
+  -- calls are in calls at most so deep
+  pub data Nests : ℕ → List Link → Type 0 where
+    no_depth : (n : ℕ) → Nests n []
+    given_within : (n factor : ℕ) (turned : Bool) (rest : List Link) → Nests n rest → Nests n (link.Given factor turned ∷ rest)
+    call_within : (m n : ℕ) (pairs : List (List Link)) (rest : List Link) → m < n → NestsEach m pairs → Nests n rest → Nests n (link.Call pairs ∷ rest)
+
+  pub data NestsEach : ℕ → List (List Link) → Type 0 where
+    no_lists : (n : ℕ) → NestsEach n []
+    lists_within : (n : ℕ) (links : List Link) (pairs : List (List Link)) → Nests n links → NestsEach n pairs → NestsEach n (links ∷ pairs)
+
 -- ---- chains
 abbrev pub is_equality : U → Bool
 is_equality (Eq a b) = true
@@ -49,8 +61,9 @@ is_equality _ = false
 abbrev pub HasNoCall : List Val → Type 0
 HasNoCall values = (f : ℕ) (xs : List Val) → IsIn (v.Fun f xs) values → ⊥
 
--- Links that lead from a to b, at most as many as the product has equalities where no call stands in it; or none, where it does not entail
--- that they are equal.
+-- Links that lead from a to b, at most as many as the product has equalities where no call stands in it, with calls in calls at most as deep
+-- as it has values; or none, where it does not entail that they are equal.
 abbrev pub IsChain : U → Val → Val → Option (List Link) → Type 0
 IsChain product a b None = Entails product a b → ⊥
-IsChain product a b (Some links) = Leads product a links b × (HasNoCall (standing product) → length links ≤ count_by is_equality (mul_leaves product))
+IsChain product a b (Some links) =
+    Leads product a links b × (HasNoCall (standing product) → length links ≤ count_by is_equality (mul_leaves product)) × Nests (length (standing product)) links

@@ -10,10 +10,11 @@ use Rattle.u_terms.specs.Syntax.{U}
 use Rattle.u_rules.specs.Terms.{◌≐◌}
 use Rattle.u_equal.specs.Joined.{FirstAt, State, label_at, label_now, IsProgress}
 
--- both lists have the same values
+-- both lists have the same values, and the second one no more of them
 pub record AreValuesOf (standing values : List Val) : Type 0 where
   pub all : (a : Val) → IsIn a standing → IsIn a values
   pub only : (a : Val) → IsIn a values → IsIn a standing
+  pub few : length values ≤ length standing
 
 -- the sides of the equalities among the factors
 abbrev pub HasSides : List U → List Val → Type 0

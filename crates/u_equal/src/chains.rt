@@ -2,9 +2,9 @@
 //! links are found by going back in time.
 ghost use Rattle.std.specs.Prelude.{◌≡◌, ◌<◌, ◌≤◌, [], ◌∷◌, IfOk, OnOk, Some, length, slice_get};
 ghost use Rattle.u_equal.specs.Joined.{AreCalls, IsState, IsTree, Same, SameEach, edge_at, label_at, seen};
-ghost use Rattle.u_equal.specs.Links.{HasCount, HasCountEach};
+ghost use Rattle.u_equal.specs.Links.{HasCount, HasCountEach, Nests, NestsEach};
 ghost use Rattle.u_equal.specs.LinkCounts.{arguments, links_between, links_of_edge, links_of_hops, links_of_values, sum_of_pairs};
-ghost use Rattle.u_equal.specs.Chains.{IsPart, IsPath, IsSound, LinksCalls, LinksEach, LinksHop, LinksValues, Meets, Parts, Walks, far, near};
+ghost use Rattle.u_equal.specs.Chains.{IsPart, IsPath, IsSound, LinksCalls, LinksEach, LinksHop, LinksValues, Meets, NestsFrom, Parts, Walks, far, near};
 
 use crate::NoMemory;
 use crate::forest::{Forest, Reason};
@@ -34,6 +34,7 @@ impl<'a> Forest<'a> {
         requires same { Same self.now.values.keys (label_at self.now.edges.items (length self.now.edges.items)) a.now b.now }
         ensures leads { IfOk result (λ links. LinksValues (seen self.now) (length self.now.edges.items) a.now b.now links) }
         ensures counted { IfOk result (λ links. HasCount links (links_of_values (seen self.now) (length self.now.edges.items) a.now b.now)) }
+        ensures nested { IfOk result (λ links. Nests (length self.now.edges.items) links) }
     {
         self.value_links(alloc, self.edges.len(), a, b)
     }
@@ -53,6 +54,7 @@ impl<'a> Forest<'a> {
         requires same { Same self.now.values.keys (label_at self.now.edges.items upto) a.now b.now }
         ensures leads { IfOk result (λ links. LinksValues (seen self.now) upto a.now b.now links) }
         ensures counted { IfOk result (λ links. HasCount links (links_of_values (seen self.now) upto a.now b.now)) }
+        ensures nested { IfOk result (λ links. Nests upto links) }
     {
         if same_value(a, b) {
             return Ok(List::new(alloc));
@@ -75,6 +77,7 @@ impl<'a> Forest<'a> {
         requires within { hop.time < length self.now.edges.items }
         ensures leads { IfOk result (λ link. LinksHop (seen self.now) hop link) }
         ensures counted { IfOk result (λ link. HasCount (link ∷ []) (links_of_edge (seen self.now) hop.time)) }
+        ensures nested { IfOk result (λ link. NestsFrom hop.time link) }
     {
         match self.edges[hop.time].reason {
             Reason::Given { factor, turned } => Ok(Link::Given {
@@ -105,6 +108,7 @@ impl<'a> Forest<'a> {
         requires calls { AreCalls self.now.values.keys (label_at self.now.edges.items upto) a.now b.now }
         ensures leads { IfOk result (λ pairs. LinksCalls (seen self.now) a.now b.now pairs) }
         ensures counted { IfOk result (λ pairs. HasCountEach pairs (sum_of_pairs (links_of_values (seen self.now) upto) (arguments a.now) (arguments b.now))) }
+        ensures nested { IfOk result (λ pairs. NestsEach upto pairs) }
     {
         match (a, b) {
             (Val::Fun(_, xs), Val::Fun(_, ys)) => {
@@ -129,6 +133,7 @@ impl<'a> Forest<'a> {
         requires same { SameEach self.now.values.keys (label_at self.now.edges.items upto) xs.now ys.now }
         ensures leads { IfOk result (λ pairs. LinksEach (seen self.now) xs.now ys.now pairs) }
         ensures counted { IfOk result (λ pairs. HasCountEach pairs (sum_of_pairs (links_of_values (seen self.now) upto) xs.now ys.now)) }
+        ensures nested { IfOk result (λ pairs. NestsEach upto pairs) }
     {
         let mut pairs = Vec::with_capacity(alloc, xs.len())?;
         for (i, x) in xs.iter().enumerate() {

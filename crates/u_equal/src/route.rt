@@ -1,6 +1,8 @@
 //! Chains that are counted and not made yet.
-ghost use Rattle.std.specs.Prelude.{◌≡◌, IfOk, Some};
-ghost use Rattle.u_equal.specs.Links.{IsChain};
+ghost use Rattle.std.specs.Prelude.{◌≡◌, ◌≤◌, IfOk, Some, count_by};
+ghost use Rattle.u_rules.specs.Terms.{mul_leaves};
+ghost use Rattle.u_equal.specs.Links.{HasNoCall, IsChain, is_equality};
+ghost use Rattle.u_equal.specs.Standing.{standing};
 ghost use Rattle.u_equal.specs.Joined.{AreClasses, AreSame, seen};
 ghost use Rattle.u_equal.specs.Routes.{AreCounted, IsWithin};
 
@@ -64,7 +66,8 @@ impl<'c, 'a> Route<'c, 'a> {
 
     /// How many links the chain has, those of arguments of calls too, or `u64::MAX` where there are more.
     pub fn links(&self) -> u64
-        ensures { result ≡ self.now.links }
+        ensures is { result ≡ self.now.links }
+        ensures few { HasNoCall (standing self.now.product) → result ≤ count_by is_equality (mul_leaves self.now.product) }
     {
         self.links
     }

@@ -1,9 +1,10 @@
-use Rattle.std.proofs.Common.{sym, subst, ◌∙◌, arith}
+use Rattle.std.proofs.Common.{sym, subst, ◌∙◌}
 use Rattle.std.specs.Prelude.{Some, None}
 use Rattle.std.proofs.lemmas.Bool.{true≢false}
 use Rattle.u_terms.specs.Syntax.{U}
 use Rattle.u_equal.specs.Links.{IsChain}
 use Rattle.u_equal.proofs.Answered.{classes-complete}
+use Rattle.u_equal.proofs.Routed.{chain-of}
 use Rattle.u_equal.proofs.classes.Classes.chain.Goals as goal
 
 pub returns-then-not-are_same : goal.returns-then-not-are_same
@@ -13,6 +14,5 @@ returns-then-not-are_same c =
 
 pub returns : goal.returns
 returns c =
-    let h = c.in_ok-links.ensures.leads in
     subst (λ (product : U). IsChain product c.args.a.now c.args.b.now (Some c.in_ok-links.field-0)) c.self.view_is
-    (h.leads c.self.inside.product.now c.self.invariant.edges_hold, λ none. let few = c.self.invariant.few none in omega (arith, h.short, few))
+    (chain-of c.self.inside.product.now c.self.inside.forest c.self.invariant c.args.a.now c.args.b.now c.in_ok-links.field-0 c.in_ok-links.ensures.leads c.in_ok-links.ensures.nested)

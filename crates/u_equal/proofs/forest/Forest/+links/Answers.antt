@@ -5,7 +5,7 @@ use Rattle.std.proofs.lemmas.Option.{slice_get-get_or, slice_get_read}
 use Rattle.u_equal.specs.declared.forest.Edge.{Edge}
 use Rattle.u_equal.specs.declared.chains.Hop.{Hop}
 use Rattle.u_equal.specs.declared.link.Link.{Link}
-use Rattle.u_equal.specs.Links.{LeadsEach, no_pair, HasCount, HasCountEach, nothing, no_list}
+use Rattle.u_equal.specs.Links.{LeadsEach, no_pair, HasCount, HasCountEach, nothing, no_list, Nests, NestsEach, no_depth, no_lists}
 use Rattle.u_terms.specs.Syntax.{Val}
 use Rattle.u_terms.specs.declared.term.Val.TheVariants as v
 use Rattle.std.proofs.lemmas.Result.{IfOk-weaker}
@@ -15,6 +15,7 @@ use Rattle.u_equal.specs.Chains.{LinksHops}
 use Rattle.u_equal.proofs.Ways.{edge-read}
 use Rattle.u_equal.proofs.Linked.{way-each, links-of, leads-same, hops-none, hops-more, given-hop, called-hop, calls-hop, given-count, called-count, count-found, each-more}
 use Rattle.u_equal.proofs.LinkNumbers.{links-same, links-at, same-taken, pairs-counted, hops-counted}
+use Rattle.u_equal.proofs.Nested.{given-nests, call-nests, links-nest, pairs-nest}
 use Rattle.u_equal.proofs.forest.Forest.+links.Goals as goal
 
 -- ---- link
@@ -69,6 +70,12 @@ link-returns-in_ok-pairs-in-Called-clause-leads t c =
     called-hop s c.args.hop c.requires.within c.value_at-near.result.now c.value_at-far.result.now c.in_ok-pairs-in-Called.pairs (ap (λ (e : Edge). e.reason) is ∙ c.in-Called.is) at_near at_far
     c.in_ok-pairs-in-Called.ensures.leads
 
+pub link-returns-in-Given-clause-nested : goal.link-returns-in-Given-clause-nested
+link-returns-in-Given-clause-nested t c = given-nests c.args.hop.time c.in-Given.factor _
+
+pub link-returns-in_ok-pairs-in-Called-clause-nested : goal.link-returns-in_ok-pairs-in-Called-clause-nested
+link-returns-in_ok-pairs-in-Called-clause-nested t c = call-nests c.args.hop.time c.in_ok-pairs-in-Called.pairs c.in_ok-pairs-in-Called.ensures.nested
+
 -- ---- call_links
 pub call_links-returns-in-Fun-Fun-clause-counted : goal.call_links-returns-in-Fun-Fun-clause-counted
 call_links-returns-in-Fun-Fun-clause-counted t c =
@@ -85,6 +92,7 @@ pair_links-loop-i-init t c = record {
   long = c.requires.same.long;
   each = λ product hold. subst (λ ps. LeadsEach product [] ps []) (sym c.in_ok-pairs.ensures.items) no_pair;
   counted = subst (λ ps. HasCountEach ps 0) (sym c.in_ok-pairs.ensures.items) no_list;
+  nested = subst (λ ps. NestsEach c.args.upto ps) (sym c.in_ok-pairs.ensures.items) (no_lists c.args.upto);
 }
 
 pub pair_links-value_links-requires : goal.pair_links-value_links-requires
@@ -124,6 +132,7 @@ pair_links-loop-i-preserved t c =
       counted = pairs-counted (links_of_values (seen c.args.self.now) c.args.upto) (take c.loop-i.i c.args.xs.now) (take c.loop-i.i c.args.ys.now) (take (c.loop-i.i + 1) c.args.xs.now) (take (c.loop-i.i + 1) c.args.ys.now) x y
           c.loop-i.pairs.items c.push.new.self.items c.in_ok-value_links.field-0 more_x more_y (same-taken c.loop-i.i c.args.xs.now c.args.ys.now c.loop-i.invariant.long) c.in_ok-push.ensures.items
           c.loop-i.invariant.counted c.in_ok-value_links.ensures.counted;
+      nested = pairs-nest c.args.upto c.loop-i.pairs.items c.push.new.self.items c.in_ok-value_links.field-0 c.in_ok-push.ensures.items c.loop-i.invariant.nested c.in_ok-value_links.ensures.nested;
     }
 
 pub pair_links-returns-clause-counted : goal.pair_links-returns-clause-counted
@@ -132,6 +141,9 @@ pair_links-returns-clause-counted t c =
     subst (λ as'. HasCountEach c.from_vec.result (sum_of_pairs f as' c.args.ys.now)) (take_all c.loop-i.i c.args.xs.now (omega arith))
     (subst (λ bs. HasCountEach c.from_vec.result (sum_of_pairs f (take c.loop-i.i c.args.xs.now) bs)) (take_all c.loop-i.i c.args.ys.now (omega (arith, c.loop-i.invariant.long)))
     (subst (λ ps. HasCountEach ps (sum_of_pairs f (take c.loop-i.i c.args.xs.now) (take c.loop-i.i c.args.ys.now))) (sym c.from_vec.ensures) c.loop-i.invariant.counted))
+
+pub pair_links-returns-clause-nested : goal.pair_links-returns-clause-nested
+pair_links-returns-clause-nested t c = subst (λ ps. NestsEach c.args.upto ps) (sym c.from_vec.ensures) c.loop-i.invariant.nested
 
 pub pair_links-returns-clause-leads : goal.pair_links-returns-clause-leads
 pair_links-returns-clause-leads t c = λ product hold.
@@ -148,6 +160,9 @@ value_links-returns-then-same_value-clause-counted t c =
 pub value_links-returns-then-same_value-clause-leads : goal.value_links-returns-then-same_value-clause-leads
 value_links-returns-then-same_value-clause-leads t c =
     leads-same (seen c.args.self.now) c.args.upto c.args.a.now c.args.b.now c.new.result (c.same_value.ensures.0 c.if-same_value.true) c.new.ensures
+
+pub value_links-returns-then-same_value-clause-nested : goal.value_links-returns-then-same_value-clause-nested
+value_links-returns-then-same_value-clause-nested t c = subst (λ (ls : List Link). Nests c.args.upto ls) (sym c.new.ensures) (no_depth c.args.upto)
 
 pub value_links-link-requires : goal.value_links-link-requires
 value_links-link-requires t c =
@@ -168,6 +183,7 @@ pub value_links-loop-hop-init : goal.value_links-loop-hop-init
 value_links-loop-hop-init t c = record {
   links = hops-none (seen c.args.self.now) c.in_ok-links.links.items c.in_ok-links.ensures.items;
   counted = subst (λ (ls : List Link). HasCount ls 0) (sym c.in_ok-links.ensures.items) nothing;
+  nested = subst (λ (ls : List Link). Nests c.args.upto ls) (sym c.in_ok-links.ensures.items) (no_depth c.args.upto);
 }
 
 pub value_links-loop-hop-preserved : goal.value_links-loop-hop-preserved
@@ -181,6 +197,12 @@ value_links-loop-hop-preserved t c =
       links = subst (λ (hs : List Hop). LinksHops s hs c.push.new.self.items) (sym more)
           (hops-more s (take i hops) c.loop-hop.links.items c.push.new.self.items hop c.in_ok-link.field-0 c.loop-hop.invariant.links c.in_ok-link.ensures.leads c.in_ok-push.ensures.items);
       counted = hops-counted s (take i hops) (take (i + 1) hops) hop c.loop-hop.links.items c.push.new.self.items c.in_ok-link.field-0 more c.in_ok-push.ensures.items c.loop-hop.invariant.counted c.in_ok-link.ensures.counted;
+      nested =
+          let read = c.as_slice-hop-items.ensures.value in
+          let within : i < length hops = omega arith in
+          let at = subst (λ (hs : List Hop). slice_get hs i ≡ Some hop) read (slice_get-get_or hops i (record { time = 0; turned = false }) within) in
+          let early = way-each s.edges c.args.upto c.place_of-from.result c.place_of-to.result c.in_ok-hops.hops.items c.in_ok-hops.ensures.way i hop at in
+          links-nest c.args.upto c.loop-hop.links.items c.push.new.self.items c.in_ok-link.field-0 c.in_ok-push.ensures.items c.loop-hop.invariant.nested (c.in_ok-link.ensures.nested c.args.upto early);
     }
 
 pub value_links-returns-clause-counted : goal.value_links-returns-clause-counted
@@ -191,6 +213,9 @@ value_links-returns-clause-counted t c =
     let is = ap (links_of_hops s) all ∙ c.in_ok-hops.ensures.counted ∙ sym (links-at s c.args.upto c.args.a.now c.args.b.now c.place_of-from.result c.place_of-to.result c.place_of-from.ensures.first c.place_of-to.ensures.first) in
     subst (λ (ls : List Link). HasCount ls (links_of_values s c.args.upto c.args.a.now c.args.b.now)) (sym c.from_vec.ensures)
     (subst (λ n. HasCount c.loop-hop.links.items n) is c.loop-hop.invariant.counted)
+
+pub value_links-returns-clause-nested : goal.value_links-returns-clause-nested
+value_links-returns-clause-nested t c = subst (λ (ls : List Link). Nests c.args.upto ls) (sym c.from_vec.ensures) c.loop-hop.invariant.nested
 
 pub value_links-returns-clause-leads : goal.value_links-returns-clause-leads
 value_links-returns-clause-leads t c =
