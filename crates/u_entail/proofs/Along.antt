@@ -1,28 +1,28 @@
 -- An equality behind the factors, along a chain that was counted.
-use Rattle.std.proofs.Common.{◌≡◌, ℕ, ◌+◌, ◌-◌, ◌^◌, ◌<◌, ◌≤◌, List, [], ◌∷◌, ◌++◌, Some, length, refl, ap, sym, ◌∙◌, subst, arith}
-use Rattle.std.specs.Prelude.{min}
+use Rattle.std.proofs.Common.{◌≡◌, ℕ, ◌+◌, ◌-◌, ◌^◌, ◌<◌, ◌≤◌, List, Some, length, refl, subst, arith}
 use Rattle.u_terms.specs.Syntax.{U, Val}
 use Rattle.u_terms.specs.declared.facts.Facts.{Facts}
 use Rattle.u_rules.specs.Terms.{◌≐◌}
 use Rattle.u_moves.specs.Derivations.{Derivation}
 use Rattle.u_moves.specs.Moving.{IsKnownValue}
 use Rattle.u_equal.specs.declared.link.Link.{Link}
-use Rattle.u_equal.specs.Links.{HasCount, IsChain, told}
+use Rattle.u_equal.specs.Links.{IsChain}
 use Rattle.u_equal.specs.Routes.{Course, AreCounted}
+use Rattle.u_equal.specs.Standing.{standing}
 use Rattle.u_entail.specs.Sides.{LeadsBy}
-use Rattle.u_entail.specs.Spots.{here, at_right}
-use Rattle.u_entail.specs.Hops.{AreHops, HopsLead, Lead}
+use Rattle.u_entail.specs.Hops.{AreHops, Lead}
 use Rattle.u_entail.specs.Gaining.{right_side, Appends, Begins}
 use Rattle.u_entail.specs.Appending.{AppendsAlong, IsAppendedBy}
 use Rattle.u_entail.specs.declared.hops.Hop.{Hop}
 use Rattle.u_entail.proofs.Chained.{appends}
+use Rattle.u_entail.proofs.Gained.{hops-small, small-lead}
 use Rattle.u_entail.proofs.Leading.{leads-by}
 
-pub chain-by : (product : U) (factors : List U) → Begins product factors → (a b : Val) (links : List Link) → IsChain product a b (Some links) → LeadsBy factors a links b
-chain-by product factors begins a b links chain = leads-by product factors begins.rest begins.is a b links chain.0
+pub chain-by : (product : U) (factors : List U) → Begins product factors → (a b : Val) (links : List Link) → IsChain product a b (Some links) → LeadsBy factors (length (standing product)) a links b
+chain-by product factors begins a b links chain = leads-by product factors begins.rest begins.is (length (standing product)) a b links chain.0 chain.2
 
-pub lead-of : (factors : List U) (a : Val) (links : List Link) → ((b : Val) × LeadsBy factors a links b) → (hops : List Hop) → AreHops right_side links hops → Lead factors (a ≐ a) hops
-lead-of factors a links leads hops are = record { to = a ≐ leads.0; by = are.lead factors a leads.0 leads.1 (at_right a here) refl }
+pub lead-of : (factors : List U) (a : Val) (links : List Link) → ((n : ℕ) × (b : Val) × LeadsBy factors n a links b) → (hops : List Hop) → AreHops right_side links hops → Lead factors (a ≐ a) hops
+lead-of factors a links leads hops are = record { to = a ≐ leads.1; by = small-lead factors leads.0 a leads.1 hops (hops-small factors leads.0 a leads.1 links leads.2 hops are) }
 
 module _ (facts : Facts) (outs : ℕ) (product : U) (factors : List U) (begins : Begins product factors) (a b : Val) (known : IsKnownValue outs a) (links : List Link) (chain : IsChain product a b (Some links))
     (d : Derivation) (h : IsAppendedBy facts outs factors a links d) where
@@ -46,6 +46,6 @@ along facts outs course factors begins a b known from to links chain counted d h
     }
 
 pub course-by : (course : Course) (factors : List U) → Begins course.product factors → (a b : Val) → course.from ≡ a → course.to ≡ b → (links : List Link) → IsChain course.product course.from course.to (Some links)
-    → LeadsBy factors a links b
+    → LeadsBy factors (length (standing course.product)) a links b
 course-by course factors begins a b from to links chain =
     chain-by course.product factors begins a b links (subst (λ (x : Val). IsChain course.product x b (Some links)) from (subst (λ (y : Val). IsChain course.product course.from y (Some links)) to chain))

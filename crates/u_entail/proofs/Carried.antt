@@ -1,23 +1,34 @@
--- What the hops of points say of the marks that they are points of.
-use Rattle.std.proofs.Common.{◌≡◌, ℕ, suc, ◌+◌, ◌*◌, ◌≤◌, Bool, true, false, List, [], ◌∷◌, ◌++◌, Option, Some, None, length, append_assoc, refl, ap, sym, ◌∙◌, subst, arith}
-use Rattle.std.specs.Prelude.{count_by}
+-- What the points of marks say of the marks, and the hops along the chains of points.
+use Rattle.std.proofs.Common.{◌≡◌, ℕ, suc, ◌+◌, ◌*◌, ◌≤◌, max, Bool, true, false, List, [], ◌∷◌, ◌++◌, Option, Some, length, append_assoc, refl, ap, sym, ◌∙◌, subst, arith}
+use Rattle.std.specs.Prelude.{MatchOption, count_by}
 use Rattle.std.proofs.lemmas.List.{append-nil, length-append}
+use Rattle.std.proofs.lemmas.List.Sums.{sum_by-cons, sum_by-append}
+use Rattle.u_terms.specs.Size.{nodes, depth, value_nodes, list_nodes, list_depth}
 use Rattle.u_terms.specs.Syntax.{U, Val, constructors, row_of}
 use Rattle.u_terms.specs.declared.term.U.TheVariants as u
+use Rattle.u_terms.specs.declared.term.Val.TheVariants as v
 use Rattle.u_terms.proofs.Parts.{parts-Not, parts-Pred}
-use Rattle.u_rules.specs.Terms.{◌≐◌, P, neg, mul_leaves}
+use Rattle.u_terms.proofs.Sizes.{nodes-Eq, nodes-Not, nodes-One, nodes-Pred, depth-Eq, depth-Not, depth-One, depth-Pred, list_depth-cons}
+use Rattle.u_rules.specs.Terms.{◌≐◌, I, P, neg, mul_leaves}
+use Rattle.u_moves.specs.Derivations.{IsWithin}
 use Rattle.u_equal.specs.declared.link.Link.{Link}
 use Rattle.u_equal.specs.Entails.{Entails, EntailsEach, none, more}
 use Rattle.u_equal.specs.LinkCounts.{row_values}
-use Rattle.u_equal.specs.Links.{Leads, LeadsEach, no_pair, pair, HasCount, HasCountEach, no_list, list_more, IsChain, is_equality}
+use Rattle.u_equal.specs.Links.{LeadsEach, no_pair, pair, HasCount, HasCountEach, list_more, HasNoCall, IsChain, NestsEach, no_lists, lists_within, is_equality}
+use Rattle.u_equal.specs.Routes.{Course, IsFrom}
+use Rattle.u_equal.specs.Standing.{standing}
 use Rattle.u_entail.specs.Gaining.{Begins}
+use Rattle.u_entail.specs.Small.{AreSmall, IsSmall}
+use Rattle.u_entail.specs.Spines.{spine}
 use Rattle.u_entail.specs.Spots.{Spot, here, in_predicate, at_left, at_right, in_negation, filled, way}
-use Rattle.u_entail.specs.Hops.{AreHops, HopLeads, HopsLead, arrived, hopped, PushesHops}
-use Rattle.u_entail.specs.Carrying.{points, Carries, holds, equal, fails, CarriesBy, PushesMark, IsPushed, PointsBy, PushesPoints, ArePushed, PushesPoint, IsPointPushed}
+use Rattle.u_entail.specs.Hops.{AreHops, StayWithin, stays}
+use Rattle.u_entail.specs.Carrying as spec
+use Rattle.u_entail.specs.Carrying.{points, Carries, holds, equal, fails, Follows, straight, exchanged, Form, predicate, equality, negation, mark_of, Fits, AreCourses, no_course, course_more, LeadsMark, LeadsExchanged, PushesCourses, AreRouted, IsRouted, PushesMark, IsMarkRouted, PushesExchanged, IsExchangedRouted, IsDifferenceRouted, HavePoints, PointsBy, AlongCourses, PushesRoute, CarriesBy, links_of}
 use Rattle.u_entail.specs.declared.hops.Hop.{Hop}
-use Rattle.u_entail.proofs.Flat.{hops-append}
-use Rattle.u_entail.proofs.Leading.{leads-entail, leads-by, leads-given, count-given}
+use Rattle.u_entail.proofs.Flat.{stay-append}
+use Rattle.u_entail.proofs.Leading.{leads-entail, leads-by, leads-given, count-given, nests-pair}
 use Rattle.u_entail.proofs.Placed.{eq-not, pred-eq, pred-not, sides, symbols}
+use Rattle.u_entail.proofs.Small.{list_depth-between, list_depth-push}
 
 -- ---- numbers
 one-times : (n : ℕ) → 1 * n ≡ n
@@ -104,132 +115,20 @@ no-not-carried product inner wanted differ h = let p = carried-not product (neg 
 pub other-symbol : (product : U) (symbol i : ℕ) (xs ys : List Val) → (symbol ≡ i → ⊥) → Carries product (P symbol xs) (P i ys) → ⊥
 other-symbol product symbol i xs ys differ h = let p = carried-pred product (P symbol xs) (P i ys) h symbol xs refl in differ (sym (symbols i symbol ys p.ys p.is))
 
--- ---- predicates
-pub pred-pushed : (product : U) (symbol : ℕ) (xs ys : List Val) (before after : List Hop) (answer : Bool) → ArePushed product 0 xs ys before after answer
-    → IsPushed product (P symbol xs) (P symbol ys) before after answer
-pred-pushed product symbol xs ys before after true h =
-    let b = h.by in
-    record {
-      hops = h.hops;
-      is = h.is;
-      by = record {
-        carries = holds symbol xs ys b.entailed;
-        pairs = b.pairs;
-        chains = subst (λ (vs : List Val). LeadsEach product vs b.pairs (points (P symbol ys))) (sym (points-pred symbol xs)) (subst (λ (vs : List Val). LeadsEach product xs b.pairs vs) (sym (points-pred symbol ys)) b.chains);
-        few = b.few;
-        short = λ none. same-many product (length ys) (length (points (P symbol ys))) (length h.hops) (ap length (points-pred symbol ys)) (b.short none);
-        lead = λ factors begins. b.lead factors begins symbol [] refl;
-      };
-    }
-pred-pushed product symbol xs ys before after false h = λ carried.
-    let p = carried-pred product (P symbol xs) (P symbol ys) carried symbol xs refl in
-    h (subst (λ (vs : List Val). EntailsEach product xs vs) (sym (parts-Pred symbol symbol ys p.ys p.is)) p.by)
+-- ---- forms
+pub fits-same : (form : Form) (xs ys : List Val) → length xs ≡ length ys → Fits form xs → Fits form ys
+fits-same (predicate symbol) xs ys same fits = tt
+fits-same equality xs ys same fits = sym same ∙ fits
+fits-same (negation form) xs ys same fits = fits-same form xs ys same fits
 
--- ---- negations
-not-lead : (factors : List U) (x y : U) (hops : List Hop) → HopsLead factors x hops y → HopsLead factors (neg x) hops (neg y)
-not-lead factors x y hops (arrived z) = arrived (neg z)
-not-lead factors x y hops (hopped a mid b first rest h k) =
-    hopped (neg a) (neg mid) (neg b) first rest
-    (record { spot = in_negation h.spot; left = h.left; right = h.right; at = h.at; side = h.side; from = ap (λ (z : U). neg z) h.from; to = ap (λ (z : U). neg z) h.to })
-    (not-lead factors mid b rest k)
+pub mark-points : (form : Form) (vs : List Val) → Fits form vs → points (mark_of form vs) ≡ vs
+mark-points (predicate symbol) vs fits = points-pred symbol vs
+mark-points equality [] fits = absurd (omega (arith, fits))
+mark-points equality (a ∷ []) fits = absurd (omega (arith, fits))
+mark-points equality (a ∷ (b ∷ [])) fits = points-eq a b
+mark-points equality (a ∷ (b ∷ (c ∷ vs))) fits = absurd (omega (arith, fits))
+mark-points (negation form) vs fits = points-not (mark_of form vs) ∙ mark-points form vs fits
 
-pub not-pushed : (product inner other : U) (before after : List Hop) (answer : Bool) → IsPushed product inner other before after answer → IsPushed product (neg inner) (neg other) before after answer
-not-pushed product inner other before after true h =
-    let b = h.by in
-    record {
-      hops = h.hops;
-      is = h.is;
-      by = record {
-        carries = fails inner other b.carries;
-        pairs = b.pairs;
-        chains = subst (λ (vs : List Val). LeadsEach product vs b.pairs (points (neg other))) (sym (points-not inner)) (subst (λ (vs : List Val). LeadsEach product (points inner) b.pairs vs) (sym (points-not other)) b.chains);
-        few = b.few;
-        short = λ none. same-many product (length (points other)) (length (points (neg other))) (length h.hops) (ap length (points-not other)) (b.short none);
-        lead = λ factors begins. not-lead factors inner other h.hops (b.lead factors begins);
-      };
-    }
-not-pushed product inner other before after false h = λ carried.
-    let p = carried-not product (neg inner) (neg other) carried inner refl in
-    h (subst (λ (z : U). Carries product inner z) (sym (parts-Not other p.other p.is)) p.by)
-
--- ---- one point
-pub point-none : (product : U) (argument : ℕ) (x y : Val) (before after : List Hop) (found : Option (List Link)) → IsChain product x y found → found ≡ None → IsPointPushed product argument x y before after false
-point-none product argument x y before after found chain is = subst (λ (f : Option (List Link)). IsChain product x y f) is chain
-
-pub point-some : (product : U) (argument : ℕ) (x y : Val) (before after : List Hop) (found : Option (List Link)) → IsChain product x y found → (links : List Link) → found ≡ Some links
-    → (place : List ℕ) → place ≡ argument ∷ [] → PushesHops place links before after → IsPointPushed product argument x y before after true
-point-some product argument x y before after found chain links is place place_is h =
-    let both = subst (λ (f : Option (List Link)). IsChain product x y f) is chain in
-    let there = subst (λ (p : List ℕ). AreHops p links h.hops) place_is h.are in
-    record {
-      hops = h.hops;
-      is = h.is;
-      links = links;
-      chain = both.0;
-      short = λ none_there. omega (arith, one-times (count_by is_equality (mul_leaves product)), there.few (length links) (count-given links (leads-given product none_there x y links both.0)), both.1 none_there);
-      are = there;
-    }
-
--- ---- equalities
-record PairCounts (links : List Link) (pairs : List (List Link)) (n : ℕ) : Type 0 where
-  first : ℕ
-  rest : ℕ
-  is : n ≡ first + rest
-  one : HasCount links first
-  more : HasCountEach pairs rest
-
-pair-counts : (links : List Link) (pairs : List (List Link)) (n : ℕ) → HasCountEach (links ∷ pairs) n → PairCounts links pairs n
-pair-counts links pairs n (list_more ls ps m k hm hk) = record { first = m; rest = k; is = refl; one = hm; more = hk }
-
-pushed-behind : (before mid after hs ks : List Hop) → mid ≡ before ++ hs → after ≡ mid ++ ks → after ≡ before ++ (hs ++ ks)
-pushed-behind before mid after hs ks h k = k ∙ ap (λ (xs : List Hop). xs ++ ks) h ∙ append_assoc before hs ks
-
-module _ (product : U) (a b c d : Val) where
-  abbrev E : ℕ
-  E = count_by is_equality (mul_leaves product)
-
-  eq-lead : (hs ks : List Hop) (left right : List Link) → Leads product a left c → Leads product b right d → AreHops (0 ∷ []) left hs → AreHops (1 ∷ []) right ks
-      → (factors : List U) → Begins product factors → HopsLead factors (a ≐ b) (hs ++ ks) (c ≐ d)
-  eq-lead hs ks left right l r h k factors begins =
-      hops-append factors (a ≐ b) (c ≐ b) (c ≐ d) hs ks (h.lead factors a c (leads-by product factors begins.rest begins.is a c left l) (at_left here b) refl)
-      (k.lead factors b d (leads-by product factors begins.rest begins.is b d right r) (at_right c here) refl)
-
-  eq-few : (hs ks : List Hop) (left right : List Link) → AreHops (0 ∷ []) left hs → AreHops (1 ∷ []) right ks → (n : ℕ) → HasCountEach (left ∷ right ∷ []) n → length (hs ++ ks) ≤ n
-  eq-few hs ks left right h k n count =
-      let p = pair-counts left (right ∷ []) n count in
-      let q = pair-counts right [] p.rest p.more in
-      omega (arith, h.few p.first p.one, k.few q.first q.one, p.is, q.is, length-append hs ks)
-
-  pub eq-pushed : (before mid after : List Hop) → PushesPoint product 0 a c before mid → (answer : Bool) → IsPointPushed product 1 b d mid after answer → IsPushed product (a ≐ b) (c ≐ d) before after answer
-  eq-pushed before mid after h true k = record {
-    hops = h.hops ++ k.hops;
-    is = pushed-behind before mid after h.hops k.hops h.is k.is;
-    by = record {
-      carries = equal a b c d (leads-entail product a c h.links h.chain) (leads-entail product b d k.links k.chain);
-      pairs = h.links ∷ k.links ∷ [];
-      chains =
-          subst (λ (vs : List Val). LeadsEach product vs (h.links ∷ k.links ∷ []) (points (c ≐ d))) (sym (points-eq a b))
-          (subst (λ (vs : List Val). LeadsEach product (a ∷ b ∷ []) (h.links ∷ k.links ∷ []) vs) (sym (points-eq c d))
-          (pair a c h.links (b ∷ []) (d ∷ []) (k.links ∷ []) h.chain (pair b d k.links [] [] [] k.chain no_pair)));
-      few = eq-few h.hops k.hops h.links k.links h.are k.are;
-      short = λ none_there.
-          same-many product 2 (length (points (c ≐ d))) (length (h.hops ++ k.hops)) (ap length (points-eq c d))
-          (omega (arith, h.short none_there, k.short none_there, one-times E, two-times E, length-append h.hops k.hops));
-      lead = eq-lead h.hops k.hops h.links k.links h.chain k.chain h.are k.are;
-    };
-  }
-  eq-pushed before mid after h false k = λ carried.
-      let p = carried-eq product (a ≐ b) (c ≐ d) carried a b refl in
-      let both = sides c d p.c p.d p.is in
-      k (subst (λ (x : Val). Entails product b x) (sym both.1) p.right)
-
-  pub eq-stopped : (before after : List Hop) → IsPointPushed product 0 a c before after false → Carries product (a ≐ b) (c ≐ d) → ⊥
-  eq-stopped before after apart carried =
-      let p = carried-eq product (a ≐ b) (c ≐ d) carried a b refl in
-      let both = sides c d p.c p.d p.is in
-      apart (subst (λ (x : Val). Entails product a x) (sym both.0) p.left)
-
--- ---- points
 pub each-long : (product : U) (xs ys : List Val) → EntailsEach product xs ys → length xs ≡ length ys
 each-long product xs ys none = refl
 each-long product xs ys (more a b as' bs h hs) = omega (arith, each-long product as' bs hs)
@@ -241,46 +140,378 @@ record EachFirst (product : U) (x : Val) (xs : List Val) (y : Val) (ys : List Va
 each-first : (product : U) (x : Val) (xs : List Val) (y : Val) (ys : List Val) → EntailsEach product (x ∷ xs) (y ∷ ys) → EachFirst product x xs y ys
 each-first product x xs y ys (more a b as' bs h hs) = record { one = h; more = hs }
 
-pub points-none : (product : U) (done : ℕ) (before : List Hop) → ArePushed product done [] [] before before true
-points-none product done before = record {
-  hops = [];
-  is = sym (append-nil before);
-  by = record { entailed = none; pairs = []; chains = no_pair; few = λ n h. omega arith; short = λ none_there. omega arith; lead = λ factors begins symbol front long. arrived (P symbol (front ++ [])) };
+pub mark-carries : (product : U) (form : Form) (xs ys : List Val) → Fits form xs → EntailsEach product xs ys → Carries product (mark_of form xs) (mark_of form ys)
+mark-carries product (predicate symbol) xs ys fits each = holds symbol xs ys each
+mark-carries product (negation form) xs ys fits each = fails (mark_of form xs) (mark_of form ys) (mark-carries product form xs ys fits each)
+mark-carries product equality [] ys fits each = absurd (omega (arith, fits))
+mark-carries product equality (a ∷ []) ys fits each = absurd (omega (arith, fits))
+mark-carries product equality (a ∷ (b ∷ (c ∷ xs))) ys fits each = absurd (omega (arith, fits))
+mark-carries product equality (a ∷ (b ∷ [])) [] fits each = absurd (omega (arith, each-long product (a ∷ (b ∷ [])) [] each))
+mark-carries product equality (a ∷ (b ∷ [])) (c ∷ []) fits each = absurd (omega (arith, each-long product (a ∷ (b ∷ [])) (c ∷ []) each))
+mark-carries product equality (a ∷ (b ∷ [])) (c ∷ (d ∷ (e ∷ ys))) fits each = absurd (omega (arith, each-long product (a ∷ (b ∷ [])) (c ∷ (d ∷ (e ∷ ys))) each))
+mark-carries product equality (a ∷ (b ∷ [])) (c ∷ (d ∷ [])) fits each =
+    let first = each-first product a (b ∷ []) c (d ∷ []) each in
+    let second = each-first product b [] d [] first.more in
+    equal a b c d first.one second.one
+
+-- ---- where a point stands
+abbrev or_first : List Val → Val
+or_first [] = v.Bound 0
+or_first (a ∷ vs) = a
+
+abbrev pub spot_of : Form → List Val → List Val → Spot
+spot_of (predicate symbol) before after = in_predicate symbol before here after
+spot_of equality [] after = at_left here (or_first after)
+spot_of equality (a ∷ before) after = at_right a here
+spot_of (negation form) before after = in_negation (spot_of form before after)
+
+pub way-of : (form : Form) (before after : List Val) (x : Val) → Fits form (before ++ x ∷ after) → way (spot_of form before after) ≡ length before ∷ []
+way-of (predicate symbol) before after x fits = refl
+way-of equality [] after x fits = refl
+way-of equality (a ∷ []) after x fits = refl
+way-of equality (a ∷ (b ∷ before)) after x fits = absurd (omega (arith, fits, length-append before (x ∷ after)))
+way-of (negation form) before after x fits = way-of form before after x fits
+
+pub filled-of : (form : Form) (before after : List Val) (x : Val) → Fits form (before ++ x ∷ after) → filled (spot_of form before after) x ≡ mark_of form (before ++ x ∷ after)
+filled-of (predicate symbol) before after x fits = refl
+filled-of equality [] [] x fits = absurd (omega (arith, fits))
+filled-of equality [] (b ∷ []) x fits = refl
+filled-of equality [] (b ∷ (c ∷ after)) x fits = absurd (omega (arith, fits))
+filled-of equality (a ∷ []) [] x fits = refl
+filled-of equality (a ∷ []) (b ∷ after) x fits = absurd (omega (arith, fits))
+filled-of equality (a ∷ (b ∷ before)) after x fits = absurd (omega (arith, fits, length-append before (x ∷ after)))
+filled-of (negation form) before after x fits = ap (λ (z : U). neg z) (filled-of form before after x fits)
+
+-- ---- how large marks are
+no-nodes : nodes I ≡ 1
+no-nodes = nodes-One
+
+pub nodes-form : (form : Form) (xs vs : List Val) → Fits form xs → nodes (mark_of form vs) + list_nodes xs ≤ nodes (mark_of form xs) + list_nodes vs
+nodes-form (predicate symbol) xs vs fits = omega (arith, nodes-Pred symbol xs, nodes-Pred symbol vs)
+nodes-form (negation form) xs vs fits = omega (arith, nodes-form form xs vs fits, nodes-Not (mark_of form xs), nodes-Not (mark_of form vs))
+nodes-form equality [] vs fits = absurd (omega (arith, fits))
+nodes-form equality (a ∷ []) vs fits = absurd (omega (arith, fits))
+nodes-form equality (a ∷ (b ∷ (c ∷ xs))) vs fits = absurd (omega (arith, fits))
+nodes-form equality (a ∷ (b ∷ [])) [] fits = omega (arith, no-nodes, nodes-Eq a b, sum_by-cons value_nodes a (b ∷ []), sum_by-cons value_nodes b [])
+nodes-form equality (a ∷ (b ∷ [])) (c ∷ []) fits = omega (arith, no-nodes, nodes-Eq a b, sum_by-cons value_nodes a (b ∷ []), sum_by-cons value_nodes b [])
+nodes-form equality (a ∷ (b ∷ [])) (c ∷ (d ∷ [])) fits =
+    omega (arith, nodes-Eq a b, nodes-Eq c d, sum_by-cons value_nodes a (b ∷ []), sum_by-cons value_nodes b [], sum_by-cons value_nodes c (d ∷ []), sum_by-cons value_nodes d [])
+nodes-form equality (a ∷ (b ∷ [])) (c ∷ (d ∷ (e ∷ vs))) fits = omega (arith, no-nodes, nodes-Eq a b, sum_by-cons value_nodes a (b ∷ []), sum_by-cons value_nodes b [])
+
+pub depth-form : (form : Form) (xs vs : List Val) → Fits form xs → depth (mark_of form vs) ≤ depth (mark_of form xs) + list_depth vs
+depth-form (predicate symbol) xs vs fits = omega (arith, depth-Pred symbol xs, depth-Pred symbol vs)
+depth-form (negation form) xs vs fits = omega (arith, depth-form form xs vs fits, depth-Not (mark_of form xs), depth-Not (mark_of form vs))
+depth-form equality [] vs fits = absurd (omega (arith, fits))
+depth-form equality (a ∷ []) vs fits = absurd (omega (arith, fits))
+depth-form equality (a ∷ (b ∷ (c ∷ xs))) vs fits = absurd (omega (arith, fits))
+depth-form equality (a ∷ (b ∷ [])) [] fits = omega (arith, depth-One, depth-Eq a b)
+depth-form equality (a ∷ (b ∷ [])) (c ∷ []) fits = omega (arith, depth-One, depth-Eq a b)
+depth-form equality (a ∷ (b ∷ [])) (c ∷ (d ∷ [])) fits = omega (arith, depth-Eq a b, depth-Eq c d, list_depth-cons c (d ∷ []), list_depth-cons d [])
+depth-form equality (a ∷ (b ∷ [])) (c ∷ (d ∷ (e ∷ vs))) fits = omega (arith, depth-One, depth-Eq a b)
+
+-- the points are within the mark
+pub points-light : (form : Form) (vs : List Val) → Fits form vs → list_nodes vs ≤ nodes (mark_of form vs)
+points-light (predicate symbol) vs fits = omega (arith, nodes-Pred symbol vs)
+points-light (negation form) vs fits = omega (arith, points-light form vs fits, nodes-Not (mark_of form vs))
+points-light equality [] fits = absurd (omega (arith, fits))
+points-light equality (a ∷ []) fits = absurd (omega (arith, fits))
+points-light equality (a ∷ (b ∷ [])) fits = omega (arith, nodes-Eq a b, sum_by-cons value_nodes a (b ∷ []), sum_by-cons value_nodes b [])
+points-light equality (a ∷ (b ∷ (c ∷ vs))) fits = absurd (omega (arith, fits))
+
+pub points-shallow : (form : Form) (vs : List Val) → Fits form vs → list_depth vs ≤ depth (mark_of form vs)
+points-shallow (predicate symbol) vs fits = omega (arith, depth-Pred symbol vs)
+points-shallow (negation form) vs fits = omega (arith, points-shallow form vs fits, depth-Not (mark_of form vs))
+points-shallow equality [] fits = absurd (omega (arith, fits))
+points-shallow equality (a ∷ []) fits = absurd (omega (arith, fits))
+points-shallow equality (a ∷ (b ∷ [])) fits = omega (arith, depth-Eq a b, list_depth-cons a (b ∷ []), list_depth-cons b [])
+points-shallow equality (a ∷ (b ∷ (c ∷ vs))) fits = absurd (omega (arith, fits))
+
+-- ---- chains of points, pushed
+pub point-from : (product : U) (x y : Val) (found : Option Course) → MatchOption found (Entails product x y → ⊥) (λ course. IsFrom course product x y) → (course : Course) → found ≡ Some course
+    → IsFrom course product x y
+point-from product x y found h course is = subst (λ (o : Option Course). MatchOption o (Entails product x y → ⊥) (λ c. IsFrom c product x y)) is h
+
+pushed-behind : {X : Type 0} (before mid after hs ks : List X) → mid ≡ before ++ hs → after ≡ mid ++ ks → after ≡ before ++ (hs ++ ks)
+pushed-behind {X} before mid after hs ks h k = k ∙ ap (λ (xs : List X). xs ++ ks) h ∙ append_assoc before hs ks
+
+pub courses-none : (product : U) (before : List Course) → AreRouted product [] [] before before true
+courses-none product before = record { courses = []; is = sym (append-nil before); each = no_course }
+
+module _ (product : U) (x y : Val) (xs ys : List Val) (before mid after : List Course) where
+  pub courses-more : IsRouted product x y before mid true → (answer : Bool) → AreRouted product xs ys mid after answer → AreRouted product (x ∷ xs) (y ∷ ys) before after answer
+  courses-more h true k = record {
+    courses = h.0 ∷ k.courses;
+    is = pushed-behind before mid after (h.0 ∷ []) k.courses h.1 k.is;
+    each = course_more x y h.0 xs ys k.courses h.2 k.each;
+  }
+  courses-more h false k = λ each. let p = each-first product x xs y ys each in k p.more
+
+  pub courses-stopped : IsRouted product x y before after false → AreRouted product (x ∷ xs) (y ∷ ys) before after false
+  courses-stopped apart = λ each. let p = each-first product x xs y ys each in apart p.one
+
+one-routed : (product : U) (x y : Val) (before after : List Course) (answer : Bool) → IsRouted product x y before after answer → AreRouted product (x ∷ []) (y ∷ []) before after answer
+one-routed product x y before after true h = courses-more product x y [] [] before after after h true (courses-none product after)
+one-routed product x y before after false h = courses-stopped product x y [] [] before after after h
+
+-- ---- chains of marks, pushed
+pub pred-routed : (product : U) (symbol : ℕ) (xs ys : List Val) (before after : List Course) (answer : Bool) → AreRouted product xs ys before after answer
+    → IsMarkRouted product (P symbol xs) (P symbol ys) before after answer
+pred-routed product symbol xs ys before after true h = record {
+  courses = h.courses;
+  is = h.is;
+  leads = record { form = predicate symbol; from = xs; to = ys; mark_is = refl; wanted_is = refl; fits = tt; each = h.each };
 }
+pred-routed product symbol xs ys before after false h = λ carried.
+    let p = carried-pred product (P symbol xs) (P symbol ys) carried symbol xs refl in
+    h (subst (λ (vs : List Val). EntailsEach product xs vs) (sym (parts-Pred symbol symbol ys p.ys p.is)) p.by)
 
-module _ (product : U) (done : ℕ) (x y : Val) (xs ys : List Val) (before mid after : List Hop) where
-  points-lead : (hs ks : List Hop) (links : List Link) → Leads product x links y → AreHops (done ∷ []) links hs → PointsBy product (done + 1) xs ys ks
-      → (factors : List U) → Begins product factors → (symbol : ℕ) (front : List Val) → length front ≡ done → HopsLead factors (P symbol (front ++ (x ∷ xs))) (hs ++ ks) (P symbol (front ++ (y ∷ ys)))
-  points-lead hs ks links l h k factors begins symbol front long =
-      let one = h.lead factors x y (leads-by product factors begins.rest begins.is x y links l) (in_predicate symbol front here xs) (ap (λ (n : ℕ). n ∷ []) long) in
-      let longer : length (front ++ y ∷ []) ≡ done + 1 = omega (arith, long, length-append front (y ∷ [])) in
-      let rest = k.lead factors begins symbol (front ++ y ∷ []) longer in
-      hops-append factors (P symbol (front ++ (x ∷ xs))) (P symbol (front ++ (y ∷ xs))) (P symbol (front ++ (y ∷ ys))) hs ks one
-      (subst (λ (vs : List Val). HopsLead factors (P symbol vs) ks (P symbol (front ++ (y ∷ ys)))) (append_assoc front (y ∷ []) xs)
-      (subst (λ (vs : List Val). HopsLead factors (P symbol ((front ++ y ∷ []) ++ xs)) ks (P symbol vs)) (append_assoc front (y ∷ []) ys) rest))
+module _ (product : U) (a b c d : Val) where
+  sides-carried : Carries product (a ≐ b) (c ≐ d) → Entails product a c × Entails product b d
+  sides-carried carried =
+      let p = carried-eq product (a ≐ b) (c ≐ d) carried a b refl in
+      let both = sides c d p.c p.d p.is in
+      (subst (λ (x : Val). Entails product a x) (sym both.0) p.left, subst (λ (x : Val). Entails product b x) (sym both.1) p.right)
 
-  points-few : (hs ks : List Hop) (links : List Link) (pairs : List (List Link)) → AreHops (done ∷ []) links hs → ((n : ℕ) → HasCountEach pairs n → length ks ≤ n) → (n : ℕ) → HasCountEach (links ∷ pairs) n
-      → length (hs ++ ks) ≤ n
-  points-few hs ks links pairs h k n count = let p = pair-counts links pairs n count in omega (arith, h.few p.first p.one, k p.rest p.more, p.is, length-append hs ks)
+  both-routed : (before after : List Course) (answer : Bool) → AreRouted product (a ∷ (b ∷ [])) (c ∷ (d ∷ [])) before after answer → IsMarkRouted product (a ≐ b) (c ≐ d) before after answer
+  both-routed before after true h = record {
+    courses = h.courses;
+    is = h.is;
+    leads = record { form = equality; from = a ∷ (b ∷ []); to = c ∷ (d ∷ []); mark_is = refl; wanted_is = refl; fits = refl; each = h.each };
+  }
+  both-routed before after false h = λ carried. let both = sides-carried carried in h (more a c (b ∷ []) (d ∷ []) both.0 (more b d [] [] both.1 none))
 
-  pub points-more : PushesPoint product done x y before mid → (answer : Bool) → ArePushed product (done + 1) xs ys mid after answer → ArePushed product done (x ∷ xs) (y ∷ ys) before after answer
-  points-more h true k =
-      let b = k.by in
-      record {
-        hops = h.hops ++ k.hops;
-        is = pushed-behind before mid after h.hops k.hops h.is k.is;
-        by = record {
-          entailed = more x y xs ys (leads-entail product x y h.links h.chain) b.entailed;
-          pairs = h.links ∷ b.pairs;
-          chains = pair x y h.links xs ys b.pairs h.chain b.chains;
-          few = points-few h.hops k.hops h.links b.pairs h.are b.few;
-          short = λ none_there.
-              let E : ℕ = count_by is_equality (mul_leaves product) in
-              omega (arith, h.short none_there, b.short none_there, one-times E, more-times (length ys) E, length-append h.hops k.hops);
-          lead = points-lead h.hops k.hops h.links h.chain h.are b;
-        };
-      }
-  points-more h false k = λ each. let p = each-first product x xs y ys each in k p.more
+  pub eq-routed : (before mid after : List Course) → IsRouted product a c before mid true → (answer : Bool) → IsRouted product b d mid after answer → IsMarkRouted product (a ≐ b) (c ≐ d) before after answer
+  eq-routed before mid after h answer k =
+      both-routed before after answer (courses-more product a c (b ∷ []) (d ∷ []) before mid after h answer (one-routed product b d mid after answer k))
 
-  pub points-stopped : IsPointPushed product done x y before after false → ArePushed product done (x ∷ xs) (y ∷ ys) before after false
-  points-stopped apart = λ each. let p = each-first product x xs y ys each in apart p.one
+  pub eq-stopped : (before after : List Course) → IsRouted product a c before after false → Carries product (a ≐ b) (c ≐ d) → ⊥
+  eq-stopped before after apart carried = let both = sides-carried carried in apart both.0
+
+pub not-routed : (product inner other : U) (before after : List Course) (answer : Bool) → IsMarkRouted product inner other before after answer → IsMarkRouted product (neg inner) (neg other) before after answer
+not-routed product inner other before after true h =
+    let l = h.leads in
+    record {
+      courses = h.courses;
+      is = h.is;
+      leads = record {
+        form = negation l.form;
+        from = l.from;
+        to = l.to;
+        mark_is = ap (λ (z : U). neg z) l.mark_is;
+        wanted_is = ap (λ (z : U). neg z) l.wanted_is;
+        fits = l.fits;
+        each = l.each;
+      };
+    }
+not-routed product inner other before after false h = λ carried.
+    let p = carried-not product (neg inner) (neg other) carried inner refl in
+    h (subst (λ (z : U). Carries product inner z) (sym (parts-Not other p.other p.is)) p.by)
+
+-- ---- with sides exchanged
+pub exchanged-routed : (product term wanted : U) (a b : Val) → term ≡ a ≐ b → (before after : List Course) (answer : Bool) → IsMarkRouted product (b ≐ a) wanted before after answer
+    → IsExchangedRouted product term wanted before after answer
+exchanged-routed product term wanted a b is before after true h = record { left = a; right = b; is = is; pushes = h }
+exchanged-routed product term wanted a b is before after false h = λ c d also carried.
+    let both = sides a b c d (sym is ∙ also) in
+    h (subst (λ (x : Val). Carries product (x ≐ a) wanted) (sym both.1) (subst (λ (x : Val). Carries product (d ≐ x) wanted) (sym both.0) carried))
+
+pub no-exchanged : (product term wanted : U) (before after : List Course) → ((a b : Val) → term ≡ u.Eq a b → ⊥) → IsExchangedRouted product term wanted before after false
+no-exchanged product term wanted before after differ = λ a b is carried. differ a b is
+
+pub difference-routed : (product inner other : U) (before after : List Course) (answer : Bool) → IsExchangedRouted product inner other before after answer
+    → IsDifferenceRouted product (neg inner) (neg other) before after answer
+difference-routed product inner other before after true h =
+    let made = not-routed product (h.right ≐ h.left) other before after true h.pushes in
+    record { courses = made.courses; is = made.is; leads = record { left = h.left; right = h.right; is = ap (λ (z : U). neg z) h.is; leads = made.leads } }
+difference-routed product inner other before after false h = λ a b is carried.
+    let p = carried-not product (neg (b ≐ a)) (neg other) carried (b ≐ a) refl in
+    h a b (parts-Not inner (a ≐ b) is) (subst (λ (z : U). Carries product (b ≐ a) z) (sym (parts-Not other p.other p.is)) p.by)
+
+pub no-difference : (product mark wanted : U) (before after : List Course) → ((x : U) → mark ≡ u.Not x → ⊥) → IsDifferenceRouted product mark wanted before after false
+no-difference product mark wanted before after differ = λ a b is carried. differ (a ≐ b) is
+
+pub no-other-difference : (product inner wanted : U) (before after : List Course) → ((x : U) → wanted ≡ u.Not x → ⊥) → IsDifferenceRouted product (neg inner) wanted before after false
+no-other-difference product inner wanted before after differ = λ a b is carried.
+    no-not-carried product (b ≐ a) wanted differ carried
+
+-- ---- all that were pushed
+pub mark-led : (product mark wanted : U) (before after : List Course) → before ≡ [] → (answer : Bool) → IsMarkRouted product mark wanted before after answer → answer ≡ true → LeadsMark product mark wanted after
+mark-led product mark wanted before after empty answer h true_is =
+    let p = subst (λ (b : Bool). IsMarkRouted product mark wanted before after b) true_is h in
+    subst (λ (cs : List Course). LeadsMark product mark wanted cs) (sym (p.is ∙ ap (λ (cs : List Course). cs ++ p.courses) empty)) p.leads
+
+pub difference-led : (product mark wanted : U) (before after : List Course) → before ≡ [] → (answer : Bool) → IsDifferenceRouted product mark wanted before after answer → answer ≡ true
+    → LeadsExchanged product mark wanted after
+difference-led product mark wanted before after empty answer h true_is =
+    let p = subst (λ (b : Bool). IsDifferenceRouted product mark wanted before after b) true_is h in
+    subst (λ (cs : List Course). LeadsExchanged product mark wanted cs) (sym (p.is ∙ ap (λ (cs : List Course). cs ++ p.courses) empty)) p.leads
+
+pub not-led : (product mark wanted : U) (before after : List Course) (answer : Bool) → IsMarkRouted product mark wanted before after answer → answer ≡ false → Carries product mark wanted → ⊥
+not-led product mark wanted before after answer h is = subst (λ (b : Bool). IsMarkRouted product mark wanted before after b) is h
+
+pub no-difference-led : (product mark wanted : U) (before after : List Course) (answer : Bool) → IsDifferenceRouted product mark wanted before after answer → answer ≡ false
+    → (a b : Val) → mark ≡ neg (a ≐ b) → Carries product (neg (b ≐ a)) wanted → ⊥
+no-difference-led product mark wanted before after answer h is = subst (λ (b : Bool). IsDifferenceRouted product mark wanted before after b) is h
+
+-- ---- hops along the chains of points
+pub along-none : (done : ℕ) → AlongCourses done [] []
+along-none done = record { by = λ product xs ys each. none-by product xs ys each; counted = λ less. omega arith } where
+  none-by : (product : U) (xs ys : List Val) → AreCourses product xs [] ys → PointsBy product done xs ys []
+  none-by product xs ys no_course = record {
+    entailed = none;
+    pairs = [];
+    chains = no_pair;
+    nested = no_lists (length (standing product));
+    few = λ n h. omega arith;
+    short = λ none_there. omega arith;
+    stay = λ n nests factors begins many deep small form before long fits most level room nodes depth within. stays (mark_of form (before ++ []));
+  }
+
+record PairCounts (links : List Link) (pairs : List (List Link)) (n : ℕ) : Type 0 where
+  first : ℕ
+  rest : ℕ
+  is : n ≡ first + rest
+  one : HasCount links first
+  more : HasCountEach pairs rest
+
+pair-counts : (links : List Link) (pairs : List (List Link)) (n : ℕ) → HasCountEach (links ∷ pairs) n → PairCounts links pairs n
+pair-counts links pairs n (list_more ls ps m k hm hk) = record { first = m; rest = k; is = refl; one = hm; more = hk }
+
+module _ (product : U) (done : ℕ) (x y : Val) (xs ys : List Val) (links : List Link) (chain : IsChain product x y (Some links)) (hs ks : List Hop) (are : AreHops (done ∷ []) links hs)
+    (b : PointsBy product (done + 1) xs ys ks) where
+  points-few : (n : ℕ) → HasCountEach (links ∷ b.pairs) n → length (hs ++ ks) ≤ n
+  points-few n count = let p = pair-counts links b.pairs n count in omega (arith, are.few p.first p.one, b.few p.rest p.more, p.is, length-append hs ks)
+
+  points-short : HasNoCall (standing product) → length (hs ++ ks) ≤ length (y ∷ ys) * count_by is_equality (mul_leaves product)
+  points-short none_there =
+      let E : ℕ = count_by is_equality (mul_leaves product) in
+      omega (
+        arith,
+        are.few (length links) (count-given links (leads-given product none_there x y links chain.0)),
+        chain.1 none_there,
+        b.short none_there,
+        more-times (length ys) E,
+        length-append hs ks,
+      )
+
+  module _ (n : ℕ) (nests : NestsEach n (links ∷ b.pairs)) (factors : List U) (begins : Begins product factors) (many deep : ℕ) (small : AreSmall many deep factors) (form : Form) (before : List Val)
+      (long : length before ≡ done) (fits : Fits form (before ++ x ∷ xs)) (most level : ℕ) (room : HavePoints most level before (x ∷ xs) (y ∷ ys)) (nodes depth : ℕ)
+      (within : (vs : List Val) → spec.AreWithin (most + (many + 2 * (n * many))) (level + deep + n) vs → IsWithin nodes depth (spine factors (mark_of form vs))) where
+    fits-with : (z : Val) → Fits form (before ++ z ∷ xs)
+    fits-with z = fits-same form (before ++ x ∷ xs) (before ++ z ∷ xs) (omega (arith, length-append before (x ∷ xs), length-append before (z ∷ xs))) fits
+
+    point-within : (z : Val) → IsSmall many deep n z → spec.AreWithin (most + (many + 2 * (n * many))) (level + deep + n) (before ++ z ∷ xs)
+    point-within z z_small = record {
+      few = omega (arith, room.few, z_small.few, sum_by-append value_nodes before (z ∷ xs), sum_by-cons value_nodes z xs, sum_by-cons value_nodes x xs);
+      shallow = omega (arith, room.shallow_before, room.shallow_from, z_small.shallow, list_depth-between before xs z, list_depth-cons x xs);
+    }
+
+    filled-with : (z : Val) → filled (spot_of form before xs) z ≡ mark_of form (before ++ z ∷ xs)
+    filled-with z = filled-of form before xs z (fits-with z)
+
+    stay-one : StayWithin nodes depth factors (mark_of form (before ++ x ∷ xs)) hs (mark_of form (before ++ y ∷ xs))
+    stay-one =
+        let both = nests-pair n links b.pairs nests in
+        let made = are.stay many deep factors small n x y (leads-by product factors begins.rest begins.is n x y links chain.0 both.0) (spot_of form before xs)
+        (way-of form before xs x fits ∙ ap (λ (k : ℕ). k ∷ []) long) nodes depth
+        (λ z z_small. subst (λ (w : U). IsWithin nodes depth (spine factors w)) (sym (filled-with z)) (within (before ++ z ∷ xs) (point-within z z_small))) in
+        subst (λ (w : U). StayWithin nodes depth factors w hs (mark_of form (before ++ y ∷ xs))) (filled-with x)
+        (subst (λ (w : U). StayWithin nodes depth factors (filled (spot_of form before xs) x) hs w) (filled-with y) made)
+
+    room-left : HavePoints most level (before ++ y ∷ []) xs ys
+    room-left = record {
+      few = omega (arith, room.few, sum_by-append value_nodes before (y ∷ []), sum_by-cons value_nodes y [], sum_by-cons value_nodes x xs, sum_by-cons value_nodes y ys);
+      shallow_before = omega (arith, room.shallow_before, room.shallow_to, list_depth-push before y, list_depth-cons y ys);
+      shallow_from = omega (arith, room.shallow_from, list_depth-cons x xs);
+      shallow_to = omega (arith, room.shallow_to, list_depth-cons y ys);
+    }
+
+    stay-left : StayWithin nodes depth factors (mark_of form (before ++ y ∷ xs)) ks (mark_of form (before ++ y ∷ ys))
+    stay-left =
+        let both = nests-pair n links b.pairs nests in
+        let longer : length (before ++ y ∷ []) ≡ done + 1 = omega (arith, long, length-append before (y ∷ [])) in
+        let there = subst (λ (vs : List Val). Fits form vs) (sym (append_assoc before (y ∷ []) xs)) (fits-with y) in
+        let made = b.stay n both.1 factors begins many deep small form (before ++ y ∷ []) longer there most level room-left nodes depth within in
+        subst (λ (vs : List Val). StayWithin nodes depth factors (mark_of form vs) ks (mark_of form (before ++ y ∷ ys))) (append_assoc before (y ∷ []) xs)
+        (subst (λ (vs : List Val). StayWithin nodes depth factors (mark_of form ((before ++ y ∷ []) ++ xs)) ks (mark_of form vs)) (append_assoc before (y ∷ []) ys) made)
+
+    points-stay : StayWithin nodes depth factors (mark_of form (before ++ x ∷ xs)) (hs ++ ks) (mark_of form (before ++ y ∷ ys))
+    points-stay = stay-append nodes depth factors (mark_of form (before ++ x ∷ xs)) (mark_of form (before ++ y ∷ xs)) (mark_of form (before ++ y ∷ ys)) hs ks stay-one stay-left
+
+  points-more : PointsBy product done (x ∷ xs) (y ∷ ys) (hs ++ ks)
+  points-more = record {
+    entailed = more x y xs ys (leads-entail product x y links chain.0) b.entailed;
+    pairs = links ∷ b.pairs;
+    chains = pair x y links xs ys b.pairs chain.0 b.chains;
+    nested = lists_within (length (standing product)) links b.pairs chain.2 b.nested;
+    few = points-few;
+    short = points-short;
+    stay = points-stay;
+  }
+
+module _ (done : ℕ) (course : Course) (courses : List Course) (before after : List Hop) (h : PushesRoute done course before after) (ks : List Hop) (k : AlongCourses (done + 1) courses ks) where
+  chain-at : (product : U) (x y : Val) → IsFrom course product x y → IsChain product x y (Some h.links)
+  chain-at product x y from =
+      subst (λ (p : U). IsChain p x y (Some h.links)) from.product_is
+      (subst (λ (a : Val). IsChain course.product a y (Some h.links)) from.from_is (subst (λ (b : Val). IsChain course.product course.from b (Some h.links)) from.to_is h.chain))
+
+  more-by : (product : U) (xs ys : List Val) (cs : List Course) → AreCourses product xs cs ys → cs ≡ course ∷ courses → PointsBy product done xs ys (h.hops ++ ks)
+  more-by product xs ys cs no_course is = let none_is = ap length is in absurd (omega (arith, none_is))
+  more-by product xs ys cs (course_more x y c as' bs rest from each) is =
+      let first : c ≡ course = cc in
+      let left : rest ≡ courses = cc in
+      points-more product done x y as' bs h.links (chain-at product x y (subst (λ (o : Course). IsFrom o product x y) first from)) h.hops ks h.are
+      (k.by product as' bs (subst (λ (os : List Course). AreCourses product as' os bs) left each))
+
+  pub along-more : AlongCourses done (course ∷ courses) (h.hops ++ ks)
+  along-more = record {
+    by = λ product xs ys each. more-by product xs ys (course ∷ courses) each refl;
+    counted = λ less.
+        let c = h.counted in
+        let are = h.are in
+        let sum = sum_by-cons (λ (o : Course). o.links) course courses in
+        omega (arith, less, sum, c.is, are.few c.count c.counted, k.counted (omega (arith, less, sum)), length-append h.hops ks);
+  }
+
+-- ---- what carries a mark
+module _ (product : U) (courses : List Course) (hops : List Hop) (along : AlongCourses 0 courses hops) (form : Form) (from to : List Val) (fits : Fits form from) (each : AreCourses product from courses to) where
+  abbrev by : PointsBy product 0 from to hops
+  by = along.by product from to each
+
+  fits-to : Fits form to
+  fits-to = fits-same form from to (each-long product from to by.entailed) fits
+
+  abbrev first_mark : U
+  first_mark = mark_of form from
+
+  abbrev last_mark : U
+  last_mark = mark_of form to
+
+  mark-stay : (n : ℕ) → NestsEach n by.pairs → (factors : List U) → Begins product factors → (many deep : ℕ) → AreSmall many deep factors → (most deepest : ℕ)
+      → ((x : U) → IsWithin (nodes first_mark + nodes last_mark + (many + 2 * (n * many))) (depth first_mark + depth first_mark + depth last_mark + deep + n) x → IsWithin most deepest (spine factors x))
+      → StayWithin most deepest factors first_mark hops last_mark
+  mark-stay n nests factors begins many deep small most deepest within =
+      by.stay n nests factors begins many deep small form [] refl fits (list_nodes from + list_nodes to) (max (list_depth from) (list_depth to))
+      (record { few = omega arith; shallow_before = omega arith; shallow_from = omega arith; shallow_to = omega arith }) most deepest
+      (λ vs w. within (mark_of form vs) (record {
+        few = omega (arith, w.few, nodes-form form from vs fits, points-light form to fits-to);
+        shallow = omega (arith, w.shallow, depth-form form from vs fits, points-shallow form from fits, points-shallow form to fits-to);
+      }))
+
+  form-carried : CarriesBy product first_mark last_mark hops
+  form-carried = record {
+    carries = mark-carries product form from to fits by.entailed;
+    pairs = by.pairs;
+    chains =
+        subst (λ (vs : List Val). LeadsEach product vs by.pairs (points last_mark)) (sym (mark-points form from fits))
+        (subst (λ (vs : List Val). LeadsEach product from by.pairs vs) (sym (mark-points form to fits-to)) by.chains);
+    nested = by.nested;
+    few = by.few;
+    short = λ none_there. same-many product (length to) (length (points last_mark)) (length hops) (ap length (mark-points form to fits-to)) (by.short none_there);
+    stay = mark-stay;
+  }
+
+pub mark-carried : (product mark wanted : U) (courses : List Course) → LeadsMark product mark wanted courses → (hops : List Hop) → AlongCourses 0 courses hops → CarriesBy product mark wanted hops
+mark-carried product mark wanted courses l hops along =
+    subst (λ (x : U). CarriesBy product x wanted hops) (sym l.mark_is)
+    (subst (λ (x : U). CarriesBy product (mark_of l.form l.from) x hops) (sym l.wanted_is) (form-carried product courses hops along l.form l.from l.to l.fits l.each))

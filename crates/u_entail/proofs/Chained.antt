@@ -1,5 +1,5 @@
 -- What a chain of the product's classes says of the answer.
-use Rattle.std.proofs.Common.{◌≡◌, ℕ, ◌<◌, ◌^◌, List, [], ◌∷◌, ◌++◌, Option, Some, None, length, refl, ap, sym, ◌∙◌, subst, arith}
+use Rattle.std.proofs.Common.{◌≡◌, ℕ, ◌+◌, ◌<◌, ◌≤◌, ◌^◌, List, [], ◌∷◌, ◌++◌, Option, Some, None, length, refl, ap, sym, ◌∙◌, subst, arith}
 use Rattle.std.proofs.lemmas.List.{append-nil}
 use Rattle.data_model.specs.Lists.{Each}
 use Rattle.u_terms.specs.Syntax.{U, Zero, One, Add, Mul, Squash, Not, Sum, Rel, Eq, Pred, Val}
@@ -7,20 +7,28 @@ use Rattle.u_terms.specs.Names.{EachName}
 use Rattle.u_terms.specs.Places.{IsClosed}
 use Rattle.u_terms.specs.Products.{product_of}
 use Rattle.u_terms.specs.declared.facts.Facts.{Facts}
+use Rattle.u_terms.specs.Size.{depth}
+use Rattle.u_terms.proofs.Sizes.{depth-Mul, depth-One, depth-positive}
 use Rattle.u_rules.specs.Terms.{◌⊗◌, ◌≐◌, mul_leaves}
+use Rattle.u_rules.proofs.LeavesAt.{mul_leaves-Mul}
 use Rattle.u_equal.specs.declared.link.Link.{Link}
 use Rattle.u_equal.specs.Entails.{Entails}
 use Rattle.u_equal.specs.Links.{IsChain}
+use Rattle.u_equal.specs.Standing.{standing}
 use Rattle.u_moves.specs.Derivations.{Derivation, IsKnown}
 use Rattle.u_moves.specs.Moving.{IsKnownValue}
 use Rattle.u_entail.specs.declared.hops.Hop.{Hop}
 use Rattle.u_entail.specs.Sides.{AreFactors}
-use Rattle.u_entail.specs.Spots.{here, at_right}
 use Rattle.u_entail.specs.Hops.{AreHops, HopsLead, Lead}
 use Rattle.u_entail.specs.Gaining.{right_side, IsGainedBy, IsGained, IsWidened, Derives, Appends, Begins}
+use Rattle.u_entail.proofs.Bounds.{AreWithin, depth-leaves}
 use Rattle.u_entail.proofs.Leading.{leads-by}
-use Rattle.u_entail.proofs.Gained.{by-links, by-chain, by-entailment, product-appended}
+use Rattle.u_entail.proofs.Gained.{by-links, by-chain, by-levels, by-entailment, hops-small, product-appended, small-lead}
+use Rattle.u_entail.proofs.Small.{sum-leaves, sum-product}
 use Rattle.u_entail.proofs.Lists.{each-append}
+
+pub all-leaves : (product : U) (factors : List U) → factors ≡ mul_leaves product → Begins product factors
+all-leaves product factors is = record { rest = []; is = is ∙ sym (append-nil (mul_leaves product)) }
 
 module _ (product classes : U) (is : classes ≡ product) (a b : Val) (found : Option (List Link)) (chain : IsChain classes a b found) where
   of_product : IsChain product a b found
@@ -35,7 +43,9 @@ module _ (product classes : U) (is : classes ≡ product) (a b : Val) (found : O
 
     module _ (hops : List Hop) (are : AreHops right_side links hops) where
       pub hops-lead : (factors : List U) → Begins product factors → HopsLead factors (a ≐ a) hops (a ≐ b)
-      hops-lead factors begins = are.lead factors a b (leads-by product factors begins.rest begins.is a b links the-chain.0) (at_right a here) refl
+      hops-lead factors begins =
+          let n : ℕ = length (standing product) in
+          small-lead factors n a b hops (hops-small factors n a b links (leads-by product factors begins.rest begins.is n a b links the-chain.0 the-chain.2) hops are)
 
       pub lead-hops : (factors : List U) → Begins product factors → Lead factors (a ≐ a) hops
       lead-hops factors begins = record { to = a ≐ b; by = hops-lead factors begins }
@@ -43,12 +53,14 @@ module _ (product classes : U) (is : classes ≡ product) (a b : Val) (found : O
       pub derives : (facts : Facts) (outs : ℕ) (factors : List U) → factors ≡ mul_leaves product → (d : Derivation)
           → IsGainedBy facts outs factors product (product ⊗ (a ≐ b)) a b hops 3 d → Derives facts outs product a b d
       derives facts outs factors leaves d g =
+          let begins = all-leaves product (mul_leaves product) refl in
           let h = subst (λ (xs : List U). IsGainedBy facts outs xs product (product ⊗ (a ≐ b)) a b hops 3 d) leaves g in
           record {
-            entailed = by-entailment facts outs product (mul_leaves product) product (product ⊗ (a ≐ b)) a b links hops are 3 d the-chain h;
+            entailed = by-entailment facts outs product (mul_leaves product) product (product ⊗ (a ≐ b)) a b links hops are 3 d the-chain begins h;
             leads = h.leads;
-            links = by-links facts outs product (mul_leaves product) product (product ⊗ (a ≐ b)) a b links hops are 3 d the-chain h;
-            short = by-chain facts outs product (mul_leaves product) product (product ⊗ (a ≐ b)) a b links hops are 3 d the-chain h;
+            links = by-links facts outs product (mul_leaves product) product (product ⊗ (a ≐ b)) a b links hops are 3 d the-chain begins h;
+            short = by-chain facts outs product (mul_leaves product) product (product ⊗ (a ≐ b)) a b links hops are 3 d the-chain begins h;
+            modest = by-levels facts outs product (mul_leaves product) product (product ⊗ (a ≐ b)) a b links hops are 3 d the-chain begins h (sum-leaves product);
           }
 
       pub appends : (facts : Facts) (outs : ℕ) (factors : List U) → Begins product factors → IsKnownValue outs a → (first d : Derivation) → IsWidened facts outs factors first
@@ -57,14 +69,12 @@ module _ (product classes : U) (is : classes ≡ product) (a b : Val) (found : O
           let last : U = product_of (factors ++ (a ≐ b) ∷ []) in
           let h = product-appended facts outs factors a b known hops (hops-lead factors begins) first d w g in
           record {
-            entailed = by-entailment facts outs product factors (product_of factors) last a b links hops are 2 d the-chain h;
+            entailed = by-entailment facts outs product factors (product_of factors) last a b links hops are 2 d the-chain begins h;
             leads = h.leads;
-            links = by-links facts outs product factors (product_of factors) last a b links hops are 2 d the-chain h;
-            short = by-chain facts outs product factors (product_of factors) last a b links hops are 2 d the-chain h;
+            links = by-links facts outs product factors (product_of factors) last a b links hops are 2 d the-chain begins h;
+            short = by-chain facts outs product factors (product_of factors) last a b links hops are 2 d the-chain begins h;
+            modest = by-levels facts outs product factors (product_of factors) last a b links hops are 2 d the-chain begins h (sum-product factors);
           }
-
-pub all-leaves : (product : U) (factors : List U) → factors ≡ mul_leaves product → Begins product factors
-all-leaves product factors is = record { rest = []; is = is ∙ sym (append-nil (mul_leaves product)) }
 
 leaves-known : (outs : ℕ) (u : U) → IsKnown 0 outs u → Each (IsKnown 0 outs) (mul_leaves u)
 unfolding mul_leaves IsClosed EachName
@@ -79,6 +89,17 @@ leaves-known outs (Sum body) k = (k, tt)
 leaves-known outs (Rel table shape arguments) k = (k, tt)
 leaves-known outs (Eq a b) k = (k, tt)
 leaves-known outs (Pred symbol shape arguments) k = (k, tt)
+
+-- the leaves of a product that begins with another one
+pub first-leaves : (first more whole : U) → whole ≡ first ⊗ more → (factors : List U) → factors ≡ mul_leaves whole → Begins first factors
+first-leaves first more whole is factors leaves = record { rest = mul_leaves more; is = leaves ∙ ap mul_leaves is ∙ mul_leaves-Mul first more }
+
+pub leaves-shallow : (u : U) (factors : List U) → factors ≡ mul_leaves u → depth (product_of factors) ≤ length factors + depth u
+leaves-shallow u factors is = level factors (subst (λ (xs : List U). AreWithin (depth u) xs) (sym is) (depth-leaves u)) where
+  level : (xs : List U) → AreWithin (depth u) xs → depth (product_of xs) ≤ length xs + depth u
+  level [] each = omega (arith, depth-One, depth-positive u)
+  level (x ∷ []) each = omega (arith, each.0)
+  level (x ∷ (y ∷ xs)) each = omega (arith, each.0, level (y ∷ xs) each.1, depth-Mul x (product_of (y ∷ xs)))
 
 pub are-factors : (outs : ℕ) (product : U) (factors : List U) → factors ≡ mul_leaves product → IsKnown 0 outs product → length (mul_leaves product) < 2 ^ 32 → AreFactors outs factors
 are-factors outs product factors is known few = record {

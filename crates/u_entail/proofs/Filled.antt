@@ -1,8 +1,8 @@
 -- A mark with a value at a place: what is known of it with another value there.
-use Rattle.std.proofs.Common.{◌≡◌, ℕ, ◌+◌, ◌<◌, List, [], ◌∷◌, ◌++◌, length, map, refl, ap, sym, ◌∙◌, arith}
+use Rattle.std.proofs.Common.{◌≡◌, ℕ, ◌<◌, List, [], ◌∷◌, ◌++◌, length, map, refl, ap, ◌∙◌, arith}
 use Rattle.std.proofs.lemmas.List.{map-append}
 use Rattle.data_model.specs.Lists.{Each}
-use Rattle.u_terms.specs.Syntax.{U, Val, Bound, constructors}
+use Rattle.u_terms.specs.Syntax.{U, Val, constructors}
 use Rattle.u_terms.specs.declared.term.U.TheVariants as u
 use Rattle.u_terms.specs.declared.term.Val.TheVariants as v
 use Rattle.u_terms.specs.Binding.{mapped, mapped_value, value_for_place, same_name, opened_with}

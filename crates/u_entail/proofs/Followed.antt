@@ -1,6 +1,6 @@
 -- Following no hop, one hop, and one after the other.
-use Rattle.std.proofs.Common.{◌≡◌, ℕ, ◌+◌, ◌<◌, ◌≤◌, Bool, true, false, List, [], ◌∷◌, length, take, refl, ap, sym, ◌∙◌, subst, arith}
-use Rattle.std.proofs.lemmas.Option.{same_Some, slice_get_within}
+use Rattle.std.proofs.Common.{◌≡◌, ℕ, ◌<◌, Bool, true, false, List, [], ◌∷◌, length, take, refl, ap, sym, ◌∙◌, subst, arith}
+use Rattle.std.proofs.lemmas.Option.{slice_get_within}
 use Rattle.u_terms.specs.Syntax.{U, Val}
 use Rattle.u_terms.specs.Places.{IsClosed}
 use Rattle.u_terms.specs.declared.term.Val.TheVariants as v
@@ -12,8 +12,8 @@ use Rattle.u_moves.specs.Moving.{IsKnownValue}
 use Rattle.u_entail.specs.declared.following.Followed.{Followed}
 use Rattle.u_entail.specs.declared.hops.Hop.{Hop}
 use Rattle.u_entail.specs.Sides.{IsSide, HasSide, AreFactors}
-use Rattle.u_entail.specs.Spots.{Spot, filled, way, HasSpot, IsPut}
-use Rattle.u_entail.specs.Hops.{HopLeads, HopsLead, arrived, hopped, Lead, StayWithin}
+use Rattle.u_entail.specs.Spots.{filled, HasSpot, IsPut}
+use Rattle.u_entail.specs.Hops.{HopLeads, HopsLead, arrived, hopped, Lead, StayWithin, stays, goes}
 use Rattle.u_entail.specs.Following.{IsExchange, Exchanges, Crosses, LandsAt, Stands, IsBounded, IsFollowed}
 use Rattle.u_entail.specs.Spines.{spine, IsMadeBehind}
 use Rattle.u_entail.proofs.Filled.{spot-put, spot-closed, spot-named, bound-names, bound-closed}
@@ -33,6 +33,16 @@ parted factors u w first rest (hopped a mid b f r h k) = record { mid = mid; one
 pub ended : (factors : List U) (u w : U) → HopsLead factors u [] w → u ≡ w
 ended factors u w (arrived a) = refl
 
+pub record PartedStay (nodes depth : ℕ) (factors : List U) (u : U) (first : Hop) (rest : List Hop) (w : U) : Type 0 where
+  pub mid : U
+  pub one : HopLeads factors u first mid
+  pub here : IsWithin nodes depth (spine factors u)
+  pub there : IsWithin nodes depth (spine factors mid)
+  pub more : StayWithin nodes depth factors mid rest w
+
+pub parted-stay : (n m : ℕ) (factors : List U) (u w : U) (first : Hop) (rest : List Hop) → StayWithin n m factors u (first ∷ rest) w → PartedStay n m factors u first rest w
+parted-stay n m factors u w first rest (goes a mid b f r h x y k) = record { mid = mid; one = h; here = x; there = y; more = k }
+
 alone : (factors : List U) (u w : U) (first : Hop) → HopLeads factors u first w → HopsLead factors u (first ∷ []) w
 alone factors u w first h = hopped u w w first [] h (arrived w)
 
@@ -46,7 +56,7 @@ module _ (factors : List U) where
     from = refl;
     arrives = λ to h. ended factors at.last to h;
     steps = omega arith;
-    within = λ n m stay bounded. bounded;
+    within = λ n m to stay bounded. bounded;
   }
 
   pub followed-more : (first : Hop) (rest : List Hop) (at mid end : Followed) → ((to : U) × HopLeads factors at.last first to) → IsFollowed factors (first ∷ []) at mid → IsFollowed factors rest mid end
@@ -57,10 +67,11 @@ module _ (factors : List U) where
         let p = parted factors at.last to first rest l in
         k.arrives to (subst (λ (x : U). HopsLead factors x rest to) (sym (h.arrives p.mid (alone factors at.last p.mid first p.one))) p.more);
     steps = omega (arith, h.steps, k.steps);
-    within = λ n m stay bounded.
-        let there : mid.last ≡ leads.0 = h.arrives leads.0 (alone factors at.last leads.0 first leads.1) in
-        let next = stay leads.0 leads.1 in
-        k.within n m (subst (λ (x : U). StayWithin n m factors x rest) (sym there) next.2) (h.within n m (λ to l. let both = stay to l in (both.0, both.1, tt)) bounded);
+    within = λ n m to stay bounded.
+        let p = parted-stay n m factors at.last to first rest stay in
+        let there : mid.last ≡ p.mid = h.arrives p.mid (alone factors at.last p.mid first p.one) in
+        k.within n m to (subst (λ (x : U). StayWithin n m factors x rest to) (sym there) p.more)
+        (h.within n m p.mid (goes at.last p.mid p.mid first [] p.one p.here p.there (stays p.mid)) bounded);
   }
 
   -- what is still to be followed leads on
@@ -166,15 +177,17 @@ module _ (facts : Facts) (outs : ℕ) (factors : List U) (ready : AreFactors out
       known = subst (λ (x : U). IsKnown 0 outs x) (sym (land.each to leads.1)) to-known;
     }
 
-    bounded-after : (n m : ℕ) → StayWithin n m factors at.last (hop ∷ []) → IsBounded n m at.deriv → IsBounded n m d
-    bounded-after n m stay bounded =
-        let e = ex in
-        let both = stay to leads.1 in
-        let x = both.0 in
-        let y = both.1 in
+    bounded-after : (n m : ℕ) (w' : U) → StayWithin n m factors at.last (hop ∷ []) w' → IsBounded n m at.deriv → IsBounded n m d
+    bounded-after n m w' stay bounded =
+        let p = parted-stay n m factors at.last w' hop [] stay in
+        let e = over.each p.mid p.one in
+        let x = p.here in
+        let y = p.there in
+        let begins : spine factors at.last ≡ spine front part.from = e.from ∙ ap (λ (xs : List U). spine xs part.from) (sym front_is) in
+        let ends : spine factors p.mid ≡ spine front part.to = e.to ∙ ap (λ (xs : List U). spine xs part.to) (sym front_is) in
         record {
-          few = omega (arith, made.nodes, e.nodes, nodes-spine front part.from, nodes-spine front part.to, ap nodes begins-there, ap nodes ends-there, x.few, y.few, bounded.few);
-          shallow = omega (arith, made.depth, e.depth, depth-behind front part.from, depth-behind front part.to, ap depth begins-there, ap depth ends-there, x.shallow, y.shallow, bounded.shallow);
+          few = omega (arith, made.nodes, e.nodes, nodes-spine front part.from, nodes-spine front part.to, ap nodes begins, ap nodes ends, x.few, y.few, bounded.few);
+          shallow = omega (arith, made.depth, e.depth, depth-behind front part.from, depth-behind front part.to, ap depth begins, ap depth ends, x.shallow, y.shallow, bounded.shallow);
         }
 
     pub hop-followed : IsFollowed factors (hop ∷ []) at after

@@ -1,35 +1,39 @@
 -- An equality in the place of a last factor 1: how it is gained, and how large the terms on the way are.
-use Rattle.std.proofs.Common.{◌≡◌, ℕ, Bool, true, false, ◌+◌, ◌*◌, ◌^◌, ◌<◌, ◌≤◌, max, List, [], ◌∷◌, ◌++◌, length, refl, ap, sym, ◌∙◌, subst, arith}
-use Rattle.std.specs.Prelude.{Some, slice_get, IsPermutation, IfOk, Result, Ok, Err}
+use Rattle.std.proofs.Common.{◌≡◌, ℕ, ◌+◌, ◌*◌, ◌^◌, ◌<◌, ◌≤◌, max, List, [], ◌∷◌, ◌++◌, length, refl, ap, sym, ◌∙◌, subst, arith}
+use Rattle.std.specs.Prelude.{Some, IsPermutation, IfOk, Result, Ok, Err, sum_by}
 use Rattle.std.proofs.lemmas.List.{append-nil, length-append}
 use Rattle.std.proofs.lemmas.List.Sorted.{IsPermutation-refl}
+use Rattle.std.proofs.lemmas.List.Sums.{sum_by-append}
 use Rattle.data_model.specs.Lists.{Each}
 use Rattle.u_terms.specs.Syntax.{U, Zero, One, Add, Mul, Squash, Not, Sum, Rel, Eq, Pred, Val}
 use Rattle.u_terms.specs.Products.{product_of}
-use Rattle.u_terms.specs.Size.{nodes, depth}
+use Rattle.u_terms.specs.Size.{nodes, depth, value_nodes, value_depth}
 use Rattle.u_terms.specs.declared.facts.Facts.{Facts}
 use Rattle.u_terms.proofs.Sizes.{nodes-Mul, nodes-Eq, nodes-One, depth-Mul, depth-Eq, depth-One}
-use Rattle.u_rules.specs.Terms.{◌⊗◌, ◌≐◌, I, put, mul_leaves}
+use Rattle.u_rules.specs.Terms.{◌⊗◌, ◌≐◌, I, mul_leaves}
 use Rattle.u_rules.proofs.LeavesAt.{mul_leaves-Mul, mul_leaves-One}
 use Rattle.u_deriv.specs.declared.step.Step.{Step}
 use Rattle.u_equal.specs.declared.link.Link.{Link}
 use Rattle.u_equal.specs.Entails.{Entails}
-use Rattle.u_equal.specs.Links.{HasCount, IsChain}
+use Rattle.u_equal.specs.Links.{IsChain, Nests}
+use Rattle.u_equal.specs.Standing.{standing}
 use Rattle.u_moves.specs.Derivations.{Derivation, IsKnown, IsWithin, IsOneStep, IsStill, IsJoined}
 use Rattle.u_moves.specs.Moving.{IsKnownValue}
 use Rattle.u_entail.specs.declared.following.Followed.{Followed}
 use Rattle.u_entail.specs.declared.hops.Hop.{Hop}
-use Rattle.u_entail.specs.Sides.{AreFactors, IsSide}
-use Rattle.u_entail.specs.Spots.{ValueSpot, here, in_call, filled_value, value_way, Spot, in_predicate, at_left, at_right, in_negation, filled, way}
-use Rattle.u_entail.specs.Hops.{AreAt, AreHops, HopLeads, HopsLead, StayWithin}
+use Rattle.u_entail.specs.Sides.{AreFactors, LeadsBy}
+use Rattle.u_entail.specs.Small.{IsSmall}
+use Rattle.u_entail.specs.Spots.{here, at_right}
+use Rattle.u_entail.specs.Hops.{AreHops, HopsLead, StayWithin}
 use Rattle.u_entail.specs.Following.{IsBounded, IsFollowed, Stands}
-use Rattle.u_entail.specs.Gaining.{right_side, EndsIn, HasStepsOf, IsBegun, IsGained, IsGainedBy, IsGainedIn, IsLed, IsRegathered, IsRegrouped, IsShort, IsWidened, LeadsBetween}
+use Rattle.u_entail.specs.Gaining.{right_side, Begins, EndsIn, HasStepsOf, IsBegun, IsGained, IsGainedBy, IsGainedIn, IsLed, IsModest, IsRegathered, IsRegrouped, IsShort, IsWidened, LeadsBetween, StaysSmall}
 use Rattle.u_entail.specs.Spines.{spine, weight, IsMadeBehind}
-use Rattle.u_entail.proofs.Bounds.{AreWithin, weight-at, weight-leaves, weight-product, depth-leaves, depth-product, depth-spine}
-use Rattle.u_entail.proofs.Leading.{leads-entail, leads-given, count-given}
-use Rattle.u_entail.proofs.Lists.{each-at, each-append, each-parts}
+use Rattle.u_entail.proofs.Bounds.{AreWithin, weight-leaves, weight-product, depth-leaves, depth-product, depth-spine}
+use Rattle.u_entail.proofs.Flat.{stay-lead}
+use Rattle.u_entail.proofs.Small.{small-factors, small-weight, stand-leaves, times-le}
+use Rattle.u_entail.proofs.Leading.{leads-by, leads-entail, leads-given, nests-given, count-given}
+use Rattle.u_entail.proofs.Lists.{each-append, each-parts}
 use Rattle.u_entail.proofs.Parts.{spine-known}
-use Rattle.u_entail.proofs.Placed.{eq-not, heads, pred-eq, sides, tails}
 use Rattle.u_entail.proofs.Spines.{nodes-spine, depth-behind, spine-append, product-spine}
 
 -- ---- leaves
@@ -138,65 +142,25 @@ equality-gained facts outs factors a hops first begun d last is ends b l =
       from = k.from ∙ b.from;
       arrives = k.arrives;
       steps = omega (arith, k.steps, b.steps);
-      within = λ n m stay w x bounded. k.within n m stay (b.within n m w x bounded);
+      within = λ n m to stay w x bounded. k.within n m to stay (b.within n m w x bounded);
     }
 
--- a hop at the right side of an equality
-record RightHop (factors : List U) (a : Val) (hop : Hop) (mid : U) : Type 0 where
-  left : Val
-  right : Val
-  is : mid ≡ a ≐ right
-  side : IsSide factors hop.factor hop.turned left right
-
-right-hop : (factors : List U) (a w : Val) (hop : Hop) (mid : U) → hop.place ≡ right_side → HopLeads factors (a ≐ w) hop mid → RightHop factors a hop mid
-right-hop factors a w hop mid place h = by h.spot h.left h.right (h.at ∙ place) h.from h.to h.side where
-  at_end : (spot : ValueSpot) → value_way spot ≡ [] → (x : Val) → filled_value spot x ≡ x
-  at_end here none x = refl
-  at_end (in_call f before spot after) none x = absurd (omega (arith, ap length none))
-
-  by : (spot : Spot) (x y : Val) → way spot ≡ right_side → a ≐ w ≡ filled spot x → mid ≡ filled spot y → IsSide factors hop.factor hop.turned x y → RightHop factors a hop mid
-  by (in_predicate j before spot after) x y at from to side = absurd (pred-eq j (before ++ filled_value spot x ∷ after) a w (sym from))
-  by (at_left spot b) x y at from to side = absurd (omega (arith, heads 0 1 (value_way spot) [] at))
-  by (at_right b spot) x y at from to side =
-      let p = sides a w b (filled_value spot x) from in
-      record { left = x; right = y; is = to ∙ ap (λ (c : Val). c ≐ filled_value spot y) (sym p.0) ∙ ap (λ (c : Val). a ≐ c) (at_end spot (tails 1 1 (value_way spot) [] at) y); side = side }
-  by (in_negation spot) x y at from to side = absurd (eq-not a w (filled spot x) from)
-
 -- ---- how large
-module _ (outs : ℕ) (factors : List U) (first : U) (weighs : weight factors ≤ nodes first + 1) (deep : AreWithin (depth first) factors) (a b : Val) (known : IsKnownValue outs a) where
+module _ (outs : ℕ) (factors : List U) (first : U) (weighs : weight factors ≤ nodes first + 1) (deep : AreWithin (depth first) factors) (a b : Val) (known : IsKnownValue outs a) (n : ℕ) where
   abbrev pub most_nodes : ℕ
-  most_nodes = 2 * (nodes first + nodes (a ≐ b))
+  most_nodes = 2 * (nodes first + nodes (a ≐ b)) + 2 * (n * nodes first)
 
   abbrev pub most_depth : ℕ
-  most_depth = length factors + max (depth first) (depth (a ≐ b)) + 1
+  most_depth = length factors + max (depth first) (depth (a ≐ b)) + 1 + n
 
-  equal-within : (x y : Val) (i : ℕ) → slice_get factors i ≡ Some (x ≐ y) → IsWithin most_nodes most_depth (spine factors (a ≐ x)) × IsWithin most_nodes most_depth (spine factors (a ≐ y))
-  equal-within x y i at =
-      let level : depth (x ≐ y) ≤ depth first = each-at (λ u. depth u ≤ depth first) factors i (x ≐ y) deep at in
-      let heavy = weight-at factors i (x ≐ y) at in (
-        record {
-          few = omega (arith, weighs, heavy, nodes-spine factors (a ≐ x), nodes-Eq a x, nodes-Eq x y, nodes-Eq a b);
-          shallow = omega (arith, level, depth-spine (depth first) factors (a ≐ x) deep, depth-Eq a x, depth-Eq x y, depth-Eq a b);
-        },
-        record {
-          few = omega (arith, weighs, heavy, nodes-spine factors (a ≐ y), nodes-Eq a y, nodes-Eq x y, nodes-Eq a b);
-          shallow = omega (arith, level, depth-spine (depth first) factors (a ≐ y) deep, depth-Eq a y, depth-Eq x y, depth-Eq a b);
-        },
-      )
+  equal-within : (x : Val) → IsSmall (nodes first) (depth first) n x → IsWithin most_nodes most_depth (spine factors (a ≐ x))
+  equal-within x small = record {
+    few = omega (arith, weighs, small.few, nodes-spine factors (a ≐ x), nodes-Eq a x, nodes-Eq a b);
+    shallow = omega (arith, small.shallow, depth-spine (depth first) factors (a ≐ x) deep, depth-Eq a x, depth-Eq a b);
+  }
 
-  side-within : (factor : ℕ) (turned : Bool) (x y : Val) → IsSide factors factor turned x y → IsWithin most_nodes most_depth (spine factors (a ≐ y))
-  side-within factor false x y is = let both = equal-within x y factor is in both.1
-  side-within factor true x y is = let both = equal-within y x factor is in both.0
-
-  pub stay-within : (w : Val) → IsWithin most_nodes most_depth (spine factors (a ≐ w)) → (hops : List Hop) → AreAt right_side hops → StayWithin most_nodes most_depth factors (a ≐ w) hops
-  stay-within w now [] flat = tt
-  stay-within w now (first ∷ rest) flat = λ mid h.
-      let r = right-hop factors a w first mid flat.0 h in
-      let next = side-within first.factor first.turned r.left r.right r.side in (
-        now,
-        subst (λ (x : U). IsWithin most_nodes most_depth (spine factors x)) (sym r.is) next,
-        subst (λ (x : U). StayWithin most_nodes most_depth factors x rest) (sym r.is) (stay-within r.right next rest flat.1),
-      )
+  pub stay-within : (hops : List Hop) → StaysSmall factors n a hops b → StayWithin most_nodes most_depth factors (a ≐ a) hops (a ≐ b)
+  stay-within hops stays = stays (nodes first) (depth first) (small-weight (nodes first) (depth first) factors weighs deep) most_nodes most_depth equal-within
 
   pub one-within : IsWithin most_nodes most_depth (spine factors I)
   one-within = record {
@@ -221,6 +185,23 @@ module _ (outs : ℕ) (factors : List U) (first : U) (weighs : weight factors �
 
   pub whole-within : IsWithin most_nodes most_depth (first ⊗ (a ≐ b))
   whole-within = record { few = omega (arith, nodes-Mul first (a ≐ b), nodes-Eq a b); shallow = omega (arith, depth-Mul first (a ≐ b)) }
+
+-- ---- where the hops of links lead
+pub hops-small : (factors : List U) (n : ℕ) (a b : Val) (links : List Link) → LeadsBy factors n a links b → (hops : List Hop) → AreHops right_side links hops → StaysSmall factors n a hops b
+hops-small factors n a b links leads hops are = λ many deep small most deepest within. are.stay many deep factors small n a b leads (at_right a here) refl most deepest within
+
+pub small-lead : (factors : List U) (n : ℕ) (a b : Val) (hops : List Hop) → StaysSmall factors n a hops b → HopsLead factors (a ≐ a) hops (a ≐ b)
+small-lead factors n a b hops stays =
+    let many : ℕ = nodes (product_of factors) in
+    let deep : ℕ = depth (product_of factors) in
+    let most : ℕ = weight factors + 1 + value_nodes a + (many + 2 * (n * many)) in
+    let deepest : ℕ = length factors + max deep (1 + max (value_depth a) (deep + n)) in
+    stay-lead most deepest factors (a ≐ a) (a ≐ b) hops
+    (stays many deep (small-factors factors) most deepest
+    (λ x small. record {
+      few = omega (arith, small.few, nodes-spine factors (a ≐ x), nodes-Eq a x);
+      shallow = omega (arith, small.shallow, depth-spine deep factors (a ≐ x) (depth-product factors), depth-Eq a x);
+    }))
 
 -- ---- the product times the equality
 pub spread-ends : (facts : Facts) (outs : ℕ) (first last : U) (d : Derivation) → IsRegrouped facts outs first last d → EndsIn facts outs last d
@@ -249,33 +230,34 @@ module _ (facts : Facts) (outs : ℕ) (product : U) (factors : List U) (is : fac
   deep : AreWithin (depth product) factors
   deep = subst (λ xs. AreWithin (depth product) xs) (sym is) (depth-leaves product)
 
-  abbrev many : ℕ
-  many = most_nodes outs factors product weighs deep a b known
+  module _ (n : ℕ) (stays : StaysSmall factors n a hops b) where
+    abbrev many : ℕ
+    many = most_nodes outs factors product weighs deep a b known n
 
-  abbrev level : ℕ
-  level = most_depth outs factors product weighs deep a b known
+    abbrev level : ℕ
+    level = most_depth outs factors product weighs deep a b known n
 
-  spread-bounded : IsBounded many level h.spread
-  spread-bounded =
-      let s = h.first in
-      let w = first-within outs factors product weighs deep a b known in
-      let x = one-within outs factors product weighs deep a b known in
-      record { few = omega (arith, s.nodes, w.few, x.few); shallow = omega (arith, s.depth, w.shallow, x.shallow) }
+    spread-bounded : IsBounded many level h.spread
+    spread-bounded =
+        let s = h.first in
+        let w = first-within outs factors product weighs deep a b known n in
+        let x = one-within outs factors product weighs deep a b known n in
+        record { few = omega (arith, s.nodes, w.few, x.few); shallow = omega (arith, s.depth, w.shallow, x.shallow) }
 
-  gained-bounded : AreAt right_side hops → IsBounded many level gained
-  gained-bounded flat =
-      let g = h.gained in
-      let itself = itself-within outs factors product weighs deep a b known in
-      g.within many level (stay-within outs factors product weighs deep a b known a itself hops flat) (one-within outs factors product weighs deep a b known) itself spread-bounded
+    gained-bounded : IsBounded many level gained
+    gained-bounded =
+        let g = h.gained in
+        g.within many level (a ≐ b) (stay-within outs factors product weighs deep a b known n hops stays) (one-within outs factors product weighs deep a b known n)
+        (itself-within outs factors product weighs deep a b known n) spread-bounded
 
-  whole-bounded : AreAt right_side hops → IsBounded many level d
-  whole-bounded flat =
-      let j = k.bounds in
-      let last = k.last in
-      let w = gained-bounded flat in
-      let x = end-within outs factors product weighs deep a b known in
-      let y = whole-within outs factors product weighs deep a b known in
-      record { few = omega (arith, j.nodes, w.few, last.nodes, x.few, y.few); shallow = omega (arith, j.depth, w.shallow, last.depth, x.shallow, y.shallow) }
+    whole-bounded : IsBounded many level d
+    whole-bounded =
+        let j = k.bounds in
+        let last = k.last in
+        let w = gained-bounded in
+        let x = end-within outs factors product weighs deep a b known n in
+        let y = whole-within outs factors product weighs deep a b known n in
+        record { few = omega (arith, j.nodes, w.few, last.nodes, x.few, y.few); shallow = omega (arith, j.depth, w.shallow, last.depth, x.shallow, y.shallow) }
 
   whole-steps : length d.steps ≤ length hops + 3
   whole-steps =
@@ -292,22 +274,33 @@ module _ (facts : Facts) (outs : ℕ) (product : U) (factors : List U) (is : fac
       record {
         leads = record { facts = k.facts ∙ l.facts; outs = k.outs ∙ l.outs; from = k.from ∙ l.from; to = k.to ∙ m.to };
         steps = whole-steps;
-        nodes = λ flat. let w = whole-bounded flat in w.few;
-        depth = λ flat. let w = whole-bounded flat in w.shallow;
+        nodes = λ n stays. let w = whole-bounded n stays in w.few;
+        depth = λ n stays. let w = whole-bounded n stays in w.shallow;
       }
 
 -- ---- by a chain
 module _ (facts : Facts) (outs : ℕ) (product : U) (factors : List U) (first last : U) (a b : Val) (links : List Link) (hops : List Hop) (are : AreHops right_side links hops) (more : ℕ) (d : Derivation)
-    (chain : IsChain product a b (Some links)) (g : IsGainedBy facts outs factors first last a b hops more d) where
+    (chain : IsChain product a b (Some links)) (begins : Begins product factors) (g : IsGainedBy facts outs factors first last a b hops more d) where
+  -- the hops with calls in calls as deep as in the links
+  small-by : (n : ℕ) → Nests n links → StaysSmall factors n a hops b
+  small-by n nests = hops-small factors n a b links (leads-by product factors begins.rest begins.is n a b links chain.0 nests) hops are
+
   pub by-links : HasStepsOf product a b more d
   by-links = record { links = links; leads = chain.0; each = λ n c. omega (arith, g.steps, are.few n c) }
 
   pub by-chain : IsShort product factors first a b more d
   by-chain = record {
     steps = λ none. omega (arith, g.steps, are.few (length links) (count-given links (leads-given product none a b links chain.0)), chain.1 none);
-    nodes = λ none. g.nodes (are.given (leads-given product none a b links chain.0));
-    depth = λ none. g.depth (are.given (leads-given product none a b links chain.0));
+    nodes = λ none. omega (arith, g.nodes 0 (small-by 0 (nests-given links (leads-given product none a b links chain.0))));
+    depth = λ none. omega (arith, g.depth 0 (small-by 0 (nests-given links (leads-given product none a b links chain.0))));
   }
+
+  -- there are no more levels than values, and no more values than nodes
+  pub by-levels : sum_by nodes factors ≤ nodes first → IsModest factors first a b d
+  by-levels fits =
+      let n : ℕ = length (standing product) in
+      let few : n ≤ nodes first = omega (arith, stand-leaves product, fits, ap (λ (xs : List U). sum_by nodes xs) begins.is, sum_by-append nodes (mul_leaves product) begins.rest) in
+      record { nodes = omega (arith, g.nodes n (small-by n chain.2), times-le n (nodes first) (nodes first) few); depth = omega (arith, g.depth n (small-by n chain.2), few) }
 
   pub by-entailment : Entails product a b
   by-entailment = leads-entail product a b links chain.0
@@ -369,14 +362,19 @@ module _ (facts : Facts) (outs : ℕ) (factors : List U) (a b : Val) (known : Is
   abbrev whole : U
   whole = product_of factors
 
-  appended-bounded : AreAt right_side hops → IsBounded (most_nodes outs factors whole (weight-product factors) (depth-product factors) a b known) (most_depth outs factors whole (weight-product factors) (depth-product factors) a b known) d
-  appended-bounded flat =
-      let n : ℕ = most_nodes outs factors whole (weight-product factors) (depth-product factors) a b known in
-      let m : ℕ = most_depth outs factors whole (weight-product factors) (depth-product factors) a b known in
-      let one = one-within outs factors whole (weight-product factors) (depth-product factors) a b known in
-      let itself = itself-within outs factors whole (weight-product factors) (depth-product factors) a b known in
-      g.within n m (stay-within outs factors whole (weight-product factors) (depth-product factors) a b known a itself hops flat) one itself
-      (w.within n m (first-within outs factors whole (weight-product factors) (depth-product factors) a b known) one)
+  module _ (n : ℕ) (stays : StaysSmall factors n a hops b) where
+    abbrev appended_nodes : ℕ
+    appended_nodes = most_nodes outs factors whole (weight-product factors) (depth-product factors) a b known n
+
+    abbrev appended_depth : ℕ
+    appended_depth = most_depth outs factors whole (weight-product factors) (depth-product factors) a b known n
+
+    appended-bounded : IsBounded appended_nodes appended_depth d
+    appended-bounded =
+        let one = one-within outs factors whole (weight-product factors) (depth-product factors) a b known n in
+        g.within appended_nodes appended_depth (a ≐ b) (stay-within outs factors whole (weight-product factors) (depth-product factors) a b known n hops stays) one
+        (itself-within outs factors whole (weight-product factors) (depth-product factors) a b known n)
+        (w.within appended_nodes appended_depth (first-within outs factors whole (weight-product factors) (depth-product factors) a b known n) one)
 
   pub product-appended : IsGainedBy facts outs factors (product_of factors) (product_of (factors ++ (a ≐ b) ∷ [])) a b hops 2 d
   product-appended =
@@ -384,6 +382,6 @@ module _ (facts : Facts) (outs : ℕ) (factors : List U) (a b : Val) (known : Is
       record {
         leads = record { facts = g.facts ∙ l.facts; outs = g.outs ∙ l.outs; from = g.from ∙ l.from; to = g.arrives (a ≐ b) leads ∙ sym (product-spine factors (a ≐ b)) };
         steps = omega (arith, g.steps, w.steps);
-        nodes = λ flat. let h = appended-bounded flat in h.few;
-        depth = λ flat. let h = appended-bounded flat in h.shallow;
+        nodes = λ n stays. let h = appended-bounded n stays in h.few;
+        depth = λ n stays. let h = appended-bounded n stays in h.shallow;
       }

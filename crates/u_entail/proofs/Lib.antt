@@ -8,9 +8,10 @@ pub mod Placed
 pub mod Filled
 pub mod Exchanged
 pub mod Links
+pub mod Bounds
+pub mod Small
 pub mod Flat
 pub mod Followed
-pub mod Bounds
 pub mod Gained
 pub mod Chained
 pub mod Along

@@ -1,5 +1,5 @@
 -- A derivation inside a negation.
-use Rattle.std.proofs.Common.{◌≡◌, ℕ, ◌+◌, ◌^◌, ◌<◌, List, [], ◌∷◌, length, refl, ap, sym, ◌∙◌, subst, arith}
+use Rattle.std.proofs.Common.{◌≡◌, ℕ, ◌+◌, ◌^◌, ◌<◌, List, [], ◌∷◌, length, refl, ap, sym, ◌∙◌, arith}
 use Rattle.std.proofs.lemmas.List.{length-map}
 use Rattle.u_terms.specs.Syntax.{U, Val}
 use Rattle.u_terms.specs.Binding.{closed_path}
@@ -10,7 +10,6 @@ use Rattle.u_terms.proofs.Binding.{closed_path-none}
 use Rattle.u_terms.proofs.Sizes.{nodes-Not, nodes-Eq, depth-Not, depth-Eq}
 use Rattle.u_rules.specs.Terms.{◌≐◌, neg}
 use Rattle.u_deriv.specs.declared.run.Run.{Run}
-use Rattle.u_deriv.specs.declared.run.Turn.{Turn}
 use Rattle.u_deriv.specs.declared.run.Turn.TheVariants as turn
 use Rattle.u_deriv.specs.Contexts.{Context, hole, in_not, filled, way, binders}
 use Rattle.u_deriv.specs.Opening.{opened_path}

@@ -1,9 +1,8 @@
 -- The parts of lists and of terms that a step by an equality is made of.
-use Rattle.std.proofs.Common.{◌≡◌, ℕ, zero, suc, ◌+◌, ◌<◌, List, [], ◌∷◌, ◌++◌, length, take, drop, get_or, ◌-◌, refl, ap, sym, ◌∙◌, subst, add-one, arith}
+use Rattle.std.proofs.Common.{◌≡◌, ℕ, ◌+◌, List, [], ◌∷◌, ◌++◌, length, take, drop, get_or, ◌-◌, refl, ap, sym, ◌∙◌, arith}
 use Rattle.std.specs.Prelude.{Some, slice_get}
-use Rattle.std.proofs.Math.Seq.{take-length, drop-cons}
+use Rattle.std.proofs.Math.Seq.{take-length}
 use Rattle.std.proofs.lemmas.List.{take-map, drop-map, take_rest, take_more}
-use Rattle.std.proofs.lemmas.Option.{none-some, same_Some}
 use denote.Ref.{Bor}
 use Rattle.data_model.specs.Lists.{Each}
 use Rattle.u_terms.specs.Syntax.{U, Val}
@@ -15,7 +14,7 @@ use Rattle.u_rules.specs.Terms.{◌⊗◌, ◌≐◌, I, terms}
 use Rattle.u_moves.specs.Derivations.{IsKnown}
 use Rattle.u_moves.specs.Moving.{IsKnownValue}
 use Rattle.u_entail.specs.Spines.{spine}
-use Rattle.u_entail.proofs.Lists.{each-weaker, split-at, each-drop}
+use Rattle.u_entail.proofs.Lists.{each-weaker, split-at}
 use Rattle.u_entail.proofs.Spines.{spine-append}
 
 -- ---- lists that are lent

@@ -1,10 +1,10 @@
 -- Values put at places: where a place is in a part of the term, and the term put together again.
-use Rattle.std.proofs.Common.{◌≡◌, ℕ, zero, suc, ◌+◌, ◌<◌, List, [], ◌∷◌, ◌++◌, length, take, drop, get_or, refl, ap, sym, ◌∙◌, subst, add-one, arith}
+use Rattle.std.proofs.Common.{◌≡◌, ℕ, suc, ◌+◌, ◌<◌, List, [], ◌∷◌, ◌++◌, length, take, drop, get_or, refl, ap, sym, ◌∙◌, add-one, arith}
 use Rattle.std.specs.Prelude.{slice_index_or, ◌-◌, ◌≤◌}
 use Rattle.std.proofs.lemmas.List.{length-append, take_all}
 use Rattle.u_terms.specs.Syntax.{U, Val}
 use Rattle.u_terms.specs.declared.term.U.TheOpen.{U-F, Val-F}
-use Rattle.u_terms.specs.declared.term.U.TheViews.{out-U, out-Val, roll-U, roll-Val, out-roll-U, out-roll-Val, rolls-Eq, rolls-Not, rolls-Pred, rolls-Bound, rolls-Fun}
+use Rattle.u_terms.specs.declared.term.U.TheViews.{out-U, out-Val, out-roll-U, out-roll-Val, rolls-Eq, rolls-Not, rolls-Pred, rolls-Fun}
 use Rattle.u_terms.specs.declared.term.U.TheVariants as u
 use Rattle.u_terms.specs.declared.term.Val.TheVariants as v
 use Rattle.u_terms.proofs.Parts.{parts-Fun, parts-Not, parts-Pred}

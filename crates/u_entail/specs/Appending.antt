@@ -1,5 +1,5 @@
 -- An equality behind the factors, by links that are there.
-use Rattle.std.specs.Prelude.{◌≡◌, ℕ, ◌+◌, ◌-◌, ◌^◌, ◌<◌, ◌≤◌, List, length}
+use Rattle.std.specs.Prelude.{ℕ, ◌+◌, ◌-◌, ◌^◌, ◌<◌, ◌≤◌, List, length}
 use Rattle.u_terms.specs.Syntax.{U, Val}
 use Rattle.u_terms.specs.declared.facts.Facts.{Facts}
 use Rattle.u_moves.specs.Derivations.{Derivation}

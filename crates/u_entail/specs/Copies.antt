@@ -1,6 +1,7 @@
 -- A mark of other points behind the factors, one of which is the same mark of points that are entailed to be equal.
-use Rattle.std.specs.Prelude.{◌≡◌, ℕ, ◌+◌, ◌*◌, ◌≤◌, List, [], ◌∷◌, ◌++◌, Option, Some, None, length, slice_get, count_by}
+use Rattle.std.specs.Prelude.{◌≡◌, ℕ, ◌+◌, ◌-◌, ◌^◌, ◌<◌, ◌*◌, ◌≤◌, List, [], ◌∷◌, ◌++◌, Option, Some, None, length, slice_get, count_by}
 use Rattle.u_terms.specs.Syntax.{U, Val}
+use Rattle.u_terms.specs.Size as size
 use Rattle.u_terms.specs.Products.{product_of}
 use Rattle.u_terms.specs.declared.facts.Facts.{Facts}
 use Rattle.u_rules.specs.Terms.{◌≐◌, neg, mul_leaves}
@@ -8,9 +9,10 @@ use Rattle.u_moves.specs.Derivations.{Derivation}
 use Rattle.u_equal.specs.declared.link.Link.{Link}
 use Rattle.u_equal.specs.Links.{LeadsEach, HasCountEach, HasNoCall, is_equality}
 use Rattle.u_equal.specs.Standing.{standing}
-use Rattle.u_entail.specs.Carrying.{Carries, CarriesBy, Follows, points}
+use Rattle.u_entail.specs.Carrying.{Carries, Follows, MarkCourse, points}
+use Rattle.u_entail.specs.Following.{IsBounded}
 use Rattle.u_entail.specs.Gaining.{LeadsBetween}
-use Rattle.u_entail.specs.Hops.{HopsLead}
+use Rattle.u_entail.specs.Hops.{HopsLead, Lead, StayWithin}
 use Rattle.u_entail.specs.declared.hops.Hop.{Hop}
 
 -- one step for each link of the chains that lead from point to point, and a few more
@@ -20,6 +22,14 @@ pub record HasStepsEach (product first last : U) (more : ℕ) (d : Derivation) :
   pub each : (n : ℕ) → HasCountEach pairs n → length d.steps ≤ n + more
   pub short : HasNoCall (standing product) → length d.steps ≤ length (points last) * count_by is_equality (mul_leaves product) + more
 
+-- No term on the way is much larger than the product and the wanted mark; through calls in calls, of which there are no more levels than values,
+-- by at most two calls for each level.
+pub record IsCopySmall (product : U) (factors : List U) (wanted : U) (d : Derivation) : Type 0 where
+  pub nodes : HasNoCall (standing product) → d.nodes ≤ 3 * size.nodes (product_of factors) + size.nodes wanted + 2
+  pub depth : HasNoCall (standing product) → d.depth ≤ length factors + 3 * size.depth (product_of factors) + size.depth wanted + 1
+  pub nodes_through : d.nodes ≤ 3 * size.nodes (product_of factors) + size.nodes wanted + 2 + 2 * (size.nodes (product_of factors) * size.nodes (product_of factors))
+  pub depth_through : d.depth ≤ length factors + 3 * size.depth (product_of factors) + size.depth wanted + 1 + size.nodes (product_of factors)
+
 -- the mark, or a negated equality with its sides exchanged, leads to the wanted mark
 pub record IsCopy (facts : Facts) (outs : ℕ) (product : U) (factors : List U) (mark wanted : U) (d : Derivation) : Type 0 where
   pub follows : Follows product mark wanted
@@ -27,17 +37,37 @@ pub record IsCopy (facts : Facts) (outs : ℕ) (product : U) (factors : List U) 
   pub first : U
   pub carries : Carries product first wanted
   pub steps : HasStepsEach product first wanted 5 d
+  pub small : IsCopySmall product factors wanted d
 
 abbrev pub IsCopyAt : Facts → ℕ → U → List U → ℕ → U → Option Derivation → Type 0
 IsCopyAt facts outs product factors place wanted None = (mark : U) → slice_get factors place ≡ Some mark → Follows product mark wanted → ⊥
 IsCopyAt facts outs product factors place wanted (Some d) = (mark : U) → slice_get factors place ≡ Some mark → IsCopy facts outs product factors mark wanted d
+
+-- along counted chains: five steps more than their links, where these are not too many to be told
+pub record CopiesAlong (facts : Facts) (outs : ℕ) (course : MarkCourse) (factors : List U) (d : Derivation) : Type 0 where
+  pub copy : IsCopy facts outs course.product factors course.mark course.wanted d
+  pub counted : course.links < 2 ^ 64 - 1 → length d.steps ≤ course.links + 5
 
 -- ---- contracts of private functions alone cite this
 -- the factors with the last one behind them, after so many steps
 pub record IsReady (F : Facts) (names : ℕ) (factors : List U) (last : U) (more : ℕ) (d : Derivation) : Type 0 where
   pub leads : LeadsBetween F names (product_of factors) (product_of (factors ++ last ∷ [])) d
   pub steps : length d.steps ≤ more
+  pub nodes : d.nodes ≤ 2 * size.nodes (product_of factors) + 2
+  pub depth : d.depth ≤ length factors + size.depth (product_of factors) + 1
 
 pub record IsCopiedBy (facts : Facts) (outs : ℕ) (factors : List U) (first : U) (hops : List Hop) (more : ℕ) (d : Derivation) : Type 0 where
   pub leads : (last : U) → HopsLead factors first hops last → LeadsBetween facts outs (product_of factors) (product_of (factors ++ last ∷ [])) d
   pub steps : length d.steps ≤ length hops + more
+  pub within : (nodes depth : ℕ) (last : U) → StayWithin nodes depth factors first hops last → 2 * size.nodes (product_of factors) + 2 ≤ nodes → length factors + size.depth (product_of factors) + 1 ≤ depth
+      → IsBounded nodes depth d
+
+-- the hops lead from the mark, a negated equality, with its sides exchanged
+pub record LeadExchanged (factors : List U) (mark : U) (hops : List Hop) : Type 0 where
+  pub left : Val
+  pub right : Val
+  pub is : mark ≡ neg (left ≐ right)
+  pub lead : Lead factors (neg (right ≐ left)) hops
+
+pub record IsDifferenceCopied (facts : Facts) (outs : ℕ) (factors : List U) (mark : U) (hops : List Hop) (d : Derivation) : Type 0 where
+  pub each : (a b : Val) → mark ≡ neg (a ≐ b) → IsCopiedBy facts outs factors (neg (b ≐ a)) hops 5 d

@@ -52,4 +52,4 @@ pub record IsFollowed (factors : List U) (hops : List Hop) (at end : Followed) :
   pub from : end.deriv.from ≡ at.deriv.from
   pub arrives : (to : U) → HopsLead factors at.last hops to → end.last ≡ to
   pub steps : length end.deriv.steps ≡ length at.deriv.steps + length hops
-  pub within : (nodes depth : ℕ) → StayWithin nodes depth factors at.last hops → IsBounded nodes depth at.deriv → IsBounded nodes depth end.deriv
+  pub within : (nodes depth : ℕ) (to : U) → StayWithin nodes depth factors at.last hops to → IsBounded nodes depth at.deriv → IsBounded nodes depth end.deriv

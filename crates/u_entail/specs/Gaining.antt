@@ -11,10 +11,10 @@ use Rattle.u_equal.specs.Standing.{standing}
 use Rattle.u_equal.specs.Entails.{Entails}
 use Rattle.u_equal.specs.Links.{Leads, HasCount, HasNoCall, is_equality}
 use Rattle.u_entail.specs.Spines.{spine}
-use Rattle.u_entail.specs.declared.following.Followed.{Followed}
 use Rattle.u_entail.specs.declared.hops.Hop.{Hop}
 use Rattle.u_entail.specs.Following.{IsBounded}
-use Rattle.u_entail.specs.Hops.{AreAt, HopsLead, StayWithin}
+use Rattle.u_entail.specs.Hops.{HopsLead, StayWithin}
+use Rattle.u_entail.specs.Small.{AreSmall, IsSmall}
 
 -- where the right side of an equality stands
 abbrev pub right_side : List ℕ
@@ -27,7 +27,7 @@ pub record IsGained (factors : List U) (a : Val) (hops : List Hop) (first d : De
   pub from : d.from ≡ first.from
   pub arrives : (last : U) → HopsLead factors (a ≐ a) hops last → d.to ≡ spine factors last
   pub steps : length d.steps ≡ length first.steps + 1 + length hops
-  pub within : (nodes depth : ℕ) → StayWithin nodes depth factors (a ≐ a) hops → IsWithin nodes depth (spine factors I) → IsWithin nodes depth (spine factors (a ≐ a)) → IsBounded nodes depth first
+  pub within : (nodes depth : ℕ) (to : U) → StayWithin nodes depth factors (a ≐ a) hops to → IsWithin nodes depth (spine factors I) → IsWithin nodes depth (spine factors (a ≐ a)) → IsBounded nodes depth first
       → IsBounded nodes depth d
 
 -- a derivation by these facts, with the names from `outs` on for binders, that leads from the one term to the other
@@ -71,7 +71,7 @@ pub record IsLed (F : Facts) (names : ℕ) (factors : List U) (last : U) (hops :
   pub from : d.from ≡ begun.from
   pub arrives : (to : U) → HopsLead factors last hops to → d.to ≡ spine factors to
   pub steps : length d.steps ≡ length begun.steps + length hops
-  pub within : (nodes depth : ℕ) → StayWithin nodes depth factors last hops → IsBounded nodes depth begun → IsBounded nodes depth d
+  pub within : (nodes depth : ℕ) (to : U) → StayWithin nodes depth factors last hops to → IsBounded nodes depth begun → IsBounded nodes depth d
 
 -- the product leans to the right, and behind its factors the equality is gained
 pub record IsGainedIn (facts : Facts) (outs : ℕ) (product : U) (factors : List U) (a : Val) (hops : List Hop) (d : Derivation) : Type 0 where
@@ -90,12 +90,17 @@ pub record IsRegathered (F : Facts) (names : ℕ) (factors : List U) (product : 
   pub steps : d.steps ≡ gained.steps ++ gathered.steps
   pub bounds : IsJoined gained gathered d
 
+-- behind the factors the right side of the equality stays small, with calls in calls so deep
+abbrev pub StaysSmall : List U → ℕ → Val → List Hop → Val → Type 0
+StaysSmall factors n a hops b = (many deep : ℕ) → AreSmall many deep factors → (most deepest : ℕ) → ((x : Val) → IsSmall many deep n x → IsWithin most deepest (spine factors (a ≐ x)))
+    → StayWithin most deepest factors (a ≐ a) hops (a ≐ b)
+
 -- by these hops
 pub record IsGainedBy (facts : Facts) (outs : ℕ) (factors : List U) (first last : U) (a b : Val) (hops : List Hop) (more : ℕ) (d : Derivation) : Type 0 where
   pub leads : LeadsBetween facts outs first last d
   pub steps : length d.steps ≤ length hops + more
-  pub nodes : AreAt right_side hops → d.nodes ≤ 2 * (size.nodes first + size.nodes (a ≐ b))
-  pub depth : AreAt right_side hops → d.depth ≤ length factors + max (size.depth first) (size.depth (a ≐ b)) + 1
+  pub nodes : (n : ℕ) → StaysSmall factors n a hops b → d.nodes ≤ 2 * (size.nodes first + size.nodes (a ≐ b)) + 2 * (n * size.nodes first)
+  pub depth : (n : ℕ) → StaysSmall factors n a hops b → d.depth ≤ length factors + max (size.depth first) (size.depth (a ≐ b)) + 1 + n
 
 -- ---- how many steps, and how large
 -- One step for each link of a chain, those of the arguments of calls too, and a few more.
@@ -111,12 +116,19 @@ pub record IsShort (product : U) (factors : List U) (first : U) (a b : Val) (mor
   pub nodes : HasNoCall (standing product) → d.nodes ≤ 2 * (size.nodes first + size.nodes (a ≐ b))
   pub depth : HasNoCall (standing product) → d.depth ≤ length factors + max (size.depth first) (size.depth (a ≐ b)) + 1
 
+-- Through calls too: the terms on the way are larger than these by at most two calls for each level of calls in calls, of which there are no more
+-- than values.
+pub record IsModest (factors : List U) (first : U) (a b : Val) (d : Derivation) : Type 0 where
+  pub nodes : d.nodes ≤ 2 * (size.nodes first + size.nodes (a ≐ b)) + 2 * (size.nodes first * size.nodes first)
+  pub depth : d.depth ≤ length factors + max (size.depth first) (size.depth (a ≐ b)) + 1 + size.nodes first
+
 -- ---- the product times the equality
 pub record Derives (facts : Facts) (outs : ℕ) (product : U) (a b : Val) (d : Derivation) : Type 0 where
   pub entailed : Entails product a b
   pub leads : LeadsBetween facts outs product (product ⊗ (a ≐ b)) d
   pub links : HasStepsOf product a b 3 d
   pub short : IsShort product (mul_leaves product) product a b 3 d
+  pub modest : IsModest (mul_leaves product) product a b d
 
 abbrev pub IsDerived : Facts → ℕ → U → Val → Val → Option Derivation → Type 0
 IsDerived facts outs product a b None = Entails product a b → ⊥
@@ -133,6 +145,7 @@ pub record Appends (facts : Facts) (outs : ℕ) (product : U) (factors : List U)
   pub leads : LeadsBetween facts outs (product_of factors) (product_of (factors ++ (a ≐ b) ∷ [])) d
   pub links : HasStepsOf product a b 2 d
   pub short : IsShort product factors (product_of factors) a b 2 d
+  pub modest : IsModest factors (product_of factors) a b d
 
 abbrev pub IsAppended : Facts → ℕ → U → List U → Val → Val → Option Derivation → Type 0
 IsAppended facts outs product factors a b None = Entails product a b → ⊥

@@ -1,13 +1,12 @@
 -- Steps of a mark by equalities among the factors: at a place one side of an equality becomes the other.
-use Rattle.std.specs.Prelude.{◌≡◌, ℕ, ◌≤◌, ◌++◌, Bool, true, false, List, [], ◌∷◌, Some, slice_get, length}
-use Rattle.data_model.specs.Lists.{Each}
+use Rattle.std.specs.Prelude.{◌≡◌, ℕ, ◌+◌, ◌≤◌, ◌++◌, List, [], ◌∷◌, length}
 use Rattle.u_terms.specs.Syntax.{U, Val}
 use Rattle.u_terms.specs.declared.term.Val.TheVariants as v
-use Rattle.u_rules.specs.Terms.{◌≐◌}
 use Rattle.u_moves.specs.Derivations.{IsWithin}
 use Rattle.u_equal.specs.declared.link.Link.{Link}
 use Rattle.u_equal.specs.Links.{HasCount, HasCountEach}
-use Rattle.u_entail.specs.Sides.{AreGiven, IsSide, LeadsBy, LeadsEachBy}
+use Rattle.u_entail.specs.Sides.{IsSide, LeadsBy, LeadsEachBy}
+use Rattle.u_entail.specs.Small.{AreSmall, IsSmall, HaveRoom}
 use Rattle.u_entail.specs.Spines.{spine}
 use Rattle.u_entail.specs.Spots.{Spot, filled, way}
 use Rattle.u_entail.specs.declared.hops.Hop.{Hop}
@@ -32,23 +31,19 @@ pub record Lead (factors : List U) (first : U) (hops : List Hop) : Type 0 where
   pub to : U
   pub by : HopsLead factors first hops to
 
--- behind the factors, no mark on the way has more nodes, or is deeper
-abbrev pub StayWithin : ℕ → ℕ → List U → U → List Hop → Type 0
-StayWithin nodes depth factors u [] = Unit {0}
-StayWithin nodes depth factors u (first ∷ rest) =
-    (mid : U) → HopLeads factors u first mid → IsWithin nodes depth (spine factors u) × IsWithin nodes depth (spine factors mid) × StayWithin nodes depth factors mid rest
-
--- all at one place
-abbrev pub AreAt : List ℕ → List Hop → Type 0
-AreAt place = Each (λ hop. hop.place ≡ place)
+-- the same where behind the factors no mark on the way has more nodes, or is deeper
+pub data StayWithin (nodes depth : ℕ) (factors : List U) : U → List Hop → U → Type 0 where
+  stays : (u : U) → StayWithin nodes depth factors u [] u
+  goes : (u mid w : U) (first : Hop) (rest : List Hop) → HopLeads factors u first mid → IsWithin nodes depth (spine factors u) → IsWithin nodes depth (spine factors mid)
+      → StayWithin nodes depth factors mid rest w → StayWithin nodes depth factors u (first ∷ rest) w
 
 -- ---- the hops that links stand for
--- At the place they lead from value to value where the links do, and there are at most as many of them as links, those of arguments of calls
--- counted too. Where no link leads from call to call, they are at the place itself.
+-- At the place they lead from value to value where the links do, by values that are small, and there are at most as many of them as links, those
+-- of arguments of calls counted too.
 pub record AreHops (place : List ℕ) (links : List Link) (hops : List Hop) : Type 0 where
-  pub lead : (factors : List U) (a b : Val) → LeadsBy factors a links b → (spot : Spot) → way spot ≡ place → HopsLead factors (filled spot a) hops (filled spot b)
+  pub stay : (many deep : ℕ) (factors : List U) → AreSmall many deep factors → (n : ℕ) (a b : Val) → LeadsBy factors n a links b → (spot : Spot) → way spot ≡ place
+      → (most deepest : ℕ) → ((x : Val) → IsSmall many deep n x → IsWithin most deepest (spine factors (filled spot x))) → StayWithin most deepest factors (filled spot a) hops (filled spot b)
   pub few : (n : ℕ) → HasCount links n → length hops ≤ n
-  pub given : AreGiven links → AreAt place hops
 
 -- ---- contracts of private functions alone cite this
 pub record PushesHops (place : List ℕ) (links : List Link) (before after : List Hop) : Type 0 where
@@ -58,8 +53,10 @@ pub record PushesHops (place : List ℕ) (links : List Link) (before after : Lis
 
 -- the same for the arguments of calls, from an argument on
 pub record ArePairHops (place : List ℕ) (done : ℕ) (pairs : List (List Link)) (hops : List Hop) : Type 0 where
-  pub lead : (factors : List U) (xs ys : List Val) → LeadsEachBy factors xs pairs ys → (spot : Spot) → way spot ≡ place → (f : ℕ) (before : List Val) → length before ≡ done
-      → HopsLead factors (filled spot (v.Fun f (before ++ xs))) hops (filled spot (v.Fun f (before ++ ys)))
+  pub stay : (many deep : ℕ) (factors : List U) → AreSmall many deep factors → (n : ℕ) (xs ys : List Val) → LeadsEachBy factors n xs pairs ys → (spot : Spot) → way spot ≡ place
+      → (f : ℕ) (before : List Val) → length before ≡ done → HaveRoom many deep before xs ys
+      → (most deepest : ℕ) → ((x : Val) → IsSmall many deep (n + 1) x → IsWithin most deepest (spine factors (filled spot x)))
+      → StayWithin most deepest factors (filled spot (v.Fun f (before ++ xs))) hops (filled spot (v.Fun f (before ++ ys)))
   pub few : (n : ℕ) → HasCountEach pairs n → length hops ≤ n
 
 pub record PushesPairHops (place : List ℕ) (pairs : List (List Link)) (before after : List Hop) : Type 0 where

@@ -1,6 +1,7 @@
 pub mod Spines
 pub mod Sides
 pub mod Spots
+pub mod Small
 pub mod Hops
 pub mod Following
 pub mod Gaining

@@ -7,26 +7,35 @@ use Rattle.u_rules.specs.Terms.{◌≐◌}
 use Rattle.u_moves.specs.Derivations.{IsKnown}
 use Rattle.u_equal.specs.declared.link.Link.{Link}
 use Rattle.u_equal.specs.declared.link.Link.TheVariants as link
+use Rattle.u_equal.specs.Standing.{IsIn, standing}
 
 -- from the one side of this factor, an equality, to its other side: from left to right, or turned
 abbrev pub IsSide : List U → ℕ → Bool → Val → Val → Type 0
 IsSide factors factor false a b = slice_get factors factor ≡ Some (a ≐ b)
 IsSide factors factor true a b = slice_get factors factor ≡ Some (b ≐ a)
 
+-- the value stands in one of the factors, outside every binder
+pub record IsAmong (factors : List U) (a : Val) : Type 0 where
+  pub place : ℕ
+  pub factor : U
+  pub at : slice_get factors place ≡ Some factor
+  pub stands : IsIn a (standing factor)
+
 mutual
-  -- the links lead from the one value to the other
-  pub data LeadsBy (factors : List U) : Val → List Link → Val → Type 0 where
-    at_end : (a : Val) → LeadsBy factors a [] a
-    along : (a b c : Val) (first : Link) (rest : List Link) → LinkLeads factors a first b → LeadsBy factors b rest c → LeadsBy factors a (first ∷ rest) c
+  -- the links lead from the one value to the other, with calls in calls at most so deep
+  pub data LeadsBy (factors : List U) : ℕ → Val → List Link → Val → Type 0 where
+    at_end : (n : ℕ) (a : Val) → LeadsBy factors n a [] a
+    along : (n : ℕ) (a b c : Val) (first : Link) (rest : List Link) → LinkLeads factors n a first b → LeadsBy factors n b rest c → LeadsBy factors n a (first ∷ rest) c
 
-  pub data LinkLeads (factors : List U) : Val → Link → Val → Type 0 where
-    by_given : (factor : ℕ) (turned : Bool) (a b : Val) → IsSide factors factor turned a b → LinkLeads factors a (link.Given factor turned) b
-    by_call : (f : ℕ) (xs ys : List Val) (pairs : List (List Link)) → LeadsEachBy factors xs pairs ys → LinkLeads factors (v.Fun f xs) (link.Call pairs) (v.Fun f ys)
+  pub data LinkLeads (factors : List U) : ℕ → Val → Link → Val → Type 0 where
+    by_given : (n factor : ℕ) (turned : Bool) (a b : Val) → IsSide factors factor turned a b → LinkLeads factors n a (link.Given factor turned) b
+    by_call : (m n f : ℕ) (xs ys : List Val) (pairs : List (List Link)) → m < n → IsAmong factors (v.Fun f xs) → IsAmong factors (v.Fun f ys) → LeadsEachBy factors m xs pairs ys
+        → LinkLeads factors n (v.Fun f xs) (link.Call pairs) (v.Fun f ys)
 
-  pub data LeadsEachBy (factors : List U) : List Val → List (List Link) → List Val → Type 0 where
-    at_last : LeadsEachBy factors [] [] []
-    and_then : (a b : Val) (links : List Link) (xs ys : List Val) (pairs : List (List Link)) → LeadsBy factors a links b → LeadsEachBy factors xs pairs ys
-        → LeadsEachBy factors (a ∷ xs) (links ∷ pairs) (b ∷ ys)
+  pub data LeadsEachBy (factors : List U) : ℕ → List Val → List (List Link) → List Val → Type 0 where
+    at_last : (n : ℕ) → LeadsEachBy factors n [] [] []
+    and_then : (n : ℕ) (a b : Val) (links : List Link) (xs ys : List Val) (pairs : List (List Link)) → LeadsBy factors n a links b → LeadsEachBy factors n xs pairs ys
+        → LeadsEachBy factors n (a ∷ xs) (links ∷ pairs) (b ∷ ys)
 
 -- no link leads from call to call
 abbrev pub IsGivenLink : Link → Type 0

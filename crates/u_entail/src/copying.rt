@@ -5,18 +5,17 @@ ghost use Rattle.u_terms.specs.Size.{depth as depth_of};
 ghost use Rattle.u_deriv.specs.Turns.{turns};
 ghost use Rattle.u_deriv.specs.declared.run.Turn.TheVariants as turn;
 ghost use Rattle.u_rules.specs.Terms.{◌≐◌, neg, terms};
-ghost use Rattle.u_entail.specs.Carrying.{Carries};
-ghost use Rattle.u_entail.specs.Copies.{IsCopiedBy, IsCopyAt, IsReady};
+ghost use Rattle.u_entail.specs.Copies.{CopiesAlong, IsCopiedBy, IsCopyAt, IsDifferenceCopied, IsReady, LeadExchanged};
 ghost use Rattle.u_entail.specs.Gaining.{Begins, IsRegrouped};
 ghost use Rattle.u_entail.specs.Hops.{Lead};
 ghost use Rattle.u_entail.specs.Marks.{HasMark, IsMark};
 ghost use Rattle.u_entail.specs.Sides.{AreFactors};
 
 use crate::NoMemory;
-use crate::carrying::push_mark;
+use crate::carrying::MarkRoute;
 use crate::following::Front;
 use crate::gaining::equality;
-use crate::hops::Hop;
+use crate::hops::{Hop, hops_along};
 use crate::spine::then_behind;
 use std::alloc::Global;
 use u_deriv::{Path, Run};
@@ -26,7 +25,7 @@ use u_terms::{Boxed, U, Val};
 
 /// From the product of the factors to that with the wanted mark behind them, where the factor at the place is the same mark and the first
 /// factors, which are those of the classes, entail that its points are equal to the wanted ones. The sides of a negated equality may be
-/// exchanged.
+/// exchanged. No chain is made before each point is known to be entailed.
 pub fn copy_mark<'f>(
     moves: Moves<'f>,
     classes: &Classes<'_>,
@@ -40,80 +39,53 @@ pub fn copy_mark<'f>(
     requires mark { HasMark (terms factors.now) place }
     ensures { IfOk result (IsCopyAt moves.entry.facts.now moves.entry.outs classes.now (terms factors.now) place wanted.now) }
 {
+    match MarkRoute::between(moves.alloc, classes, factors[place], wanted)? {
+        None => Ok(None),
+        Some(route) => {
+            let deriv = copy_mark_along(moves, &route, factors, place)?;
+            Ok(Some(deriv))
+        }
+    }
+}
+
+/// The same along chains that were counted: whoever does not want ones of so many links does not call this.
+pub fn copy_mark_along<'f>(
+    moves: Moves<'f>,
+    route: &MarkRoute<'_, '_>,
+    factors: &[&U],
+    place: usize,
+) -> Result<Deriv<'f>, NoMemory>
+    requires factors { AreFactors moves.outs (terms factors.now) }
+    requires begins { Begins route.now.product (terms factors.now) }
+    requires shallow { moves.outs + depth_of (product_of (terms factors.now)) < 2 ^ 32 }
+    requires at { slice_get (terms factors.now) place ≡ Some route.now.mark }
+    requires is { IsMark route.now.mark }
+    ensures { IfOk result (CopiesAlong moves.entry.facts.now moves.entry.outs route.now (terms factors.now)) }
+{
+    let hops = hops_along(moves.alloc, route.points.as_slice())?;
     let front = Front { moves, factors };
-    front.copy_of(classes, place, factors[place], wanted)
+    if route.exchanged {
+        front.copied_difference(place, route.mark, hops.as_slice())
+    } else {
+        front.copied(place, route.mark, hops.as_slice())
+    }
 }
 
 impl<'f, 'p, 'a> Front<'f, 'p, 'a> {
-    fn copy_of(
-        &self,
-        classes: &Classes<'_>,
-        place: usize,
-        mark: &U,
-        wanted: &U,
-    ) -> Result<Option<Deriv<'f>>, NoMemory>
+    fn copied_difference(&self, place: usize, mark: &U, hops: &[Hop]) -> Result<Deriv<'f>, NoMemory>
         requires factors { AreFactors self.now.moves.outs (terms self.now.factors.now) }
-        requires begins { Begins classes.now (terms self.now.factors.now) }
         requires shallow { self.now.moves.outs + depth_of (product_of (terms self.now.factors.now)) < 2 ^ 32 }
         requires at { slice_get (terms self.now.factors.now) place ≡ Some mark.now }
-        requires is { IsMark mark.now }
-        ensures { IfOk result (IsCopyAt self.now.moves.facts.now self.now.moves.outs classes.now (terms self.now.factors.now) place wanted.now) }
-    {
-        let mut hops = Vec::new(self.moves.alloc);
-        if !push_mark(self.moves.alloc, classes, mark, wanted, &mut hops)? {
-            return self.copy_difference(classes, place, mark, wanted);
-        }
-        let deriv = self.copied(place, mark, hops.as_slice())?;
-        Ok(Some(deriv))
-    }
-
-    // The copy of a negated equality whose sides are exchanged.
-    fn copy_difference(
-        &self,
-        classes: &Classes<'_>,
-        place: usize,
-        mark: &U,
-        wanted: &U,
-    ) -> Result<Option<Deriv<'f>>, NoMemory>
-        requires factors { AreFactors self.now.moves.outs (terms self.now.factors.now) }
-        requires begins { Begins classes.now (terms self.now.factors.now) }
-        requires shallow { self.now.moves.outs + depth_of (product_of (terms self.now.factors.now)) < 2 ^ 32 }
-        requires at { slice_get (terms self.now.factors.now) place ≡ Some mark.now }
-        requires apart { Carries classes.now mark.now wanted.now → ⊥ }
-        ensures { IfOk result (IsCopyAt self.now.moves.facts.now self.now.moves.outs classes.now (terms self.now.factors.now) place wanted.now) }
+        requires lead { LeadExchanged (terms self.now.factors.now) mark.now hops.now }
+        ensures { IfOk result (IsDifferenceCopied self.now.moves.facts.now self.now.moves.outs (terms self.now.factors.now) mark.now hops.now) }
     {
         match mark {
             U::Not(inner) => match inner.get() {
-                U::Eq(a, b) => self.copy_exchanged(classes, place, a, b, wanted),
-                _ => Ok(None),
+                U::Eq(a, b) => self.copied_exchanged(place, a, b, hops),
+                _ => unreachable!(),
             },
-            _ => Ok(None),
+            _ => unreachable!(),
         }
-    }
-
-    fn copy_exchanged(
-        &self,
-        classes: &Classes<'_>,
-        place: usize,
-        a: &Val,
-        b: &Val,
-        wanted: &U,
-    ) -> Result<Option<Deriv<'f>>, NoMemory>
-        requires factors { AreFactors self.now.moves.outs (terms self.now.factors.now) }
-        requires begins { Begins classes.now (terms self.now.factors.now) }
-        requires shallow { self.now.moves.outs + depth_of (product_of (terms self.now.factors.now)) < 2 ^ 32 }
-        requires at { slice_get (terms self.now.factors.now) place ≡ Some (neg (a.now ≐ b.now)) }
-        requires apart { Carries classes.now (neg (a.now ≐ b.now)) wanted.now → ⊥ }
-        ensures { IfOk result (IsCopyAt self.now.moves.facts.now self.now.moves.outs classes.now (terms self.now.factors.now) place wanted.now) }
-    {
-        let alloc = self.moves.alloc;
-        let first = difference(alloc, b, a)?;
-        let mut hops = Vec::new(alloc);
-        if !push_mark(alloc, classes, first.get(), wanted, &mut hops)? {
-            return Ok(None);
-        }
-        let deriv = self.copied_exchanged(place, a, b, hops.as_slice())?;
-        Ok(Some(deriv))
     }
 
     fn copied(&self, place: usize, mark: &U, hops: &[Hop]) -> Result<Deriv<'f>, NoMemory>

@@ -1,5 +1,5 @@
 //! Equalities that the factors of a product entail, gained as factors.
-ghost use Rattle.std.specs.Prelude.{◌≡◌, ◌+◌, ◌<◌, ◌^◌, IfOk, Some, length};
+ghost use Rattle.std.specs.Prelude.{◌≡◌, ℕ, ◌+◌, ◌<◌, ◌^◌, IfOk, Some, length};
 ghost use Rattle.u_terms.specs.Products.{product_of};
 ghost use Rattle.u_terms.specs.Size.{depth as depth_of};
 ghost use Rattle.u_rules.specs.Terms.{◌⊗◌, ◌≐◌, mul_leaves, terms};
@@ -139,7 +139,7 @@ impl<'f, 'p, 'a> Front<'f, 'p, 'a> {
         requires factors { AreFactors self.now.moves.outs (terms self.now.factors.now) }
         requires shallow { self.now.moves.outs + depth_of (product_of (terms self.now.factors.now)) < 2 ^ 32 }
         requires a { IsKnownValue self.now.moves.outs a.now }
-        requires leads { (b : Val) × LeadsBy (terms self.now.factors.now) a.now links.now b }
+        requires leads { (n : ℕ) × (b : Val) × LeadsBy (terms self.now.factors.now) n a.now links.now b }
         ensures { IfOk result (IsAppendedBy self.now.moves.facts.now self.now.moves.outs (terms self.now.factors.now) a.now links.now) }
     {
         let hops = hops_at(self.moves.alloc, links, &RIGHT_SIDE)?;

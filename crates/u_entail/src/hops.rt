@@ -1,10 +1,11 @@
 //! Chains of links made flat: one step for each equality, at its place, however deep in calls it stands.
 ghost use Rattle.std.specs.Prelude.{◌≡◌, ◌∷◌, [], ◌++◌, IfOk, OnOk};
+ghost use Rattle.u_entail.specs.Carrying.{AlongCourses, PushesRoute};
 ghost use Rattle.u_entail.specs.Hops.{AreHops, PushesHops, PushesPairHops};
 
 use crate::NoMemory;
 use std::alloc::Global;
-use u_equal::Link;
+use u_equal::{Link, Route};
 use u_terms::List;
 
 /// A step: at the place one side of this factor, an equality, becomes the other, the left one the right one or, turned, back.
@@ -25,9 +26,32 @@ pub fn hops_at(alloc: Global, links: &[Link], place: &[usize]) -> Result<Vec<Hop
     Ok(hops)
 }
 
-/// The steps of the links at a place, behind those that are there.
+/// The steps along the chains of the points of a mark, one chain for each.
+pub fn hops_along(alloc: Global, routes: &[Route<'_, '_>]) -> Result<Vec<Hop>, NoMemory>
+    ensures { IfOk result (λ hops. AlongCourses 0 routes.now hops.items) }
+{
+    let mut hops = Vec::new(alloc);
+    for (k, route) in routes.iter().enumerate() {
+        push_route(alloc, route, k, &mut hops)?;
+    }
+    Ok(hops)
+}
+
+fn push_route(
+    alloc: Global,
+    route: &Route<'_, '_>,
+    argument: usize,
+    hops: &mut Vec<Hop>,
+) -> Result<(), NoMemory>
+    ensures { OnOk result (PushesRoute argument route.now hops.old.items hops.new.items) }
+{
+    let links = route.chain(alloc)?;
+    push_hops(alloc, links.as_slice(), &[argument], hops)
+}
+
+// The steps of the links at a place, behind those that are there.
 #[cycle(flatten)]
-pub fn push_hops(
+fn push_hops(
     alloc: Global,
     links: &[Link],
     place: &[usize],

@@ -12,7 +12,8 @@ mod marks;
 mod place;
 mod spine;
 
-pub use copying::copy_mark;
+pub use carrying::MarkRoute;
+pub use copying::{copy_mark, copy_mark_along};
 pub use entailed::{append, append_along, derive};
 pub use marks::repeat_mark;
 pub use std::alloc::AllocError as NoMemory;

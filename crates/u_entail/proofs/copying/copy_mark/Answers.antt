@@ -1,21 +1,17 @@
-use Rattle.std.proofs.Common.{◌≡◌, Some, ap, sym, ◌∙◌, subst}
+use Rattle.std.proofs.Common.{◌≡◌, Some, ap, sym, ◌∙◌}
 use denote.Ref.{Bor}
 use Rattle.u_terms.specs.Syntax.{U}
-use Rattle.u_entail.specs.Marks.{IsMark}
-use Rattle.u_entail.proofs.Doubled.{term-at, within-terms}
+use Rattle.u_rules.specs.Terms.{terms}
+use Rattle.u_entail.proofs.Copied.{route-copied, route-found}
+use Rattle.u_entail.proofs.Doubled.{term-at}
 use Rattle.u_entail.proofs.copying.copy_mark.Goals as goal
 
-pub bounds-factors-place : goal.bounds-factors-place
-bounds-factors-place c = let h = c.requires.mark in within-terms c.args.factors.now c.args.place h.mark h.at
-
-pub copy_of-requires-clause-at : goal.copy_of-requires-clause-at
-copy_of-requires-clause-at c =
+pub returns-in_ok-deriv-in-Some : goal.returns-in_ok-deriv-in-Some
+returns-in_ok-deriv-in-Some c =
+    let m = c.args.moves in
     let h = c.requires.mark in
-    let here : c.index-factors-place.result.now ≡ h.mark = ap (λ (r : Bor U). r.now) c.index-factors-place.is ∙ term-at c.args.factors.now c.args.place c.index-factors-place.result h.mark h.at in
-    h.at ∙ ap Some (sym here)
-
-pub copy_of-requires-clause-is : goal.copy_of-requires-clause-is
-copy_of-requires-clause-is c =
-    let h = c.requires.mark in
-    let here : c.index-factors-place.result.now ≡ h.mark = ap (λ (r : Bor U). r.now) c.index-factors-place.is ∙ term-at c.args.factors.now c.args.place c.index-factors-place.result h.mark h.at in
-    subst IsMark (sym here) h.is
+    let mark = c.index-factors-place.result.now in
+    let here : mark ≡ h.mark = ap (λ (r : Bor U). r.now) c.index-factors-place.is ∙ term-at c.args.factors.now c.args.place c.index-factors-place.result h.mark h.at in
+    let from = route-found c.args.classes.now mark c.args.wanted.now c.in_ok-between.field-0 (c.in_ok-between.ensures {u = tt}) c.in-Some.route c.in-Some.is in
+    route-copied m.facts.now m.outs c.args.classes.now (terms c.args.factors.now) c.args.place mark c.args.wanted.now (h.at ∙ ap Some (sym here)) c.in-Some.route from c.in_ok-deriv-in-Some.deriv
+    (c.in_ok-deriv-in-Some.ensures {u = tt})

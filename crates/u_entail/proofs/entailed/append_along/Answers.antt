@@ -1,9 +1,10 @@
-use Rattle.std.proofs.Common.{◌≡◌, List, Some, sym, subst}
+use Rattle.std.proofs.Common.{List, Some, length, sym, subst}
 use Rattle.std.proofs.lemmas.Result.{IfOk-weaker}
 use Rattle.u_rules.specs.Terms.{terms}
 use Rattle.u_equal.specs.declared.link.Link.{Link}
 use Rattle.u_equal.specs.Links.{IsChain}
 use Rattle.u_equal.specs.Routes.{AreCounted}
+use Rattle.u_equal.specs.Standing.{standing}
 use Rattle.u_entail.proofs.Along.{along, course-by}
 use Rattle.u_entail.proofs.entailed.append_along.Goals as goal
 
@@ -11,7 +12,7 @@ pub appended-requires-clause-leads : goal.appended-requires-clause-leads
 appended-requires-clause-leads c =
     let course = c.args.route.now in
     let chain = subst (λ (ls : List Link). IsChain course.product course.from course.to (Some ls)) (sym c.as_slice.ensures) c.in_ok-links.ensures.leads in
-    (c.args.b.now, course-by course (terms c.args.factors.now) c.requires.begins c.args.a.now c.args.b.now c.requires.from c.requires.to c.as_slice.result.now chain)
+    (length (standing course.product), c.args.b.now, course-by course (terms c.args.factors.now) c.requires.begins c.args.a.now c.args.b.now c.requires.from c.requires.to c.as_slice.result.now chain)
 
 pub returns : goal.returns
 returns c =

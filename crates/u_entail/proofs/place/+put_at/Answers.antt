@@ -1,9 +1,9 @@
 use Rattle.std.proofs.Common.{arith, ◌≡◌, ap, ◌∙◌, sym, subst}
-use Rattle.u_terms.specs.Syntax.{U, Val}
+use Rattle.u_terms.specs.Syntax.{U}
 use Rattle.u_terms.specs.declared.term.U.TheVariants as u
 use Rattle.u_terms.specs.Size.{nodes}
 use Rattle.u_terms.proofs.Sizes.{nodes-Not}
-use Rattle.u_entail.specs.Spots.{Spot, in_predicate, at_left, at_right, in_negation, filled, way, HasSpot, IsPut}
+use Rattle.u_entail.specs.Spots.{HasSpot, IsPut}
 use Rattle.u_entail.proofs.Placed.{pred-spot, pred-put, not-spot, not-put, no-mark}
 use Rattle.u_entail.proofs.place.+put_at.Goals as goal
 

@@ -1,11 +1,11 @@
-use Rattle.std.proofs.Common.{suc, ◌≡◌, ◌∷◌, ◌<◌, ◌-◌, ◌+◌, ◌*◌, List, [], ℕ, length, take, drop, get_or, ap, ◌∙◌, refl, sym, subst, arith}
+use Rattle.std.proofs.Common.{suc, ◌≡◌, ◌∷◌, List, [], ℕ, length, ap, ◌∙◌, refl, sym, subst, arith}
 use Rattle.std.specs.Prelude.{Bool, true, false, ◌==◌}
 use Rattle.std.proofs.lemmas.Bool.{true≢false, ne_eqb}
 use Rattle.std.proofs.lemmas.Result.{IfOk-weaker}
 use Rattle.u_terms.specs.Syntax.{Val}
 use Rattle.u_terms.specs.declared.term.Val.TheVariants as v
-use Rattle.u_entail.specs.Spots.{HasValueSpot, HasPointSpot, IsValuePut, IsPointPut}
-use Rattle.u_entail.proofs.Placed.{nothing-left, no-call, call-spot, call-put, point-some, point-within, point-spot, point-put}
+use Rattle.u_entail.specs.Spots.{HasValueSpot, IsValuePut}
+use Rattle.u_entail.proofs.Placed.{nothing-left, no-call, call-spot, call-put}
 use Rattle.u_entail.proofs.place.+putting.Goals as goal
 
 not-empty : (b : Bool) (place : List ℕ) → b ≡ (length place == 0) → b ≡ false → place ≡ [] → ⊥

@@ -1,4 +1,4 @@
-use Rattle.std.proofs.Common.{◌≡◌, ◌∷◌, ◌<◌, ◌-◌, List, ℕ, length, take, drop, ap, ◌∙◌, sym, subst, arith}
+use Rattle.std.proofs.Common.{◌≡◌, ◌∷◌, ◌-◌, List, ℕ, length, take, drop, ap, ◌∙◌, sym, subst, arith}
 use Rattle.std.specs.Prelude.{slice_index_or}
 use Rattle.u_terms.specs.declared.term.U.TheVariants as u
 use Rattle.u_entail.specs.Spots.{HasSpot, IsPut}

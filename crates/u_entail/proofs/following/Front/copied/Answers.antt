@@ -3,7 +3,6 @@ use Rattle.std.proofs.lemmas.Result.{IfOk-weaker}
 use Rattle.u_terms.specs.Syntax.{U}
 use Rattle.u_rules.specs.Terms.{terms}
 use Rattle.u_moves.specs.Derivations.{IsKnown}
-use Rattle.u_entail.specs.Copies.{IsCopiedBy}
 use Rattle.u_entail.specs.Gaining.{EndsIn, IsLed}
 use Rattle.u_entail.specs.Hops.{Lead}
 use Rattle.u_entail.specs.Spines.{spine}
@@ -41,5 +40,5 @@ returns c =
     let stands = c.in_ok-again.ensures {u = tt} in
     let h = stands.each c.args.mark.now c.requires.at in
     IfOk-weaker c.led.result _ _
-    (λ d l. copied-by m.facts.now m.outs factors c.args.mark.now c.args.hops.now 4 c.in_ok-again.again d h.leads (omega (arith, h.steps)) (subst (λ (x : U). IsLed m.facts.now m.outs factors x c.args.hops.now c.in_ok-again.again d) is l))
+    (λ d l. copied-by m.facts.now m.outs factors c.args.mark.now c.args.hops.now 4 c.in_ok-again.again d h.leads (omega (arith, h.steps)) h.nodes h.depth (subst (λ (x : U). IsLed m.facts.now m.outs factors x c.args.hops.now c.in_ok-again.again d) is l))
     c.led.ensures

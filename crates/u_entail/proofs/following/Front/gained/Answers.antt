@@ -1,7 +1,7 @@
 use Rattle.std.proofs.Common.{◌≡◌, ◌∙◌, sym, subst}
 use Rattle.std.proofs.lemmas.Result.{IfOk-weaker}
 use Rattle.u_terms.specs.Syntax.{U}
-use Rattle.u_rules.specs.Terms.{◌≐◌, I, terms}
+use Rattle.u_rules.specs.Terms.{◌≐◌, terms}
 use Rattle.u_moves.specs.Derivations.{IsKnown}
 use Rattle.u_entail.specs.Gaining.{EndsIn}
 use Rattle.u_entail.specs.Hops.{Lead}

@@ -1,0 +1,20 @@
+use Rattle.std.proofs.Common.{◌≡◌, ap, sym, ◌∙◌, subst}
+use Rattle.std.proofs.lemmas.Result.{IfOk-weaker}
+use Rattle.u_terms.specs.Syntax.{U}
+use Rattle.u_rules.specs.Terms.{neg}
+use Rattle.u_entail.specs.Carrying.{IsDifferenceRouted}
+use Rattle.u_entail.proofs.Carried.{difference-routed}
+use Rattle.u_entail.proofs.carrying.push_difference.Goals as goal
+
+pub returns-in-Not-wanted : goal.returns-in-Not-wanted
+returns-in-Not-wanted c =
+    let product = c.args.classes.now in
+    let inner = c.get.result.now in
+    let other = c.get-in-Not-wanted.result.now in
+    let is : c.args.mark.now ≡ neg inner = c.in-Not.is ∙ ap (λ (x : U). neg x) (sym c.get.ensures) in
+    let wanted_is : c.args.wanted.now ≡ neg other = c.in-Not-wanted.is ∙ ap (λ (x : U). neg x) (sym c.get-in-Not-wanted.ensures) in
+    IfOk-weaker c.push_exchanged.result _ _
+    (λ answer h. subst (λ (x : U). IsDifferenceRouted product x c.args.wanted.now c.args.routes.now.items c.push_exchanged.new.routes.items answer) (sym is)
+    (subst (λ (x : U). IsDifferenceRouted product (neg inner) x c.args.routes.now.items c.push_exchanged.new.routes.items answer) (sym wanted_is)
+    (difference-routed product inner other c.args.routes.now.items c.push_exchanged.new.routes.items answer h)))
+    c.push_exchanged.ensures
