@@ -1,0 +1,11 @@
+pub mod Leaves
+pub mod Walks
+pub mod Heard
+pub mod Shaped
+pub mod Putting
+pub mod Bijections
+pub mod Matching
+pub mod Apart
+pub mod Turned
+pub mod Positions
+pub mod Meeting
