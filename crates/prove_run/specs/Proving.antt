@@ -1,10 +1,13 @@
 -- What a search for a proof of two terms comes to.
-use Rattle.std.specs.Prelude.{◌≡◌, ℕ, ◌≤◌, List, Option, length}
+use Rattle.std.specs.Prelude.{◌≡◌, ℕ, ◌≤◌, ◌<◌, Bool, List, Option, length}
 use Rattle.u_terms.specs.Syntax.{U}
 use Rattle.u_terms.specs.declared.facts.Facts.{Facts}
 use Rattle.udp_io.specs.Faults.{Rose}
 use Rattle.udp_io.specs.Writing.{Grows, GrowsByPrefix}
+use Rattle.u_moves.specs.Derivations.{Derivation}
+use Rattle.proof_text.specs.Written.{proof_text}
 use Rattle.proof_check.specs.Accepted.{Accepted}
+use Rattle.u_prover.specs.Proving.{IsFound, IsUnknown}
 use Rattle.prove_run.specs.declared.proving.Searched.{Searched}
 use Rattle.prove_run.specs.declared.proving.Searched.TheVariants.{Proved, Unknown, WriteFault, NoMemory}
 
@@ -17,10 +20,15 @@ pub record IsProof (facts : Facts) (outs : ℕ) (left right : U) (text : List �
   pub short : length text ≤ most_proof_bytes
   pub accepted : Accepted facts outs left right text
 
+-- no proof is written: none is known, or the text of the one that was found is too long
+pub data IsInVain (facts : Facts) (outs : ℕ) (left right : U) : Type 0 where
+  none_known : (spent : Bool) → IsUnknown facts outs left right spent → IsInVain facts outs left right
+  too_long : (d : Derivation) → IsFound facts outs left right d → most_proof_bytes < length (proof_text d.outs d.steps) → IsInVain facts outs left right
+
 -- by what a sink held and holds, where it tells it, and how many faults it had and has
 abbrev pub IsSearched : Facts → ℕ → U → U → Option (List ℕ) → Option (List ℕ) → ℕ → ℕ → Searched → Type 0
 IsSearched facts outs left right old new before now Proved = (text : List ℕ) × IsProof facts outs left right text × Grows old new text
-IsSearched facts outs left right old new before now Unknown = (new ≡ old) × (now ≡ before)
+IsSearched facts outs left right old new before now Unknown = (new ≡ old) × (now ≡ before) × IsInVain facts outs left right
 IsSearched facts outs left right old new before now WriteFault =
     (text : List ℕ) × IsProof facts outs left right text × Rose before now × GrowsByPrefix old new text
 IsSearched facts outs left right old new before now NoMemory = (new ≡ old) × (now ≡ before)

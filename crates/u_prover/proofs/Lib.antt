@@ -1,2 +1,3 @@
 pub mod RuleKinds
 pub mod Fitting
+pub mod Outcomes

@@ -1,19 +1,26 @@
 -- What a search for a derivation comes to.
-use Rattle.std.specs.Prelude.{◌≡◌, ◌≢◌, ℕ, ◌≤◌, Bool, false, []}
+use Rattle.std.specs.Prelude.{◌≡◌, ◌≢◌, ℕ, ◌≤◌, ◌⊎◌, Bool, false, List, [], length}
 use Rattle.data_model.specs.Lists.{Each}
 use Rattle.u_terms.specs.Size as size
 use Rattle.u_terms.specs.Syntax.{U}
 use Rattle.u_terms.specs.declared.facts.Facts.{Facts}
 use Rattle.u_rules.specs.declared.rule.Rule.TheVariants as rule
 use Rattle.u_deriv.specs.declared.step.Step.{Step, out-Step}
-use Rattle.u_moves.specs.Derivations.{Derivation}
+use Rattle.u_deriv.specs.Steps.{Replays}
+use Rattle.u_moves.specs.Derivations.{Derivation, IsSound}
+use Rattle.u_congruence.specs.Congruence.{IsFromTo}
+use Rattle.normal_form.specs.NormalTerms.{IsNormal}
+use Rattle.u_normal.specs.Limits.{IsTooLarge}
 use Rattle.proof_text.specs.StepLines.{lines_of, steps_in}
 use Rattle.proof_text.specs.Written.{FitsRule, IsSmall as IsSmallArgument}
 use Rattle.proof_check.specs.Accepted.{AllFit}
 use Rattle.proof_check.specs.Limits.{IsWithin, SidesAreSmall, most_steps, sizes_for}
 use Rattle.u_prover.specs.declared.proving.Outcome.{Outcome}
 use Rattle.u_prover.specs.declared.proving.Outcome.TheVariants.{Found, Unknown}
+use Rattle.u_prover.specs.declared.proving.Met.{Met}
+use Rattle.u_prover.specs.declared.proving.Met.TheVariants.{Joined, Apart}
 
+-- ---- the limits of a proof
 -- The steps lead from the first term to the last, and have a text. They pass no limit of a proof: in number, in the inner proofs that are
 -- open at once, and in the nodes and depth of their arguments, of their sides, and of the terms that they lead to.
 pub record KeepsLimits (d : Derivation) : Type 0 where
@@ -21,6 +28,19 @@ pub record KeepsLimits (d : Derivation) : Type 0 where
   pub few : steps_in (lines_of d.steps) ≤ most_steps
   pub fit : AllFit d.facts 0 d.outs d.from d.steps d.to
 
+-- the step has no inner steps, and neither an argument nor a side of its row passes a limit
+pub record IsSmallStep (facts : Facts) (step : Step) : Type 0 where
+  pub plain : (out-Step step).rule ≢ rule.SqFix
+  pub arguments : Each IsSmallArgument (out-Step step).args
+  pub sides : SidesAreSmall (sizes_for facts step)
+
+-- what is looked at of it: the number of steps, what is stated of the terms on the way, and each step
+pub record KeepsBounds (d : Derivation) : Type 0 where
+  pub few : length d.steps ≤ most_steps
+  pub within : IsWithin d.nodes d.depth
+  pub small : Each (IsSmallStep d.facts) d.steps
+
+-- ---- a derivation is found
 -- a derivation from the left term to the right one, whose steps are a proof's
 pub record IsFound (F : Facts) (names : ℕ) (left right : U) (d : Derivation) : Type 0 where
   pub facts : d.facts ≡ F
@@ -29,23 +49,53 @@ pub record IsFound (F : Facts) (names : ℕ) (left right : U) (d : Derivation) :
   pub to : d.to ≡ right
   pub limits : KeepsLimits d
 
--- no budget ends a search yet, and where both terms are the same and within the limits of a proof, one without a step is found
-pub record IsUnknown (left right : U) (spent : Bool) : Type 0 where
+-- ---- none is known
+-- steps lead from the term to this one, which is in normal form
+pub record IsNormalOf (F : Facts) (names : ℕ) (u reached : U) : Type 0 where
+  pub steps : List Step
+  pub replays : Replays F names u steps reached
+  pub normal : IsNormal reached
+
+-- a normal form is too large, or both lead to normal terms that differ
+pub data AreApart (F : Facts) (names : ℕ) (left right : U) : Type 0 where
+  left_too_large : (nodes : ℕ) → IsTooLarge F names left nodes → AreApart F names left right
+  right_too_large : (nodes : ℕ) → IsTooLarge F names right nodes → AreApart F names left right
+  normal_terms_differ : (down up : U) → IsNormalOf F names left down → IsNormalOf F names right up → down ≢ up → AreApart F names left right
+
+-- a derivation leads from the left term to the right one, which passes a limit
+pub record PassesLimits (F : Facts) (names : ℕ) (left right : U) : Type 0 where
+  pub deriv : Derivation
+  pub leads : IsFromTo F names left right deriv
+  pub sound : IsSound deriv
+  pub passes : KeepsBounds deriv → ⊥
+
+-- No budget ends a search yet. Where both terms are the same and within the limits of a proof, one without a step is found.
+pub record IsUnknown (F : Facts) (names : ℕ) (left right : U) (spent : Bool) : Type 0 where
   pub unspent : spent ≡ false
   pub differ : left ≡ right → IsWithin (size.nodes left) (size.depth left) → ⊥
+  pub cause : AreApart F names left right ⊎ PassesLimits F names left right
 
 abbrev pub IsOutcome : Facts → ℕ → U → U → Outcome → Type 0
 IsOutcome facts outs left right (Found deriv) = IsFound facts outs left right deriv
-IsOutcome facts outs left right (Unknown spent) = IsUnknown left right spent
+IsOutcome facts outs left right (Unknown spent) = IsUnknown facts outs left right spent
 
 -- ---- contracts of private functions alone cite these
--- the step has no inner steps, and neither an argument nor a side of its row passes a limit
-pub record IsSmallStep (facts : Facts) (step : Step) : Type 0 where
-  pub plain : (out-Step step).rule ≢ rule.SqFix
-  pub arguments : Each IsSmallArgument (out-Step step).args
-  pub sides : SidesAreSmall (sizes_for facts step)
-
 -- the derivation where it keeps the limits, as one without a step does whose term is within them
 abbrev pub IsWithinLimits : Derivation → Outcome → Type 0
 IsWithinLimits d (Found deriv) = (deriv ≡ d) × KeepsLimits d
-IsWithinLimits d (Unknown spent) = (spent ≡ false) × (d.steps ≡ [] → IsWithin d.nodes d.depth → ⊥)
+IsWithinLimits d (Unknown spent) = (spent ≡ false) × IsSound d × (KeepsBounds d → ⊥)
+
+abbrev pub IsMet : Facts → ℕ → U → U → Met → Type 0
+IsMet facts outs left right (Joined deriv) = IsFromTo facts outs left right deriv
+IsMet facts outs left right Apart = AreApart facts outs left right
+
+-- a normal form of the term is too large
+pub record HasNoNormal (F : Facts) (names : ℕ) (u : U) : Type 0 where
+  pub nodes : ℕ
+  pub large : IsTooLarge F names u nodes
+
+-- a derivation by these facts that ends in normal form
+pub record IsNormalEnd (F : Facts) (names : ℕ) (d : Derivation) : Type 0 where
+  pub facts : d.facts ≡ F
+  pub outs : d.outs ≡ names
+  pub normal : IsNormal d.to

@@ -1,10 +1,10 @@
 //! The limits that a proof keeps, told of the derivation that it is to be the text of.
-ghost use Rattle.std.specs.Prelude.{◌≡◌, ◌≤◌, ◌↔◌, [], IsTrue};
+ghost use Rattle.std.specs.Prelude.{◌↔◌, IsTrue};
 ghost use Rattle.data_model.specs.Lists.{Each};
-ghost use Rattle.proof_check.specs.Limits.{IsWithin, SidesAreSmall, most_steps};
-ghost use Rattle.proof_text.specs.Limits.{most_depth, most_nodes};
+ghost use Rattle.proof_check.specs.Limits.{IsWithin, SidesAreSmall};
 ghost use Rattle.proof_text.specs.Written.{IsSmall};
-ghost use Rattle.u_prover.specs.Proving.{IsSmallStep, KeepsLimits};
+ghost use Rattle.u_moves.specs.Derivations.{IsSound};
+ghost use Rattle.u_prover.specs.Proving.{IsSmallStep, KeepsBounds, KeepsLimits};
 ghost use Rattle.u_terms.specs.Size as size;
 
 use u_deriv::Step;
@@ -23,8 +23,9 @@ const MOST_DEPTH: u64 = 2_048;
 
 /// Whether the derivation's proof keeps each limit but that on bytes. One with inner steps is not told to.
 pub fn keeps_limits(d: &Deriv<'_>) -> bool
+    ensures exact { IsTrue result ↔ KeepsBounds d.now }
     ensures kept { IsTrue result → KeepsLimits d.now }
-    ensures still { d.now.steps ≡ [] → IsWithin d.now.nodes d.now.depth → IsTrue result }
+    ensures sound { IsSound d.now }
 {
     d.steps().len() <= MOST_STEPS
         && is_within(d.nodes(), d.depth())
@@ -33,8 +34,7 @@ pub fn keeps_limits(d: &Deriv<'_>) -> bool
 
 // Whether no step has inner steps, or an argument or a side that passes a limit.
 fn are_small(facts: &Facts, steps: &[Step]) -> bool
-    ensures small { IsTrue result → Each (IsSmallStep facts.now) steps.now }
-    ensures none { steps.now ≡ [] → IsTrue result }
+    ensures { IsTrue result ↔ Each (IsSmallStep facts.now) steps.now }
 {
     for step in steps {
         if !is_small_step(facts, step) {
@@ -45,7 +45,7 @@ fn are_small(facts: &Facts, steps: &[Step]) -> bool
 }
 
 fn is_small_step(facts: &Facts, step: &Step) -> bool
-    ensures { IsTrue result → IsSmallStep facts.now step.now }
+    ensures { IsTrue result ↔ IsSmallStep facts.now step.now }
 {
     step.rule != Rule::SqFix
         && are_small_arguments(step.args.as_slice())
@@ -53,13 +53,13 @@ fn is_small_step(facts: &Facts, step: &Step) -> bool
 }
 
 fn are_small_sides(sizes: Sizes) -> bool
-    ensures { IsTrue result → SidesAreSmall sizes }
+    ensures { IsTrue result ↔ SidesAreSmall sizes }
 {
     is_within(sizes.left_nodes, sizes.left_depth) && is_within(sizes.right_nodes, sizes.right_depth)
 }
 
 fn are_small_arguments(arguments: &[Arg]) -> bool
-    ensures { IsTrue result → Each IsSmall arguments.now }
+    ensures { IsTrue result ↔ Each IsSmall arguments.now }
 {
     for argument in arguments {
         if !is_small_argument(argument) {
@@ -70,7 +70,7 @@ fn are_small_arguments(arguments: &[Arg]) -> bool
 }
 
 fn is_small_argument(argument: &Arg) -> bool
-    ensures { IsTrue result → IsSmall argument.now }
+    ensures { IsTrue result ↔ IsSmall argument.now }
 {
     match argument {
         Arg::Term(u) | Arg::Body(u) => is_within(nodes(u), depth(u)),
@@ -81,8 +81,7 @@ fn is_small_argument(argument: &Arg) -> bool
 }
 
 fn are_small_values(values: &[Val]) -> bool
-    ensures nodes { IsTrue result → size.list_nodes values.now ≤ most_nodes }
-    ensures depth { IsTrue result → size.list_depth values.now ≤ most_depth }
+    ensures { IsTrue result ↔ IsWithin (size.list_nodes values.now) (size.list_depth values.now) }
 {
     let mut nodes: u64 = 0;
     let mut depth: u64 = 0;

@@ -1,8 +1,10 @@
 //! The search for a derivation.
-ghost use Rattle.std.specs.Prelude.{◌≡◌, IfOk, IfSome};
+ghost use Rattle.std.specs.Prelude.{◌≡◌, ◌↔◌, IfOk, IfSome, IsTrue, MatchOption};
+ghost use Rattle.normal_form.specs.NormalTerms.{IsNormal};
 ghost use Rattle.u_congruence.specs.Congruence.{IsBy, IsFromTo};
-ghost use Rattle.u_moves.specs.Derivations.{IsKnown};
-ghost use Rattle.u_prover.specs.Proving.{IsOutcome, IsWithinLimits};
+ghost use Rattle.u_moves.specs.Derivations.{IsKnown, IsSound};
+ghost use Rattle.u_normal.specs.Leading.{Leads};
+ghost use Rattle.u_prover.specs.Proving.{HasNoNormal, IsMet, IsNormalEnd, IsOutcome, IsWithinLimits};
 ghost use Rattle.u_simple.specs.Passes.{IsFrom};
 
 use crate::NoMemory;
@@ -32,6 +34,14 @@ pub enum Outcome<'f> {
     },
 }
 
+/// Whether both terms lead to one.
+#[derive(Drop)]
+enum Met<'f> {
+    /// From the left term to the right one.
+    Joined { deriv: Derived<'f> },
+    Apart,
+}
+
 /// Searches a derivation from the left term to the right one. No search yet is long enough to need the budget.
 pub fn prove<'f>(
     alloc: Global,
@@ -50,8 +60,8 @@ pub fn prove<'f>(
         return no_step(moves, left);
     }
     match derived(moves, left, right)? {
-        Some(d) => Ok(within_limits(d.into_inner())),
-        None => Ok(Outcome::Unknown { spent: false }),
+        Met::Joined { deriv } => Ok(within_limits(deriv.into_inner())),
+        Met::Apart => Ok(Outcome::Unknown { spent: false }),
     }
 }
 
@@ -78,61 +88,117 @@ fn within_limits(deriv: Deriv<'_>) -> Outcome<'_>
     }
 }
 
-// From the left term to the right one: by one step, where they differ in one order alone, and else by way of simpler terms.
-fn derived<'f>(moves: Moves<'f>, left: &U, right: &U) -> Result<Option<Derived<'f>>, NoMemory>
+// From the left term to the right one: by one step, where they differ in one order alone, and else by way of their normal forms.
+fn derived<'f>(moves: Moves<'f>, left: &U, right: &U) -> Result<Met<'f>, NoMemory>
     requires left { IsKnown 0 moves.outs left.now }
     requires right { IsKnown 0 moves.outs right.now }
-    ensures { IfOk result (λ found. IfSome found (IsFromTo moves.entry.facts.now moves.entry.outs left.now right.now)) }
+    ensures { IfOk result (IsMet moves.entry.facts.now moves.entry.outs left.now right.now) }
 {
     match rearranged(moves, left, right)? {
-        Some(turn) => Ok(Some(turn)),
-        None => by_simpler_terms(moves, left, right),
+        Some(deriv) => Ok(Met::Joined { deriv }),
+        None => by_normal_forms(moves, left, right),
     }
 }
 
-// From the left term to the right one, where both lead to the same simpler term.
-fn by_simpler_terms<'f>(
-    moves: Moves<'f>,
-    left: &U,
-    right: &U,
-) -> Result<Option<Derived<'f>>, NoMemory>
+// From the left term to the right one by way of their normal forms.
+fn by_normal_forms<'f>(moves: Moves<'f>, left: &U, right: &U) -> Result<Met<'f>, NoMemory>
     requires left { IsKnown 0 moves.outs left.now }
     requires right { IsKnown 0 moves.outs right.now }
-    ensures { IfOk result (λ found. IfSome found (IsFromTo moves.entry.facts.now moves.entry.outs left.now right.now)) }
+    ensures { IfOk result (IsMet moves.entry.facts.now moves.entry.outs left.now right.now) }
 {
-    let Some(down) = simpler(moves, left)? else {
-        return Ok(None);
+    let Some(down) = made_normal(moves, left)? else {
+        return Ok(Met::Apart);
     };
-    let Some(up) = simpler(moves, right)? else {
-        return Ok(None);
+    let Some(up) = made_normal(moves, right)? else {
+        return Ok(Met::Apart);
     };
-    if same(down.get().to(), up.get().to()) {
-        Ok(Some(joined_back(moves.alloc, down, up)?))
-    } else {
-        Ok(None)
-    }
+    from_normal_terms(moves, down, up)
 }
 
-// From a term to its normal form, unless that is too large, and then to one without sums over single values and with its parts in order.
-fn simpler<'f>(moves: Moves<'f>, u: &U) -> Result<Option<Derived<'f>>, NoMemory>
+// From a term to its normal form, unless that is too large.
+fn made_normal<'f>(moves: Moves<'f>, u: &U) -> Result<Option<Derived<'f>>, NoMemory>
     requires { IsKnown 0 moves.outs u.now }
-    ensures { IfOk result (λ found. IfSome found (IsFrom moves.entry.facts.now moves.entry.outs u.now)) }
+    ensures { IfOk result (λ found. MatchOption found (HasNoNormal moves.entry.facts.now moves.entry.outs u.now) (Leads IsNormal moves.entry.facts.now moves.entry.outs u.now)) }
 {
     match normal(moves, u) {
-        Ok(normal) => Ok(Some(then_simpler(moves, normal)?)),
+        Ok(d) => Ok(Some(d)),
         Err(NormalFault::TooLarge { nodes: _ }) => Ok(None),
         Err(NormalFault::NoMemory) => Err(AllocError),
     }
 }
 
-// The derivation, and then its last term without sums over single values and with its parts in order. They are put in order first, so that
-// which value a sum has does not depend on how its factors were written.
-fn then_simpler<'f>(moves: Moves<'f>, d: Derived<'f>) -> Result<Derived<'f>, NoMemory>
+// From the first term of the one derivation to that of the other: both end in normal form, and go on only where these differ.
+fn from_normal_terms<'f>(
+    moves: Moves<'f>,
+    down: Derived<'f>,
+    up: Derived<'f>,
+) -> Result<Met<'f>, NoMemory>
+    requires down { IsNormalEnd moves.facts.now moves.outs down }
+    requires up { IsNormalEnd moves.facts.now moves.outs up }
+    ensures { IfOk result (IsMet moves.entry.facts.now moves.entry.outs down.entry.from up.entry.from) }
+{
+    if end_alike(&down, &up) {
+        let deriv = joined_back(moves.alloc, down, up)?;
+        return Ok(Met::Joined { deriv });
+    }
+    match by_order(moves, down, up)? {
+        Some(deriv) => Ok(Met::Joined { deriv }),
+        None => Ok(Met::Apart),
+    }
+}
+
+// The same by way of their last terms in order, so that which value a sum has does not depend on how its factors were written.
+fn by_order<'f>(
+    moves: Moves<'f>,
+    down: Derived<'f>,
+    up: Derived<'f>,
+) -> Result<Option<Derived<'f>>, NoMemory>
+    requires down { IsBy moves.facts.now moves.outs down }
+    requires up { IsBy moves.facts.now moves.outs up }
+    ensures { IfOk result (λ found. IfSome found (IsFromTo moves.entry.facts.now moves.entry.outs down.entry.from up.entry.from)) }
+{
+    let left = then_in_order(moves, down)?;
+    let right = then_in_order(moves, up)?;
+    if end_alike(&left, &right) {
+        return Ok(Some(joined_back(moves.alloc, left, right)?));
+    }
+    by_values(moves, left, right)
+}
+
+// The same by way of their last terms without sums over single values.
+fn by_values<'f>(
+    moves: Moves<'f>,
+    down: Derived<'f>,
+    up: Derived<'f>,
+) -> Result<Option<Derived<'f>>, NoMemory>
+    requires down { IsBy moves.facts.now moves.outs down }
+    requires up { IsBy moves.facts.now moves.outs up }
+    ensures { IfOk result (λ found. IfSome found (IsFromTo moves.entry.facts.now moves.entry.outs down.entry.from up.entry.from)) }
+{
+    let left = then_fewer_sums(moves, down)?;
+    let right = then_fewer_sums(moves, up)?;
+    if end_alike(&left, &right) {
+        Ok(Some(joined_back(moves.alloc, left, right)?))
+    } else {
+        Ok(None)
+    }
+}
+
+// Whether both have the same last term.
+fn end_alike(down: &Derived<'_>, up: &Derived<'_>) -> bool
+    ensures same { IsTrue result ↔ (down.now.to ≡ up.now.to) }
+    ensures down { IsSound down.now }
+    ensures up { IsSound up.now }
+{
+    same(down.get().to(), up.get().to())
+}
+
+// The derivation, and then its last term without sums over single values and with its parts in order.
+fn then_fewer_sums<'f>(moves: Moves<'f>, d: Derived<'f>) -> Result<Derived<'f>, NoMemory>
     requires { IsBy moves.facts.now moves.outs d }
     ensures { IfOk result (IsFrom moves.entry.facts.now moves.entry.outs d.entry.from) }
 {
-    let first = then_in_order(moves, d)?;
-    let fewer = then_without_points(moves, first)?;
+    let fewer = then_without_points(moves, d)?;
     then_in_order(moves, fewer)
 }
 

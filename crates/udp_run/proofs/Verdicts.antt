@@ -113,16 +113,20 @@ module _ (t : BothTold) (parts : Parts) (read : IsCaseRead t.case.text parts) wh
       small : outs < 2 ^ 32
       small = omega (arith, few_outs t.case.text parts read outs wide)
 
-      abbrev claim : Claim
+      abbrev pub claim : Claim
       claim = record { facts = facts; outs = outs; left = left; right = right }
 
-      claim_is : claim ≡ claim_of parts.schema written
+      pub claim_is : claim ≡ claim_of parts.schema written
       claim_is = λ i. record {
         facts = facts-are parts.schema facts are_facts i;
         outs = outs_is i;
         left = (are.left.value ∙ left_is) i;
         right = (are.right.value ∙ right_is) i;
       }
+
+      -- what holds of the claim that the terms make
+      pub of-claim : (P : Claim → Type 0) → P claim → HasTerms t.case.text (λ schema w. P (claim_of schema w))
+      of-claim P p = has_terms (λ schema w. P (claim_of schema w)) (subst P claim_is p)
 
       has_both : (Of : Schema → CaseText → Type 0) (P : Claim → List ℕ → Type 0) → Of parts.schema written → IfSome t.proof.text (P claim)
           → HasBoth t.case.text t.proof.text Of P

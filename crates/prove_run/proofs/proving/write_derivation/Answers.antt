@@ -1,9 +1,15 @@
-use Rattle.std.proofs.Common.{rules, ◌≤◌, length, arith}
+use Rattle.std.proofs.Common.{rules, ◌≤◌, ◌<◌, length, refl, arith}
 use Rattle.udp_io.specs.Faults.{Rose}
 use Rattle.proof_text.specs.Written.{proof_text}
-use Rattle.prove_run.specs.Proving.{most_proof_bytes}
+use Rattle.prove_run.specs.Proving.{most_proof_bytes, too_long}
 use Rattle.prove_run.proofs.Written.{derivation-proof}
 use Rattle.prove_run.proofs.proving.write_derivation.Goals as goal
+
+pub returns-then-proof_bytes : goal.returns-then-proof_bytes
+returns-then-proof_bytes g c =
+    let d = c.args.deriv.now in
+    let long : most_proof_bytes < length (proof_text d.outs d.steps) = omega (arith, c.if-proof_bytes.true, rw (c.outs.ensures, c.steps.ensures.lent) at c.proof_bytes.ensures.text) in
+    (refl, refl, too_long d (record { facts = refl; outs = refl; from = refl; to = refl; limits = c.requires }) long)
 
 pub returns-in-Ok : goal.returns-in-Ok
 returns-in-Ok g c =
