@@ -5,7 +5,7 @@ use crate::entailed::{derived, entails, links};
 use crate::fault::CallFault;
 use crate::lines::line;
 use crate::moves::moved;
-use crate::normal::{normal_form, rests};
+use crate::normal::{normal_form, rests, step_count};
 use crate::places::{part, step};
 use crate::rules::{side_sizes, sides};
 use std::alloc::Global;
@@ -27,6 +27,7 @@ pub fn answer(alloc: Global, facts: &Facts, call: &str) -> Result<String, CallFa
         "sides" => sides(alloc, facts, words),
         "sizes" => side_sizes(alloc, facts, words),
         "step" => step(alloc, facts, words),
+        "steps" => step_count(alloc, facts, words),
         _ => Err(CallFault::NoSuchCall),
     }
 }

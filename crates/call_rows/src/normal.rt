@@ -41,6 +41,27 @@ pub fn rests(alloc: Global, facts: &Facts, words: &str) -> Result<String, CallFa
     Ok(String::from_str(alloc, answer)?)
 }
 
+/// `steps TERM`: by how many steps it becomes what it becomes.
+pub fn step_count(alloc: Global, facts: &Facts, words: &str) -> Result<String, CallFault> {
+    let term = term(alloc, words)?;
+    let outs = OUTS;
+    counted(Moves { alloc, facts, outs }, term.get())
+}
+
+fn counted(moves: Moves<'_>, u: &U) -> Result<String, CallFault> {
+    if !is_known(u, 0, OUTS) || moves.outs != OUTS {
+        return Err(CallFault::NotClosed);
+    }
+    match normal(moves, u) {
+        Ok(made) => {
+            let count = made.get().steps().len();
+            Ok(format!(in moves.alloc; "{count} steps")?)
+        }
+        Err(NormalFault::TooLarge { nodes }) => Ok(format!(in moves.alloc; "{nodes} nodes")?),
+        Err(NormalFault::NoMemory) => Err(CallFault::NoMemory),
+    }
+}
+
 fn made_twice(alloc: Global, facts: &Facts, words: &str) -> Result<Form, CallFault> {
     let term = term(alloc, words)?;
     let outs = OUTS;

@@ -7,6 +7,7 @@ use u_deriv::{Path, Step};
 use u_rules::{Arg, Rule};
 use u_terms::{Boxed, U, Val};
 
+/// A number, in decimal digits.
 pub fn number(text: &str) -> Result<u32, CallFault> {
     text.parse().map_err(|_| CallFault::BadNumber)
 }
@@ -27,6 +28,7 @@ pub fn instance(alloc: Global, text: &str) -> Result<(Rule, Vec<Arg>), CallFault
     Ok((step.rule, step.args.into_vec()))
 }
 
+/// A term, as the line of a step writes it as an argument.
 pub fn term(alloc: Global, text: &str) -> Result<Boxed<U>, CallFault> {
     let line = format!(in alloc; "/ > sq_one {text}")?;
     match step(alloc, line.as_str())?.args.into_vec().pop() {
@@ -35,6 +37,7 @@ pub fn term(alloc: Global, text: &str) -> Result<Boxed<U>, CallFault> {
     }
 }
 
+/// A value, as the line of a step writes it as an argument.
 pub fn value(alloc: Global, text: &str) -> Result<Boxed<Val>, CallFault> {
     let line = format!(in alloc; "/ > eq_refl {text}")?;
     match step(alloc, line.as_str())?.args.into_vec().pop() {
@@ -43,6 +46,7 @@ pub fn value(alloc: Global, text: &str) -> Result<Boxed<Val>, CallFault> {
     }
 }
 
+/// A path, as it stands at the start of the line of a step.
 pub fn path(alloc: Global, text: &str) -> Result<Path, CallFault> {
     let line = format!(in alloc; "{text} > sq_zero")?;
     Ok(step(alloc, line.as_str())?.path)

@@ -3,6 +3,7 @@ ghost use Rattle.std.specs.Prelude.{◌≡◌, ◌↔◌, IsTrue};
 
 use std::fmt;
 
+/// The rows so far, and those that differ.
 #[derive(Clone, Copy, Debug, Default)]
 pub struct Tally {
     pub rows: u64,

@@ -98,6 +98,7 @@ pub struct Template {
 }
 
 impl Template {
+    /// A text of no bytes.
     pub fn new(alloc: Global) -> Template {
         Template {
             alloc,
