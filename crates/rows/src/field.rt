@@ -23,6 +23,7 @@ pub struct Field {
 }
 
 impl Field {
+    /// A field of which no line was read yet.
     pub fn new(alloc: Global, kind: FieldKind) -> Field {
         Field {
             kind,

@@ -19,6 +19,8 @@ pub struct Row {
     pub words: Vec<String>,
     /// The words of a second run, which has what the first one wrote as a text. There is none without words.
     pub then: Vec<String>,
+    /// Whether what the first run wrote is compared too.
+    pub both: bool,
     pub texts: Vec<Text>,
     pub often: Often,
     pub expected: Outcome,
@@ -87,6 +89,7 @@ pub struct RowReader {
 }
 
 impl RowReader {
+    /// At the head of a file, where nothing is said.
     pub fn new(alloc: Global) -> RowReader {
         RowReader {
             alloc,
@@ -94,6 +97,7 @@ impl RowReader {
                 name: String::new(alloc),
                 words: Vec::new(alloc),
                 then: Vec::new(alloc),
+                both: false,
                 texts: Vec::new(alloc),
                 often: Often::Once,
                 expected: Outcome {
@@ -147,7 +151,10 @@ impl RowReader {
                 self.row.words = words(self.alloc, rest)?;
                 self.row.then = Vec::new(self.alloc);
             }
-            "then" => self.row.then = words(self.alloc, rest)?,
+            "then" | "and" => {
+                self.row.then = words(self.alloc, rest)?;
+                self.row.both = word == "and";
+            }
             "status" => {
                 self.row.expected.status = rest.parse().map_err(|_| RowFault::BadStatus)?;
             }

@@ -23,10 +23,22 @@ fn run_once(alloc: Global, row: &Row) -> Result<Outcome, AllocError> {
     if row.then.is_empty() {
         return Ok(first);
     }
+    let second = run_then(alloc, row, first.written.as_slice())?;
+    if !row.both {
+        return Ok(second);
+    }
+    let mut written = Vec::new(alloc);
+    add_line(alloc, &mut written, &first)?;
+    add_line(alloc, &mut written, &second)?;
+    Ok(Outcome { status: 0, written })
+}
+
+// The second run of a row, which has what the first one wrote as a text.
+fn run_then(alloc: Global, row: &Row, written: &[u8]) -> Result<Outcome, AllocError> {
     let mut texts = fronts(alloc, &row.texts, "", 0)?;
     texts.push(Text {
         name: String::from_str(alloc, WRITTEN)?,
-        bytes: first.written,
+        bytes: Vec::from_slice(alloc, written)?,
     })?;
     run_words(alloc, &row.then, &texts, Behaviour::sure())
 }
