@@ -1,0 +1,11 @@
+use Rattle.u_entail.proofs.Parts.{left-known}
+use Rattle.u_rules.specs.Terms.{terms}
+use Rattle.u_bag.proofs.Marked.{not-appended}
+use Rattle.u_bag.proofs.gaining.equality_gained.Goals as goal
+
+pub append-requires-clause-a : goal.append-requires-clause-a
+append-requires-clause-a c = left-known c.args.moves.outs c.args.a.now c.args.b.now c.requires.wanted
+
+pub returns-in-None : goal.returns-in-None
+returns-in-None c =
+    not-appended c.args.moves.facts.now c.args.moves.outs c.args.classes.now (terms c.args.factors.now) c.args.a.now c.args.b.now c.in_ok-deriv.field-0 (c.in_ok-deriv.ensures {u = tt}) c.in-None.is

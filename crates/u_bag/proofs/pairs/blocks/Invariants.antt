@@ -1,0 +1,6 @@
+use Rattle.u_rules.specs.Terms.{terms}
+use Rattle.u_bag.specs.Pairs.{AreBlocks}
+use Rattle.u_bag.proofs.pairs.blocks.Given as goal
+
+abbrev pub invariant-loop-term : goal.invariant-loop-term
+invariant-loop-term l = AreBlocks l.outs (terms l.terms) l.blocks.items
