@@ -16,10 +16,10 @@ derivation-proof d text keeps spelled short = record {
 }
 
 -- what is searched of the ends of a derivation that was found is searched of the terms
-pub found-searched : (F : Facts) (outs : ℕ) (left right : U) (d : Derivation) → IsFound F outs left right d → (old new : Option (List ℕ)) (b n : ℕ) (r : Searched)
-    → IsSearched d.facts d.outs d.from d.to old new b n r → IsSearched F outs left right old new b n r
-found-searched F outs left right d found old new b n r h =
-    subst (λ (G : Facts). IsSearched G outs left right old new b n r) found.facts
-    (subst (λ (m : ℕ). IsSearched d.facts m left right old new b n r) found.outs
-    (subst (λ (t : U). IsSearched d.facts d.outs t right old new b n r) found.from
-    (subst (λ (t : U). IsSearched d.facts d.outs d.from t old new b n r) found.to h)))
+pub found-searched : (F : Facts) (outs : ℕ) (left right : U) (d : Derivation) → IsFound F outs left right d → (budget : ℕ) (old new : Option (List ℕ)) (b n : ℕ) (r : Searched)
+    → IsSearched d.facts d.outs d.from d.to budget old new b n r → IsSearched F outs left right budget old new b n r
+found-searched F outs left right d found budget old new b n r h =
+    subst (λ (G : Facts). IsSearched G outs left right budget old new b n r) found.facts
+    (subst (λ (m : ℕ). IsSearched d.facts m left right budget old new b n r) found.outs
+    (subst (λ (t : U). IsSearched d.facts d.outs t right budget old new b n r) found.from
+    (subst (λ (t : U). IsSearched d.facts d.outs d.from t budget old new b n r) found.to h)))

@@ -1,4 +1,5 @@
 //! A proof is searched, and written where it is whole.
+ghost use Rattle.std.specs.Prelude.{ℕ};
 ghost use Rattle.u_moves.specs.Derivations.{IsKnown};
 ghost use Rattle.u_prover.specs.Proving.{KeepsLimits};
 ghost use Rattle.prove_run.specs.Proving.{IsSearched};
@@ -17,7 +18,10 @@ pub enum Searched {
     /// The text of a proof was written.
     Proved,
     /// No proof is known, or none that is short enough, and nothing was written.
-    Unknown,
+    Unknown {
+        /// Whether the budget ended a search.
+        spent: bool,
+    },
     /// The sink failed after a part of a proof.
     WriteFault,
     /// Memory ran out, and nothing was written.
@@ -27,11 +31,11 @@ pub enum Searched {
 // Writes the text of the derivation, where it is not too long.
 fn write_derivation<K: Sink>(deriv: &Deriv<'_>, out: &mut K) -> Searched
     requires { KeepsLimits deriv.now }
-    ensures { IsSearched deriv.now.facts deriv.now.outs deriv.now.from deriv.now.to
+    ensures { (budget : ℕ) → IsSearched deriv.now.facts deriv.now.outs deriv.now.from deriv.now.to budget
         (K.written out.old) (K.written out.new) (K.faults out.old) (K.faults out.new) result }
 {
     if proof_bytes(deriv.outs(), deriv.steps()) > PROOF_LIMIT as u64 {
-        return Searched::Unknown;
+        return Searched::Unknown { spent: false };
     }
     match write_proof(out, deriv.outs(), deriv.steps()) {
         Ok(()) => Searched::Proved,
@@ -51,12 +55,12 @@ pub fn prove_terms<K: Sink>(
 ) -> Searched
     requires left { IsKnown 0 outs left.now }
     requires right { IsKnown 0 outs right.now }
-    ensures { IsSearched facts.now outs left.now right.now
+    ensures { IsSearched facts.now outs left.now right.now budget
         (K.written out.old) (K.written out.new) (K.faults out.old) (K.faults out.new) result }
 {
     match prove(alloc, facts, outs, left, right, budget) {
         Ok(Outcome::Found { deriv }) => write_derivation(&deriv, out),
-        Ok(Outcome::Unknown { .. }) => Searched::Unknown,
+        Ok(Outcome::Unknown { spent }) => Searched::Unknown { spent },
         Err(_) => Searched::NoMemory,
     }
 }

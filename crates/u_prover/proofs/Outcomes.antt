@@ -1,6 +1,6 @@
 -- What a search comes to, by what was found on the way.
-use Rattle.std.proofs.Common.{◌≡◌, ◌≢◌, ℕ, ◌≤◌, List, [], length, refl, ap, sym, subst, ◌∙◌, inl, inr, Some, None, arith}
-use Rattle.std.specs.Prelude.{◌⊎◌, false, Option, MatchOption}
+use Rattle.std.proofs.Common.{◌≡◌, ℕ, List, length, Bool, refl, ap, sym, subst, ◌∙◌, inl, inr, Some, None, arith}
+use Rattle.std.specs.Prelude.{true, false, Option, MatchOption}
 use Rattle.data_model.specs.Lists.{Each}
 use Rattle.u_terms.specs.Syntax.{U}
 use Rattle.u_terms.specs.Size as size
@@ -15,9 +15,9 @@ use Rattle.normal_form.specs.NormalTerms.{IsNormal}
 use Rattle.proof_check.specs.Limits.{IsWithin}
 use Rattle.u_prover.specs.declared.proving.Outcome.{Outcome}
 use Rattle.u_prover.specs.declared.proving.Outcome.TheVariants.{Found, Unknown}
-use Rattle.u_prover.specs.declared.proving.Met.{Met}
-use Rattle.u_prover.specs.declared.proving.Met.TheVariants.{Joined, Apart}
-use Rattle.u_prover.specs.Proving.{AreApart, HasNoNormal, IsFound, IsMet, IsNormalEnd, IsNormalOf, IsOutcome, IsSmallStep, IsUnknown, IsWithinLimits, KeepsBounds, KeepsLimits, normal_terms_differ, left_too_large, right_too_large}
+use Rattle.u_rules.specs.Terms.{add_leaves}
+use Rattle.u_bag.specs.Pairs.{SomePassBudget}
+use Rattle.u_prover.specs.Proving.{AreApart, HasNoNormal, IsFound, IsNormalEnd, IsNormalOf, IsOutcome, IsSmallStep, IsSpent, IsUnknown, IsWithinLimits, KeepsBounds, normal_terms_differ}
 
 -- ---- a derivation that was found
 bounds-still : (F : Facts) (outs : ℕ) (t : U) (d : Derivation) → IsStill F outs t d → IsWithin (size.nodes t) (size.depth t) → KeepsBounds d
@@ -27,25 +27,29 @@ bounds-still F outs t d still within = record {
   small = subst (λ (steps : List Step). Each (IsSmallStep d.facts) steps) (sym still.steps) tt;
 }
 
-module _ (F : Facts) (outs : ℕ) (left right : U) (d : Derivation) where
-  outcome-of : (o : Outcome) → IsWithinLimits d o → IsFromTo F outs left right d → (left ≡ right → IsWithin (size.nodes left) (size.depth left) → KeepsBounds d) → IsOutcome F outs left right o
+unspent : (F : Facts) (outs : ℕ) (left right : U) (budget : ℕ) (spent : Bool) → spent ≡ false → spent ≡ true → IsSpent F outs left right budget
+unspent F outs left right budget spent off on = let e : false ≡ true = sym off ∙ on in absurd (cc)
+
+module _ (F : Facts) (outs : ℕ) (left right : U) (budget : ℕ) (d : Derivation) where
+  outcome-of : (o : Outcome) → IsWithinLimits d o → IsFromTo F outs left right d → (left ≡ right → IsWithin (size.nodes left) (size.depth left) → KeepsBounds d) → IsOutcome F outs left right budget o
   outcome-of (Found deriv) h leads small =
       subst (λ (e : Derivation). IsFound F outs left right e) (sym h.0) (record { facts = leads.facts; outs = leads.outs; from = leads.from; to = leads.to; limits = h.1 })
   outcome-of (Unknown spent) h leads small = record {
-    unspent = h.0;
+    spends = unspent F outs left right budget spent h.0;
     differ = λ same within. h.2 (small same within);
     cause = inr (record { deriv = d; leads = leads; sound = h.1; passes = h.2 });
   }
 
-  pub outcome-joined : (left ≡ right → ⊥) → (o : Outcome) → IsWithinLimits d o → IsFromTo F outs left right d → IsOutcome F outs left right o
+  pub outcome-joined : (left ≡ right → ⊥) → (o : Outcome) → IsWithinLimits d o → IsFromTo F outs left right d → IsOutcome F outs left right budget o
   outcome-joined differ o h leads = outcome-of o h leads (λ same. absurd (differ same))
 
-pub outcome-still : (F : Facts) (outs : ℕ) (t : U) (d : Derivation) → IsStill F outs t d → (o : Outcome) → IsWithinLimits d o → IsOutcome F outs t t o
-outcome-still F outs t d still o h =
-    outcome-of F outs t t d o h (record { facts = still.facts; outs = still.outs; from = still.from; to = still.to }) (λ same within. bounds-still F outs t d still within)
+pub outcome-still : (F : Facts) (outs : ℕ) (t : U) (budget : ℕ) (d : Derivation) → IsStill F outs t d → (o : Outcome) → IsWithinLimits d o → IsOutcome F outs t t budget o
+outcome-still F outs t budget d still o h =
+    outcome-of F outs t t budget d o h (record { facts = still.facts; outs = still.outs; from = still.from; to = still.to }) (λ same within. bounds-still F outs t d still within)
 
-pub apart-unknown : (F : Facts) (outs : ℕ) (left right : U) → (left ≡ right → ⊥) → AreApart F outs left right → IsUnknown F outs left right false
-apart-unknown F outs left right differ apart = record { unspent = refl; differ = λ same. absurd (differ same); cause = inl apart }
+pub apart-unknown : (F : Facts) (outs : ℕ) (left right : U) (budget : ℕ) (spent : Bool) → (left ≡ right → ⊥) → AreApart F outs left right
+    → (spent ≡ true → IsSpent F outs left right budget) → IsUnknown F outs left right budget spent
+apart-unknown F outs left right budget spent differ apart spends = record { spends = spends; differ = λ same. absurd (differ same); cause = inl apart }
 
 -- ---- normal terms
 pub normal-of : (F : Facts) (outs : ℕ) (d : Derivation) → IsNormalEnd F outs d → IsSound d → IsNormalOf F outs d.from d.to
@@ -65,3 +69,13 @@ normal-end F outs t d h = record { facts = h.facts; outs = h.outs; normal = h.re
 pub none-large : (F : Facts) (outs : ℕ) (t : U) (o : Option Derivation) → ((d : Derivation) → o ≡ Some d → ⊥) → MatchOption o (HasNoNormal F outs t) (Leads IsNormal F outs t) → HasNoNormal F outs t
 none-large F outs t None none h = h
 none-large F outs t (Some d) none h = absurd (none d refl)
+
+pub ends-spent : (F : Facts) (outs : ℕ) (down up : Derivation) (budget : ℕ) → IsNormalEnd F outs down → IsNormalEnd F outs up → IsSound down → IsSound up
+    → SomePassBudget outs (add_leaves down.to) (add_leaves up.to) budget → IsSpent F outs down.from up.from budget
+ends-spent F outs down up budget end_down end_up sound_down sound_up passes = record {
+  down = down.to;
+  up = up.to;
+  left_leads = normal-of F outs down end_down sound_down;
+  right_leads = normal-of F outs up end_up sound_up;
+  passes = passes;
+}

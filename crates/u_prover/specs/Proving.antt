@@ -1,24 +1,26 @@
 -- What a search for a derivation comes to.
-use Rattle.std.specs.Prelude.{◌≡◌, ◌≢◌, ℕ, ◌≤◌, ◌⊎◌, Bool, false, List, [], length}
+use Rattle.std.specs.Prelude.{◌≡◌, ◌≢◌, ℕ, ◌≤◌, ◌⊎◌, Bool, true, false, List, length}
 use Rattle.data_model.specs.Lists.{Each}
 use Rattle.u_terms.specs.Size as size
 use Rattle.u_terms.specs.Syntax.{U}
 use Rattle.u_terms.specs.declared.facts.Facts.{Facts}
 use Rattle.u_rules.specs.declared.rule.Rule.TheVariants as rule
+use Rattle.u_rules.specs.Terms.{add_leaves}
 use Rattle.u_deriv.specs.declared.step.Step.{Step, out-Step}
 use Rattle.u_deriv.specs.Steps.{Replays}
 use Rattle.u_moves.specs.Derivations.{Derivation, IsSound}
 use Rattle.u_congruence.specs.Congruence.{IsFromTo}
 use Rattle.normal_form.specs.NormalTerms.{IsNormal}
 use Rattle.u_normal.specs.Limits.{IsTooLarge}
+use Rattle.u_bag.specs.Pairs.{SomePassBudget}
 use Rattle.proof_text.specs.StepLines.{lines_of, steps_in}
 use Rattle.proof_text.specs.Written.{FitsRule, IsSmall as IsSmallArgument}
 use Rattle.proof_check.specs.Accepted.{AllFit}
 use Rattle.proof_check.specs.Limits.{IsWithin, SidesAreSmall, most_steps, sizes_for}
 use Rattle.u_prover.specs.declared.proving.Outcome.{Outcome}
 use Rattle.u_prover.specs.declared.proving.Outcome.TheVariants.{Found, Unknown}
-use Rattle.u_prover.specs.declared.proving.Met.{Met}
-use Rattle.u_prover.specs.declared.proving.Met.TheVariants.{Joined, Apart}
+use Rattle.u_prover.specs.declared.simplifying.Met.{Met}
+use Rattle.u_prover.specs.declared.simplifying.Met.TheVariants as met
 
 -- ---- the limits of a proof
 -- The steps lead from the first term to the last, and have a text. They pass no limit of a proof: in number, in the inner proofs that are
@@ -69,15 +71,24 @@ pub record PassesLimits (F : Facts) (names : ℕ) (left right : U) : Type 0 wher
   pub sound : IsSound deriv
   pub passes : KeepsBounds deriv → ⊥
 
--- No budget ends a search yet. Where both terms are the same and within the limits of a proof, one without a step is found.
-pub record IsUnknown (F : Facts) (names : ℕ) (left right : U) (spent : Bool) : Type 0 where
-  pub unspent : spent ≡ false
+-- For a block of the left term's normal form and one of the right's, the search for a pairing tries more lists of entries than the budget has.
+pub record IsSpent (F : Facts) (names : ℕ) (left right : U) (budget : ℕ) : Type 0 where
+  pub down : U
+  pub up : U
+  pub left_leads : IsNormalOf F names left down
+  pub right_leads : IsNormalOf F names right up
+  pub passes : SomePassBudget names (add_leaves down) (add_leaves up) budget
+
+-- The budget is said to be spent where it ended a search. Where both terms are the same and within the limits of a proof, one without a
+-- step is found.
+pub record IsUnknown (F : Facts) (names : ℕ) (left right : U) (budget : ℕ) (spent : Bool) : Type 0 where
+  pub spends : spent ≡ true → IsSpent F names left right budget
   pub differ : left ≡ right → IsWithin (size.nodes left) (size.depth left) → ⊥
   pub cause : AreApart F names left right ⊎ PassesLimits F names left right
 
-abbrev pub IsOutcome : Facts → ℕ → U → U → Outcome → Type 0
-IsOutcome facts outs left right (Found deriv) = IsFound facts outs left right deriv
-IsOutcome facts outs left right (Unknown spent) = IsUnknown facts outs left right spent
+abbrev pub IsOutcome : Facts → ℕ → U → U → ℕ → Outcome → Type 0
+IsOutcome facts outs left right budget (Found deriv) = IsFound facts outs left right deriv
+IsOutcome facts outs left right budget (Unknown spent) = IsUnknown facts outs left right budget spent
 
 -- ---- contracts of private functions alone cite these
 -- the derivation where it keeps the limits, as one without a step does whose term is within them
@@ -85,9 +96,11 @@ abbrev pub IsWithinLimits : Derivation → Outcome → Type 0
 IsWithinLimits d (Found deriv) = (deriv ≡ d) × KeepsLimits d
 IsWithinLimits d (Unknown spent) = (spent ≡ false) × IsSound d × (KeepsBounds d → ⊥)
 
-abbrev pub IsMet : Facts → ℕ → U → U → Met → Type 0
-IsMet facts outs left right (Joined deriv) = IsFromTo facts outs left right deriv
-IsMet facts outs left right Apart = AreApart facts outs left right
+-- whatever the limits
+abbrev pub IsMet : Facts → ℕ → U → U → ℕ → Met → Type 0
+IsMet facts outs left right budget (met.Joined deriv) = IsFromTo facts outs left right deriv
+IsMet facts outs left right budget met.Apart = AreApart facts outs left right
+IsMet facts outs left right budget met.Spent = AreApart facts outs left right × IsSpent facts outs left right budget
 
 -- a normal form of the term is too large
 pub record HasNoNormal (F : Facts) (names : ℕ) (u : U) : Type 0 where

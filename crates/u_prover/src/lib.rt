@@ -4,6 +4,7 @@
 mod limits;
 mod proving;
 mod rearranging;
+mod simplifying;
 
 pub use proving::{Outcome, prove};
 pub use std::alloc::AllocError as NoMemory;

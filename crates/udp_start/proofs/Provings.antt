@@ -20,7 +20,7 @@ use Rattle.udp_run.specs.declared.answer.Verdict.TheVariants.{Proved, StepFails,
 use Rattle.udp_run.specs.Cases.{size_fault}
 use Rattle.udp_run.specs.Answer.{HasFailed, HasTerms, IsAnswer, IsCause, IsJust, IsProved, IsSaid, OfAny, Told, status_of, text_of}
 use Rattle.udp_run.specs.Output.{case_status, case_text, read_status, read_text, size_status, size_text}
-use Rattle.udp_start.specs.Proving.{HasNoTerms, IsProving, IsWritten, PassesCaseLimit, not_known, not_sought, proved_by}
+use Rattle.udp_start.specs.Proving.{HasNoTerms, IsProving, IsWritten, PassesCaseLimit, not_known, not_sought, proved_by, unknown}
 use Rattle.udp_run.proofs.Exact.{is-found, just-usage, no-refusal, no-write_fault, said-answer, said-fault, said-status}
 use Rattle.udp_run.proofs.OneVerdict.{IsFault, one_verdict}
 use Rattle.udp_start.proofs.Searched.{beside}
@@ -164,60 +164,60 @@ module _ (text : List ℕ) (wanted : Status) (old new : Option (List ℕ)) (b n 
       by (inr (failed, rose, grows)) = absurd (other failed)
 
 -- ---- the run
-module _ (told : Told) (old new : Option (List ℕ)) (b n : ℕ) (answer : Status) where
+module _ (told : Told) (budget : ℕ) (old new : Option (List ℕ)) (b n : ℕ) (answer : Status) where
   -- a status that the search itself does not end with comes of why no proof is sought
   of-status : (wanted : Status) → answer ≡ wanted → (status.NotProved ≡ wanted → ⊥) → (status.Done ≡ wanted → ⊥) → (status.WriteFault ≡ wanted → ⊥) → (status.NoMemory ≡ wanted → ⊥)
-      → {P : Type 0} → ((verdict : Verdict) → status_of verdict ≡ wanted → HasNoTerms told verdict → P) → IsProving told old new b n answer → P
+      → {P : Type 0} → ((verdict : Verdict) → status_of verdict ≡ wanted → HasNoTerms told verdict → P) → IsProving told budget old new b n answer → P
   of-status wanted is proved done failed memory holds (not_sought verdict h said) =
       holds verdict (said-status verdict old new b n answer said (λ e. failed (sym e ∙ is)) (λ e. memory (sym e ∙ is)) ∙ is) h
-  of-status wanted is proved done failed memory holds (not_known h w) =
-      absurd (proved (written-status _ status.NotProved old new b n answer w (λ e. failed (sym e ∙ is)) ∙ is))
+  of-status wanted is proved done failed memory holds (not_known spent h w) =
+      absurd (proved (written-status (unknown spent) status.NotProved old new b n answer w (λ e. failed (sym e ∙ is)) ∙ is))
   of-status wanted is proved done failed memory holds (proved_by proof h w) =
       absurd (done (written-status proof status.Done old new b n answer w (λ e. failed (sym e ∙ is)) ∙ is))
 
-  pub proving-read_fault : answer ≡ status.ReadFault → IsProving told old new b n answer → HasFailed told
+  pub proving-read_fault : answer ≡ status.ReadFault → IsProving told budget old new b n answer → HasFailed told
   proving-read_fault is = of-status status.ReadFault is (λ e. cc) (λ e. cc) (λ e. cc) (λ e. cc) (no_terms-read_fault told)
 
-  pub proving-limit : answer ≡ status.Limit → IsProving told old new b n answer → PassesCaseLimit told.text
+  pub proving-limit : answer ≡ status.Limit → IsProving told budget old new b n answer → PassesCaseLimit told.text
   proving-limit is = of-status status.Limit is (λ e. cc) (λ e. cc) (λ e. cc) (λ e. cc) (no_terms-limit told)
 
-  pub proving-usage : answer ≡ status.Usage → IsProving told old new b n answer → ⊥
+  pub proving-usage : answer ≡ status.Usage → IsProving told budget old new b n answer → ⊥
   proving-usage is =
       of-status status.Usage is (λ e. cc) (λ e. cc) (λ e. cc) (λ e. cc) {P = ⊥} (λ verdict e h. just-usage (beside told None) verdict e (no_terms-just told None verdict h))
 
-  pub proving-done : answer ≡ status.Done → IsProving told old new b n answer → (proof : List ℕ) × IsProved told.text (Some proof) × Grows old new proof
+  pub proving-done : answer ≡ status.Done → IsProving told budget old new b n answer → (proof : List ℕ) × IsProved told.text (Some proof) × Grows old new proof
   proving-done is (not_sought verdict h said) =
       absurd (subst (λ (v : Verdict). HasNoTerms told v) (said-done verdict old new b n answer is said).0 h)
-  proving-done is (not_known h w) =
-      absurd (let e : status.NotProved ≡ status.Done = written-status _ status.NotProved old new b n answer w (λ f. let g : status.WriteFault ≡ status.Done = sym f ∙ is in cc) ∙ is in cc)
+  proving-done is (not_known spent h w) =
+      absurd (let e : status.NotProved ≡ status.Done = written-status (unknown spent) status.NotProved old new b n answer w (λ f. let g : status.WriteFault ≡ status.Done = sym f ∙ is in cc) ∙ is in cc)
   proving-done is (proved_by proof h w) = (
     proof,
     just-proved (beside told (Some proof)) h,
     written-grows proof status.Done old new b n answer w (sym is) (λ f. let g : status.WriteFault ≡ status.Done = sym f ∙ is in cc),
   )
 
-  pub proving-write_fault : answer ≡ status.WriteFault → IsProving told old new b n answer → Rose b n
+  pub proving-write_fault : answer ≡ status.WriteFault → IsProving told budget old new b n answer → Rose b n
   proving-write_fault is (not_sought verdict h (inl (e, grows))) = absurd (no-write_fault verdict (sym e ∙ is))
   proving-write_fault is (not_sought verdict h (inr (inl (failed, rose, grows)))) = rose
   proving-write_fault is (not_sought verdict h (inr (inr (e, still)))) = absurd (let f : status.NoMemory ≡ status.WriteFault = sym e ∙ is in cc)
-  proving-write_fault is (not_known h w) = written-rose _ status.NotProved old new b n answer w (λ e. cc) is
+  proving-write_fault is (not_known spent h w) = written-rose (unknown spent) status.NotProved old new b n answer w (λ e. cc) is
   proving-write_fault is (proved_by proof h w) = written-rose proof status.Done old new b n answer w (λ e. cc) is
 
   -- a case that gives cause for a verdict is told so
-  pub proving-exact : (verdict : Verdict) → IsCause verdict told.text None → IsProving told old new b n answer → IsAnswer verdict old new answer
+  pub proving-exact : (verdict : Verdict) → IsCause verdict told.text None → IsProving told budget old new b n answer → IsAnswer verdict old new answer
   proving-exact verdict cause (not_sought other h said) = by (one_verdict (beside told None) other verdict (no_terms-just told None other h) cause)
     where
       by : IsFault other ⊎ (other ≡ verdict) → IsAnswer verdict old new answer
       by (inl fault) = said-fault other verdict old new b n answer fault said
       by (inr same) = subst (λ (v : Verdict). IsAnswer v old new answer) same (said-answer other old new b n answer said)
-  proving-exact verdict cause (not_known h w) = absurd (no_cause told verdict cause h)
+  proving-exact verdict cause (not_known spent h w) = absurd (no_cause told verdict cause (terms-of h))
   proving-exact verdict cause (proved_by proof h w) = absurd (no_cause told verdict cause (terms-of h))
 
-  pub proving-memory : answer ≡ status.NoMemory → IsProving told old new b n answer → Grows old new []
+  pub proving-memory : answer ≡ status.NoMemory → IsProving told budget old new b n answer → Grows old new []
   proving-memory is (not_sought verdict h (inl (e, grows))) = subst (Grows old new) (no_terms-memory told verdict (sym e ∙ is) h) grows
   proving-memory is (not_sought verdict h (inr (inl (failed, rose, grows)))) = absurd (let f : status.WriteFault ≡ status.NoMemory = sym failed ∙ is in cc)
   proving-memory is (not_sought verdict h (inr (inr (e, still)))) = grows-by_none old new still
-  proving-memory is (not_known h w) =
-      absurd (let e : status.NotProved ≡ status.NoMemory = written-status _ status.NotProved old new b n answer w (λ f. let g : status.WriteFault ≡ status.NoMemory = sym f ∙ is in cc) ∙ is in cc)
+  proving-memory is (not_known spent h w) =
+      absurd (let e : status.NotProved ≡ status.NoMemory = written-status (unknown spent) status.NotProved old new b n answer w (λ f. let g : status.WriteFault ≡ status.NoMemory = sym f ∙ is in cc) ∙ is in cc)
   proving-memory is (proved_by proof h w) =
       absurd (let e : status.Done ≡ status.NoMemory = written-status proof status.Done old new b n answer w (λ f. let g : status.WriteFault ≡ status.NoMemory = sym f ∙ is in cc) ∙ is in cc)

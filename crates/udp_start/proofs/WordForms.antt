@@ -3,6 +3,7 @@ use Rattle.std.proofs.Common.{◌≡◌, ℕ, List, [], ◌∷◌, length, map, 
 use Rattle.std.specs.Prelude.{◌⊎◌}
 use Rattle.std.proofs.lemmas.List.{length-map}
 use Rattle.std.specs.Fmt.{decimal}
+use Rattle.std.proofs.lemmas.Fmt.{decimal_injective}
 use Rattle.std.specs.declared.alloc.Global.{Global}
 use Rattle.udp_start.specs.Words.{IsProve, IsBudget}
 use Rattle.udp_run.specs.Answer.{IsCheck}
@@ -75,6 +76,17 @@ prove_once words case other budget more (inr (e, b)) (inr (f, c)) =
 prove_once words case other budget more (inl (e, b)) (inr (f, c)) =
     absurd (let g : codes "prove" ∷ case ∷ [] ≡ codes "prove" ∷ other ∷ codes "--budget" ∷ decimal more ∷ [] = sym e ∙ f in cc)
 prove_once words case other budget more (inr (e, b)) (inl (f, c)) =
+    absurd (let g : codes "prove" ∷ case ∷ codes "--budget" ∷ decimal budget ∷ [] ≡ codes "prove" ∷ other ∷ [] = sym e ∙ f in cc)
+
+-- and one budget
+pub budget_once : (words : List (String Global)) (case other : List ℕ) (budget more : ℕ) → IsProve words case budget → IsProve words other more → budget ≡ more
+budget_once words case other budget more (inl (e, b)) (inl (f, c)) = b ∙ sym c
+budget_once words case other budget more (inr (e, b)) (inr (f, c)) =
+    let g : codes "prove" ∷ case ∷ codes "--budget" ∷ decimal budget ∷ [] ≡ codes "prove" ∷ other ∷ codes "--budget" ∷ decimal more ∷ [] = sym e ∙ f in
+    let same : decimal budget ≡ decimal more = cc in decimal_injective budget more b.1 c.1 same
+budget_once words case other budget more (inl (e, b)) (inr (f, c)) =
+    absurd (let g : codes "prove" ∷ case ∷ [] ≡ codes "prove" ∷ other ∷ codes "--budget" ∷ decimal more ∷ [] = sym e ∙ f in cc)
+budget_once words case other budget more (inr (e, b)) (inl (f, c)) =
     absurd (let g : codes "prove" ∷ case ∷ codes "--budget" ∷ decimal budget ∷ [] ≡ codes "prove" ∷ other ∷ [] = sym e ∙ f in cc)
 
 pub not_check : (words : List (String Global)) (case name proof : List ℕ) (budget : ℕ) → IsProve words case budget → IsCheck words name proof → ⊥

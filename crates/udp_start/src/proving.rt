@@ -1,4 +1,5 @@
 //! A proof of a case is sought and written.
+ghost use Rattle.std.specs.Prelude.{◌≡◌};
 ghost use Rattle.u_moves.specs.Derivations.{IsKnown};
 ghost use Rattle.udp_run.specs.Answer.{Told};
 ghost use Rattle.udp_run.specs.Runs.{IsCaseRead};
@@ -11,13 +12,23 @@ use u_terms::{Facts, U};
 use udp_io::{Sink, Store, write_all};
 use udp_run::{Status, Verdict, read_case, say};
 
-// Writes that no proof is known.
-fn write_unknown<K: Sink>(out: &mut K) -> Status
-    ensures { IsWritten unknown Status.NotProved (K.written out.old) (K.written out.new) (K.faults out.old) (K.faults out.new) result }
+// Writes that no proof is known, or that the budget ended a search.
+fn write_unknown<K: Sink>(spent: bool, out: &mut K) -> Status
+    ensures { IsWritten (unknown spent) Status.NotProved (K.written out.old) (K.written out.new) (K.faults out.old) (K.faults out.new) result }
 {
-    match write_all(out, b"unknown\n") {
+    match write_all(out, unknown_line(spent)) {
         Ok(()) => Status::NotProved,
         Err(_) => Status::WriteFault,
+    }
+}
+
+fn unknown_line(spent: bool) -> &'static [u8]
+    ensures { result.now ≡ unknown spent }
+{
+    if spent {
+        b"unknown: budget spent\n"
+    } else {
+        b"unknown\n"
     }
 }
 
@@ -33,12 +44,12 @@ fn search<K: Sink>(
 ) -> Status
     requires left { IsKnown 0 outs left.now }
     requires right { IsKnown 0 outs right.now }
-    ensures { IsSearched (record { facts = facts.now; outs = outs; left = left.now; right = right.now })
+    ensures { IsSearched (record { facts = facts.now; outs = outs; left = left.now; right = right.now }) budget
         (K.written out.old) (K.written out.new) (K.faults out.old) (K.faults out.new) result }
 {
     match prove_terms(alloc, facts, outs, left, right, budget, out) {
         Searched::Proved => Status::Done,
-        Searched::Unknown => write_unknown(out),
+        Searched::Unknown { spent } => write_unknown(spent, out),
         Searched::WriteFault => Status::WriteFault,
         Searched::NoMemory => Status::NoMemory,
     }
@@ -47,7 +58,7 @@ fn search<K: Sink>(
 // Writes a proof of a case that was read, or why there is none.
 fn search_case<K: Sink>(alloc: Global, case: &Case, budget: u64, out: &mut K) -> Status
     ensures { (told : Told) → IsCaseRead told.text case.now →
-        IsProving told (K.written out.old) (K.written out.new) (K.faults out.old) (K.faults out.new) result }
+        IsProving told budget (K.written out.old) (K.written out.new) (K.faults out.old) (K.faults out.new) result }
 {
     match terms(alloc, case) {
         Ok((left, right)) => search(alloc, case.facts(), case.outs(), &left, &right, budget, out),
@@ -63,7 +74,7 @@ pub fn prove_case<S: Store, K: Sink>(
     store: &mut S,
     out: &mut K,
 ) -> Status
-    ensures { IsProving (told_of (S.text store.old) (S.faults store.old) (S.faults store.new) name.now)
+    ensures { IsProving (told_of (S.text store.old) (S.faults store.old) (S.faults store.new) name.now) budget
         (K.written out.old) (K.written out.new) (K.faults out.old) (K.faults out.new) result }
 {
     match read_case(alloc, name, store) {

@@ -31,9 +31,9 @@ pub fn start<S: Store, K: Sink>(
         × IsFound words.now (both_told (S.text store.old) (S.faults store.old) (S.faults store.new) (S.left store.new)) verdict
         × IsSaid verdict (K.written out.old) (K.written out.new) (K.faults out.old) (K.faults out.new) result }
 
-    // Where one is, it is a proof, or that none is known, or why none is sought.
+    // Where one is, it is a proof, or that none is known or the budget ended a search, or why none is sought.
     ensures proving { (case : List ℕ) (budget : ℕ) → IsProve words.now case budget →
-        IsProving (told_of (S.text store.old) (S.faults store.old) (S.faults store.new) case)
+        IsProving (told_of (S.text store.old) (S.faults store.old) (S.faults store.new) case) budget
         (K.written out.old) (K.written out.new) (K.faults out.old) (K.faults out.new) result }
 
     // The headline. Where it ends with `Done` on a check, the case spells a schema and two queries that are well formed over it and of one

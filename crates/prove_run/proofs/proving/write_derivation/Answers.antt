@@ -6,13 +6,13 @@ use Rattle.prove_run.proofs.Written.{derivation-proof}
 use Rattle.prove_run.proofs.proving.write_derivation.Goals as goal
 
 pub returns-then-proof_bytes : goal.returns-then-proof_bytes
-returns-then-proof_bytes g c =
+returns-then-proof_bytes g c budget =
     let d = c.args.deriv.now in
     let long : most_proof_bytes < length (proof_text d.outs d.steps) = omega (arith, c.if-proof_bytes.true, rw (c.outs.ensures, c.steps.ensures.lent) at c.proof_bytes.ensures.text) in
-    (refl, refl, too_long d (record { facts = refl; outs = refl; from = refl; to = refl; limits = c.requires }) long)
+    (refl, refl, too_long refl d (record { facts = refl; outs = refl; from = refl; to = refl; limits = c.requires }) long)
 
 pub returns-in-Ok : goal.returns-in-Ok
-returns-in-Ok g c =
+returns-in-Ok g c budget =
     let d = c.args.deriv.now in
     let short : length (proof_text d.outs d.steps) ≤ most_proof_bytes = omega (arith, c.if-proof_bytes.false, rw (c.outs.ensures, c.steps.ensures.lent) at c.proof_bytes.ensures.text) in (
       proof_text d.outs d.steps,
@@ -21,7 +21,7 @@ returns-in-Ok g c =
     )
 
 pub returns-in-Err : goal.returns-in-Err
-returns-in-Err g c =
+returns-in-Err g c budget =
     let d = c.args.deriv.now in
     let short : length (proof_text d.outs d.steps) ≤ most_proof_bytes = omega (arith, c.if-proof_bytes.false, rw (c.outs.ensures, c.steps.ensures.lent) at c.proof_bytes.ensures.text) in
     let rose : Rose (g.K.Sink.faults c.args.out.now) (g.K.Sink.faults c.write_proof.new.out) = search rules in (

@@ -13,7 +13,7 @@ search-requires g c = record {
 
 pub returns-in-Ok : goal.returns-in-Ok
 returns-in-Ok g c told read =
-    searched-proving told c.args.case.now read c.in-Ok.left c.in-Ok.right c.in-Ok.ensures.value c.outs.result c.outs.ensures.left c.facts.result.now c.facts.ensures _ _ _ _ c.search.result
+    searched-proving told c.args.case.now read c.in-Ok.left c.in-Ok.right c.in-Ok.ensures.value c.outs.result c.outs.ensures.left c.facts.result.now c.facts.ensures _ _ _ _ _ c.search.result
     c.search.ensures
 
 pub returns-in-Err : goal.returns-in-Err

@@ -3,7 +3,7 @@ use Rattle.udp_io.specs.Writing.{Grows}
 use Rattle.udp_run.specs.Answer.{IsCause, IsProved}
 use Rattle.udp_start.specs.Proving.{IsProving, told_of}
 use Rattle.udp_start.proofs.Provings.{proving-done, proving-exact, proving-limit, proving-memory, proving-read_fault, proving-usage, proving-write_fault}
-use Rattle.udp_start.proofs.WordForms.{not_check, prove_once}
+use Rattle.udp_start.proofs.WordForms.{budget_once, not_check, prove_once}
 use Rattle.udp_start.proofs.top.start.Goals as goal
 
 -- ---- a proof is asked for
@@ -13,9 +13,11 @@ returns-in-Some-clause-answer g c nothing =
 
 pub returns-in-Some-clause-proving : goal.returns-in-Some-clause-proving
 returns-in-Some-clause-proving g c case budget is =
-    subst (λ (name : List ℕ). IsProving (told_of (g.S.Store.text c.args.store.now) (g.S.Store.faults c.args.store.now) (g.S.Store.faults c.prove_case.new.store) name) (g.K.Sink.written c.args.out.now) (g.K.Sink.written c.prove_case.new.out) (g.K.Sink.faults c.args.out.now) (g.K.Sink.faults c.prove_case.new.out) c.prove_case.result)
+    subst (λ (name : List ℕ). IsProving (told_of (g.S.Store.text c.args.store.now) (g.S.Store.faults c.args.store.now) (g.S.Store.faults c.prove_case.new.store) name) budget (g.K.Sink.written c.args.out.now) (g.K.Sink.written c.prove_case.new.out) (g.K.Sink.faults c.args.out.now) (g.K.Sink.faults c.prove_case.new.out) c.prove_case.result)
     (prove_once c.args.words.now c.in-Some.asked.case.now case c.in-Some.asked.budget budget c.in-Some.ensures is)
-    c.prove_case.ensures
+    (subst (λ (n : ℕ). IsProving (told_of (g.S.Store.text c.args.store.now) (g.S.Store.faults c.args.store.now) (g.S.Store.faults c.prove_case.new.store) c.in-Some.asked.case.now) n (g.K.Sink.written c.args.out.now) (g.K.Sink.written c.prove_case.new.out) (g.K.Sink.faults c.args.out.now) (g.K.Sink.faults c.prove_case.new.out) c.prove_case.result)
+    (budget_once c.args.words.now c.in-Some.asked.case.now case c.in-Some.asked.budget budget c.in-Some.ensures is)
+    c.prove_case.ensures)
 
 pub returns-in-Some-clause-done : goal.returns-in-Some-clause-done
 returns-in-Some-clause-done g c done case proof is =
@@ -25,7 +27,7 @@ pub returns-in-Some-clause-derived : goal.returns-in-Some-clause-derived
 returns-in-Some-clause-derived g c done case budget is =
     subst (λ (name : List ℕ). (proof : List ℕ) × IsProved (g.S.Store.text c.args.store.now name) (Some proof) × Grows (g.K.Sink.written c.args.out.now) (g.K.Sink.written c.prove_case.new.out) proof)
     (prove_once c.args.words.now c.in-Some.asked.case.now case c.in-Some.asked.budget budget c.in-Some.ensures is)
-    (proving-done (told_of (g.S.Store.text c.args.store.now) (g.S.Store.faults c.args.store.now) (g.S.Store.faults c.prove_case.new.store) c.in-Some.asked.case.now) (g.K.Sink.written c.args.out.now) (g.K.Sink.written c.prove_case.new.out) (g.K.Sink.faults c.args.out.now) (g.K.Sink.faults c.prove_case.new.out) c.prove_case.result done c.prove_case.ensures)
+    (proving-done (told_of (g.S.Store.text c.args.store.now) (g.S.Store.faults c.args.store.now) (g.S.Store.faults c.prove_case.new.store) c.in-Some.asked.case.now) c.in-Some.asked.budget (g.K.Sink.written c.args.out.now) (g.K.Sink.written c.prove_case.new.out) (g.K.Sink.faults c.args.out.now) (g.K.Sink.faults c.prove_case.new.out) c.prove_case.result done c.prove_case.ensures)
 
 pub returns-in-Some-clause-complete : goal.returns-in-Some-clause-complete
 returns-in-Some-clause-complete g c (case, proof, is, holds) =
@@ -37,12 +39,12 @@ returns-in-Some-clause-exact g c verdict (case, proof, is, cause) =
 
 pub returns-in-Some-clause-exact_case : goal.returns-in-Some-clause-exact_case
 returns-in-Some-clause-exact_case g c verdict (case, budget, is, cause) =
-    proving-exact (told_of (g.S.Store.text c.args.store.now) (g.S.Store.faults c.args.store.now) (g.S.Store.faults c.prove_case.new.store) c.in-Some.asked.case.now) (g.K.Sink.written c.args.out.now) (g.K.Sink.written c.prove_case.new.out) (g.K.Sink.faults c.args.out.now) (g.K.Sink.faults c.prove_case.new.out) c.prove_case.result verdict
+    proving-exact (told_of (g.S.Store.text c.args.store.now) (g.S.Store.faults c.args.store.now) (g.S.Store.faults c.prove_case.new.store) c.in-Some.asked.case.now) c.in-Some.asked.budget (g.K.Sink.written c.args.out.now) (g.K.Sink.written c.prove_case.new.out) (g.K.Sink.faults c.args.out.now) (g.K.Sink.faults c.prove_case.new.out) c.prove_case.result verdict
     (subst (λ (name : List ℕ). IsCause verdict (g.S.Store.text c.args.store.now name) None) (sym (prove_once c.args.words.now c.in-Some.asked.case.now case c.in-Some.asked.budget budget c.in-Some.ensures is)) cause) c.prove_case.ensures
 
 pub returns-in-Some-clause-usage : goal.returns-in-Some-clause-usage
 returns-in-Some-clause-usage g c is =
-    absurd (proving-usage (told_of (g.S.Store.text c.args.store.now) (g.S.Store.faults c.args.store.now) (g.S.Store.faults c.prove_case.new.store) c.in-Some.asked.case.now) (g.K.Sink.written c.args.out.now) (g.K.Sink.written c.prove_case.new.out) (g.K.Sink.faults c.args.out.now) (g.K.Sink.faults c.prove_case.new.out) c.prove_case.result is c.prove_case.ensures)
+    absurd (proving-usage (told_of (g.S.Store.text c.args.store.now) (g.S.Store.faults c.args.store.now) (g.S.Store.faults c.prove_case.new.store) c.in-Some.asked.case.now) c.in-Some.asked.budget (g.K.Sink.written c.args.out.now) (g.K.Sink.written c.prove_case.new.out) (g.K.Sink.faults c.args.out.now) (g.K.Sink.faults c.prove_case.new.out) c.prove_case.result is c.prove_case.ensures)
 
 pub returns-in-Some-clause-no_form : goal.returns-in-Some-clause-no_form
 returns-in-Some-clause-no_form g c nothing =
@@ -50,19 +52,19 @@ returns-in-Some-clause-no_form g c nothing =
 
 pub returns-in-Some-clause-read_fault : goal.returns-in-Some-clause-read_fault
 returns-in-Some-clause-read_fault g c is =
-    inr (c.in-Some.asked.case.now, c.in-Some.asked.budget, c.in-Some.ensures, proving-read_fault (told_of (g.S.Store.text c.args.store.now) (g.S.Store.faults c.args.store.now) (g.S.Store.faults c.prove_case.new.store) c.in-Some.asked.case.now) (g.K.Sink.written c.args.out.now) (g.K.Sink.written c.prove_case.new.out) (g.K.Sink.faults c.args.out.now) (g.K.Sink.faults c.prove_case.new.out) c.prove_case.result is c.prove_case.ensures)
+    inr (c.in-Some.asked.case.now, c.in-Some.asked.budget, c.in-Some.ensures, proving-read_fault (told_of (g.S.Store.text c.args.store.now) (g.S.Store.faults c.args.store.now) (g.S.Store.faults c.prove_case.new.store) c.in-Some.asked.case.now) c.in-Some.asked.budget (g.K.Sink.written c.args.out.now) (g.K.Sink.written c.prove_case.new.out) (g.K.Sink.faults c.args.out.now) (g.K.Sink.faults c.prove_case.new.out) c.prove_case.result is c.prove_case.ensures)
 
 pub returns-in-Some-clause-write_fault : goal.returns-in-Some-clause-write_fault
 returns-in-Some-clause-write_fault g c is =
-    proving-write_fault (told_of (g.S.Store.text c.args.store.now) (g.S.Store.faults c.args.store.now) (g.S.Store.faults c.prove_case.new.store) c.in-Some.asked.case.now) (g.K.Sink.written c.args.out.now) (g.K.Sink.written c.prove_case.new.out) (g.K.Sink.faults c.args.out.now) (g.K.Sink.faults c.prove_case.new.out) c.prove_case.result is c.prove_case.ensures
+    proving-write_fault (told_of (g.S.Store.text c.args.store.now) (g.S.Store.faults c.args.store.now) (g.S.Store.faults c.prove_case.new.store) c.in-Some.asked.case.now) c.in-Some.asked.budget (g.K.Sink.written c.args.out.now) (g.K.Sink.written c.prove_case.new.out) (g.K.Sink.faults c.args.out.now) (g.K.Sink.faults c.prove_case.new.out) c.prove_case.result is c.prove_case.ensures
 
 pub returns-in-Some-clause-limits : goal.returns-in-Some-clause-limits
 returns-in-Some-clause-limits g c is =
-    inr (c.in-Some.asked.case.now, c.in-Some.asked.budget, c.in-Some.ensures, proving-limit (told_of (g.S.Store.text c.args.store.now) (g.S.Store.faults c.args.store.now) (g.S.Store.faults c.prove_case.new.store) c.in-Some.asked.case.now) (g.K.Sink.written c.args.out.now) (g.K.Sink.written c.prove_case.new.out) (g.K.Sink.faults c.args.out.now) (g.K.Sink.faults c.prove_case.new.out) c.prove_case.result is c.prove_case.ensures)
+    inr (c.in-Some.asked.case.now, c.in-Some.asked.budget, c.in-Some.ensures, proving-limit (told_of (g.S.Store.text c.args.store.now) (g.S.Store.faults c.args.store.now) (g.S.Store.faults c.prove_case.new.store) c.in-Some.asked.case.now) c.in-Some.asked.budget (g.K.Sink.written c.args.out.now) (g.K.Sink.written c.prove_case.new.out) (g.K.Sink.faults c.args.out.now) (g.K.Sink.faults c.prove_case.new.out) c.prove_case.result is c.prove_case.ensures)
 
 pub returns-in-Some-clause-memory : goal.returns-in-Some-clause-memory
 returns-in-Some-clause-memory g c is =
-    proving-memory (told_of (g.S.Store.text c.args.store.now) (g.S.Store.faults c.args.store.now) (g.S.Store.faults c.prove_case.new.store) c.in-Some.asked.case.now) (g.K.Sink.written c.args.out.now) (g.K.Sink.written c.prove_case.new.out) (g.K.Sink.faults c.args.out.now) (g.K.Sink.faults c.prove_case.new.out) c.prove_case.result is c.prove_case.ensures
+    proving-memory (told_of (g.S.Store.text c.args.store.now) (g.S.Store.faults c.args.store.now) (g.S.Store.faults c.prove_case.new.store) c.in-Some.asked.case.now) c.in-Some.asked.budget (g.K.Sink.written c.args.out.now) (g.K.Sink.written c.prove_case.new.out) (g.K.Sink.faults c.args.out.now) (g.K.Sink.faults c.prove_case.new.out) c.prove_case.result is c.prove_case.ensures
 
 -- ---- none is
 pub returns-in-None-clause-answer : goal.returns-in-None-clause-answer
