@@ -10,7 +10,7 @@ from pathlib import Path
 from bench import UDP
 
 MOST_BYTES = 1_073_741_824
-BLOCKS = 600
+BLOCKS = 64
 HEADING = b"udp-proof 1\nouts 1\n"
 END = b"end\n"
 
