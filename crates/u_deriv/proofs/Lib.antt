@@ -9,12 +9,14 @@ pub mod Congruence
 pub mod Edited
 pub mod Made
 pub mod Extents
+pub mod Arguments
 pub mod Exchanges
 pub mod Keeps
 pub mod OneResult
 pub mod Soundness
 pub mod StepHeights
 pub mod Applied
+pub mod Texts
 pub mod Lines
 pub mod OutlinesAt
 pub mod Spent

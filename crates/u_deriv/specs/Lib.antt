@@ -5,6 +5,7 @@ pub mod Subterms
 pub mod Opening
 pub mod Steps
 pub mod StepText
+pub mod LineBounds
 pub mod Applying
 pub mod StepHeight
 pub mod Walk

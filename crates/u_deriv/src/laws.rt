@@ -1,5 +1,6 @@
 //! Laws of contexts, of steps and of their text, each the contract of a function that does nothing.
 ghost use Rattle.std.specs.Prelude.{◌≡◌, ◌↔◌, ◌+◌, ◌≤◌, ◌<◌, ◌++◌, ℕ, List, [], length};
+ghost use Rattle.std.specs.List.{flat_map};
 ghost use Rattle.data_model.specs.Database.{Database};
 ghost use Rattle.data_model.specs.Reading.{Reading};
 ghost use Rattle.data_model.specs.Rows.{AllBelow, IsRow};
@@ -14,12 +15,14 @@ ghost use Rattle.u_terms.specs.declared.facts.Facts.{Facts};
 ghost use Rattle.u_rules.specs.Sides.{SameMeaning};
 ghost use Rattle.u_rules.specs.Terms.{◌⊗◌};
 ghost use Rattle.u_deriv.specs.Contexts.{Context, binders, filled, in_aggregate, in_sum, value_binders, way};
+ghost use Rattle.u_deriv.specs.LineBounds.{IsPlain, arguments_nodes};
+ghost use Rattle.u_deriv.specs.Normal.{pushed};
 ghost use Rattle.u_deriv.specs.Opening.{opened_path};
-ghost use Rattle.u_deriv.specs.StepText.{lines_length, steps_text};
+ghost use Rattle.u_deriv.specs.StepText.{lines_length, run_text, steps_text};
 ghost use Rattle.u_deriv.specs.Steps.{Replaced, Replays, Rewrites};
 ghost use Rattle.u_deriv.specs.Turns.{turns};
 ghost use Rattle.u_deriv.specs.declared.run.Run.{Run};
-ghost use Rattle.u_deriv.specs.declared.step.Step.{Step};
+ghost use Rattle.u_deriv.specs.declared.step.Step.{Step, out-Step};
 
 /// A term has one context at a path, and one subterm.
 #[tactic(auto, using(crate::proofs::OneContext::laws))]
@@ -123,9 +126,27 @@ pub fn steps_keep_terms_closed()
         Replays facts outs before steps after → IsFreeBelow outs before → IsFreeBelow outs after }
 {}
 
+/// What a plain step takes stands in its sides, so it has no more nodes than the terms before and after it have together, and no inner steps.
+/// The path of any step has no more turns than the term is deep.
+#[tactic(auto, using(crate::proofs::Arguments::laws))]
+pub fn arguments_stand_in_terms()
+    ensures arguments { (facts : Facts) (outs : ℕ) (before after : U) (step : Step) → IsPlain step →
+        Rewrites facts outs before step after → arguments_nodes (out-Step step).args ≤ nodes before + nodes after }
+    ensures path { (facts : Facts) (outs : ℕ) (before after : U) (step : Step) →
+        Rewrites facts outs before step after → length (turns (out-Step step).path) ≤ depth before }
+    ensures inner { (facts : Facts) (outs : ℕ) (before after : U) (step : Step) → IsPlain step →
+        Rewrites facts outs before step after → (out-Step step).inner ≡ [] }
+{}
+
 /// The lines of steps one after the other are those of the first ones and then those of the rest, and as long together.
 #[tactic(auto, using(crate::proofs::Lines::laws))]
 pub fn lines_of_steps()
     ensures text { (first rest : List Step) → steps_text (first ++ rest) ≡ steps_text first ++ steps_text rest }
     ensures length { (first rest : List Step) → lines_length (first ++ rest) ≡ lines_length first + lines_length rest }
+{}
+
+/// With a run more, the text of a path has no more bytes than both had: two runs that become one have no longer a text.
+#[tactic(auto, using(crate::proofs::Texts::laws))]
+pub fn texts_of_paths()
+    ensures { (runs : List Run) (run : Run) → length (flat_map run_text (pushed runs run)) ≤ length (flat_map run_text runs) + length (run_text run) }
 {}
