@@ -7,6 +7,7 @@ pub mod Sound
 pub mod Rooted
 pub mod Showing
 pub mod Lines
+pub mod Plain
 pub mod Items
 pub mod Depths
 pub mod Made

@@ -1,5 +1,6 @@
 -- Derivations: steps that lead from a term to a term, through terms of a bounded size.
 use Rattle.std.specs.Prelude.{◌≡◌, ℕ, ◌+◌, ◌≤◌, ◌<◌, ◌^◌, max, List, [], ◌∷◌, Result, Ok, Err}
+use Rattle.data_model.specs.Lists.{Each}
 use Rattle.u_terms.specs.Syntax.{U}
 use Rattle.u_terms.specs.Size as size
 use Rattle.u_terms.specs.Size.{nodes, depth}
@@ -9,6 +10,7 @@ use Rattle.u_terms.specs.declared.facts.Facts.{Facts}
 use Rattle.u_deriv.specs.declared.fault.StepFault.{StepFault}
 use Rattle.u_deriv.specs.declared.fault.StepFault.TheVariants.{NoResult, NoMemory}
 use Rattle.u_deriv.specs.declared.step.Step.{Step}
+use Rattle.u_deriv.specs.LineBounds.{IsPlain}
 use Rattle.u_deriv.specs.Steps.{Rewrites}
 
 -- closed but for that many places, with names below `outs` alone
@@ -76,3 +78,7 @@ HasNoResult facts outs before step (Err NoMemory) = Unit {0}
 pub record IsJoined (first rest d : Derivation) : Type 0 where
   pub nodes : d.nodes ≡ max first.nodes rest.nodes
   pub depth : d.depth ≡ max first.depth rest.depth
+
+-- ---- steps that take nothing but what stands in their sides
+abbrev pub HasPlainSteps : Derivation → Type 0
+HasPlainSteps d = Each IsPlain d.steps

@@ -2,6 +2,5 @@ pub mod Derivations
 pub mod Turning
 pub mod Walking
 pub mod Lifting
-pub mod Lines
 pub mod Moving
 pub mod Samples

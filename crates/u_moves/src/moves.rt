@@ -19,7 +19,8 @@ use u_rules::{Arg, InstanceFault, Rule, instance};
 use u_terms::{Facts, List};
 
 /// Where moves are made: at the root of terms, by these facts, with the names from `outs` on for binders. Each move is a method, by
-/// its rule's name: it takes the arguments of the rule and derives the right side from the left one.
+/// its rule's name: it takes the arguments of the rule and derives the right side from the left one. How long its line
+/// is, `laws::lines_of_moves` says.
 #[derive(Clone, Copy)]
 pub struct Moves<'f> {
     pub alloc: Global,
