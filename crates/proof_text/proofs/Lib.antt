@@ -27,6 +27,7 @@ pub mod StepsAgain
 pub mod TextLines
 mod LineSamples
 pub mod EndedLines
+pub mod LineBounds
 pub mod LongTexts
 pub mod Sending
 pub mod TextsAt

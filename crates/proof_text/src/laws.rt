@@ -1,6 +1,6 @@
 //! What holds of the lines of proofs, each the contract of a function that does nothing.
 ghost use Rattle.std.specs.List.{concat, flat_map};
-ghost use Rattle.std.specs.Prelude.{◌≡◌, List, ℕ, Result, Err, [], ◌∷◌, ◌++◌, drop};
+ghost use Rattle.std.specs.Prelude.{◌≡◌, ◌≤◌, List, ℕ, Result, Err, [], ◌∷◌, ◌++◌, drop};
 ghost use Rattle.data_model.specs.Lists.{Each};
 ghost use Rattle.proof_text.specs.declared.line.LineFault.{LineFault as TheFault};
 ghost use Rattle.proof_text.specs.declared.line.LineFault.TheVariants.{NoMemory as no_memory};
@@ -12,7 +12,8 @@ ghost use Rattle.proof_text.specs.ReadingLines.{IsAnswer, IsRead, lines};
 ghost use Rattle.proof_text.specs.StepLines.{lines_of, proof_lines};
 ghost use Rattle.proof_text.specs.Within.{AreRead, IsWithin};
 ghost use Rattle.proof_text.specs.Written.{IsWritable, ProofText, Says, text_of};
-ghost use Rattle.u_deriv.specs.StepText.{steps_text};
+ghost use Rattle.u_deriv.specs.LineBounds.{lines_bound};
+ghost use Rattle.u_deriv.specs.StepText.{lines_length, steps_text};
 
 /// A text has one answer, but for want of memory: the line that it is, or the first column at which none goes on, or the limit
 /// that an argument passes before.
@@ -50,6 +51,12 @@ pub fn one_text()
 /// The text of steps is that of their lines, one after the other.
 pub fn steps_have_the_text_of_their_lines()
     ensures { (steps : List TheStep) → steps_text steps ≡ flat_map text_of (lines_of steps) }
+{}
+
+/// The lines of steps that have a text are within their bound, since each number in them has 32 bits.
+#[tactic(auto, using(crate::proofs::LineBounds::laws))]
+pub fn lines_are_short()
+    ensures { (steps : List TheStep) → Each IsWritable steps → lines_length steps ≤ lines_bound steps }
 {}
 
 /// Each text has one list of lines, and is these lines one after the other.

@@ -104,8 +104,8 @@ fn put_head<K: Sink>(out: &mut K, pending: &mut Pending, step: &Step)
     put_arguments(out, pending, step.args.as_slice());
 }
 
-// The inner steps.
-fn inner_of(step: &Step) -> &[Step]
+/// The inner steps.
+pub fn inner_of(step: &Step) -> &[Step]
     requires { FitsRule step.now }
     ensures lent { result.now ≡ (out-Step step.now).inner }
     ensures fit { Each FitsRule result.now }
