@@ -24,7 +24,7 @@ use Rattle.u_normal.specs.Taking.{HasNone, load, count}
 use Rattle.u_normal.specs.Merging.{HasKind, HasKinds, IsMerged}
 use Rattle.u_normal.specs.declared.merging.Wrap.TheVariants as wrap
 use Rattle.u_normal.specs.Heads.{IsSumOrZero, zero, sum, sum_over, IsFactorRow, no_factor, one_factor, first_factor, IsTidy, HasHead, at_sum, at_factors, head_load, IsHeaded}
-use Rattle.u_normal.specs.Finishing.{IsFactorOrOne, one, factor, IsFinished, IsPlain, IsFinishedPlain}
+use Rattle.u_normal.specs.Finishing.{IsFactorOrOne, one, factor, IsFinished, IsPlainFactor, IsFinishedPlain}
 use Rattle.u_normal.proofs.Loads.{load-Mul, load-leaf, load-small, load-permuted, count-Mul, count-permuted}
 use Rattle.u_normal.proofs.Standing.{normal-row}
 use Rattle.u_normal.proofs.Merges.{count-one, count-other}
@@ -322,7 +322,7 @@ one-of : (t : U) → IsFactorOrOne t → ((p : U) → t ≡ u.Squash p → ⊥) 
 one-of t one not_squash not_negation not_relation not_equality not_predicate = one-product
 one-of t (factor h) not_squash not_negation not_relation not_equality not_predicate = absurd (none-of (out-U t) t (sym (roll-out-U t)) h not_squash not_negation not_relation not_equality not_predicate)
 
-pub plain-one : (t s : U) → s ≡ t → IsPlain t → ((table : ℕ) (vs : List Val) → t ≡ u.Rel table vs → ⊥) → ((a b : Val) → t ≡ u.Eq a b → ⊥) → ((symbol : ℕ) (vs : List Val) → t ≡ u.Pred symbol vs → ⊥) → IsFinishedPlain t s
+pub plain-one : (t s : U) → s ≡ t → IsPlainFactor t → ((table : ℕ) (vs : List Val) → t ≡ u.Rel table vs → ⊥) → ((a b : Val) → t ≡ u.Eq a b → ⊥) → ((symbol : ℕ) (vs : List Val) → t ≡ u.Pred symbol vs → ⊥) → IsFinishedPlain t s
 plain-one t s e h not_relation not_equality not_predicate = subst (λ (x : U). IsFinishedPlain t x) (sym e) (record {
   finished = record { product = one-of t h.factor h.no_squash h.no_negation not_relation not_equality not_predicate; squashes = omega arith; negations = omega arith };
   truth = refl;
@@ -342,7 +342,7 @@ truth-kind (Rel table shape arguments) e = absurd (cc)
 truth-kind (Eq a b) e = record { kind = Mark; is = refl }
 truth-kind (Pred symbol shape arguments) e = record { kind = Mark; is = refl }
 
-pub truth-plain : (t : U) → is_truth t ≡ true → IsPlain t
+pub truth-plain : (t : U) → is_truth t ≡ true → IsPlainFactor t
 truth-plain t e = record {
   factor = factor (truth-kind t e);
   no_squash = λ p is. let f : false ≡ true = sym (is_truth-Squash p) ∙ sym (ap is_truth is) ∙ e in absurd (cc);

@@ -4,6 +4,7 @@ use Rattle.u_terms.specs.declared.facts.Facts.{Facts}
 use Rattle.u_terms.specs.Syntax.{U}
 use Rattle.u_terms.specs.Size.{nodes}
 use Rattle.u_deriv.specs.Steps.{Replays}
+use Rattle.u_deriv.proofs.Arguments.{nodes-positive}
 use Rattle.u_moves.specs.Derivations.{Derivation}
 use Rattle.u_moves.proofs.Sound.{sound-plain}
 use Rattle.normal_form.specs.Ways.{ways}
@@ -12,7 +13,6 @@ use Rattle.u_normal.specs.Leading.{Leads}
 use Rattle.u_normal.specs.Limits.{IsTooLarge, IsRoomFor, for_any, for_most, spread, unlimited}
 use Rattle.u_normal.specs.Rooms.{IsExcess}
 use Rattle.u_normal.specs.Shaped.{IsShaped, KeepsShapes, sum_of_shapes, squash_of_shape}
-use Rattle.u_normal.proofs.Nodes.{nodes-positive}
 
 -- ---- how much may come of a term
 module _ (t : U) (w n p most : ℕ) (is_w : w ≡ min (ways t) most) (is_n : n ≡ min (nodes t) most) (is_p : p ≡ min (w * n) most) (large : unlimited < most) where

@@ -11,6 +11,7 @@ use Rattle.u_terms.proofs.Parts.{parts-Squash}
 use Rattle.u_rules.specs.Terms.{S, add_leaves, mul_leaves, sq}
 use Rattle.u_terms.specs.Places.{IsClosed}
 use Rattle.u_deriv.specs.declared.run.Run.TheVariants.{Inside}
+use Rattle.u_deriv.proofs.Arguments.{nodes-positive}
 use Rattle.u_moves.specs.declared.moves.Moves.{Moves}
 use Rattle.u_moves.specs.Derivations.{Derivation, IsKnown}
 use Rattle.u_moves.specs.Lifting.{IsPart}
@@ -25,7 +26,6 @@ use Rattle.u_normal.specs.Leading.{IsOneMore}
 use Rattle.u_normal.specs.Merging.{HasKinds}
 use Rattle.u_normal.specs.Taking.{load}
 use Rattle.u_normal.specs.Shaped.{tidied, all_tidied, block_count, AreShaped, HasSomeShape, IsBrief, IsMadeAt, IsShort, IsShapedEnd}
-use Rattle.u_normal.proofs.Nodes.{nodes-positive}
 use Rattle.u_normal.proofs.Loads.{load-permuted, load-small}
 use Rattle.u_normal.proofs.Finishes.{in_order-leaves}
 use Rattle.u_normal.proofs.Blocks.{one-block}
@@ -46,7 +46,7 @@ ordered-small t h = product-small (ordered (mul_leaves t)) (nodes t) (nodes-posi
 pub brief-to : (F : Facts) (outs : ℕ) (first last other : U) (most n : ℕ) (d : Derivation) → last ≡ other → most ≤ n → IsBrief F outs first last most d → IsBrief F outs first other n d
 brief-to F outs first last other most n d e le h = record {
   ends = record { facts = h.ends.facts; outs = h.ends.outs; from = h.ends.from; to = h.ends.to ∙ e };
-  short = record { few = omega (arith, h.short.few, le); small = h.short.small; shallow = h.short.shallow };
+  short = record { few = omega (arith, h.short.few, le); small = h.short.small; shallow = h.short.shallow; plain = h.short.plain };
   fewer = omega (arith, ap nodes e, h.fewer);
 }
 
@@ -120,7 +120,7 @@ squash-end F outs t a last most d e has is le brief =
         sum = λ ss h. absurd (squash-unshaped outs t a ss e h);
         squash = λ s h. record {
           shape = record { inside = tidied a; is = to; shape = tidied-shape outs a s (subst (λ (x : U). HasShape outs x s) (parts-Squash h.inside a (sym h.is ∙ e)) h.shape) };
-          short = record { few = omega (arith, brief.short.few, le); small = brief.short.small; shallow = brief.short.shallow };
+          short = record { few = omega (arith, brief.short.few, le); small = brief.short.small; shallow = brief.short.shallow; plain = brief.short.plain };
         };
       };
     }

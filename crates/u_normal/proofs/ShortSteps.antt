@@ -8,6 +8,9 @@ use Rattle.u_terms.specs.Places.{IsClosed}
 use Rattle.u_terms.specs.Binding.{closed_at}
 use Rattle.u_terms.proofs.MappedSizes.{closed_at-nodes}
 use Rattle.u_terms.proofs.Sizes.{nodes-Add, nodes-Sum, nodes-Squash}
+use Rattle.u_rules.specs.declared.rule.Arg.{Arg}
+use Rattle.u_rules.specs.declared.rule.Rule.{Rule}
+use Rattle.u_rules.specs.declared.rule.Rule.TheVariants as rule
 use Rattle.u_rules.specs.Terms.{◌⊕◌, S, sq}
 use Rattle.u_rules.proofs.Measured.{deep}
 use Rattle.u_deriv.specs.declared.run.Run.{Run}
@@ -16,8 +19,10 @@ use Rattle.u_deriv.specs.declared.step.Step.{Step}
 use Rattle.u_deriv.specs.Steps.{Replaced}
 use Rattle.u_deriv.specs.Turns.{turns}
 use Rattle.u_moves.specs.declared.moves.Moves.{Moves}
-use Rattle.u_moves.specs.Derivations.{Derivation, IsKnown, IsStill, IsOneStep}
+use Rattle.u_moves.specs.Derivations.{Derivation, HasPlainSteps, IsKnown, IsStill, IsOneStep}
 use Rattle.u_moves.specs.Lifting.{IsPart, IsMadeIn, lifted, lifted_step}
+use Rattle.u_moves.specs.Moving.{root_step}
+use Rattle.u_moves.proofs.Plain.{made-plain, move-plain, still-plain}
 use Rattle.u_congruence.specs.Congruence.{IsBy, IsFromTo}
 use Rattle.u_congruence.proofs.Turned.{known-Add, part-add_left, made-add_left, part-add_right, made-add_right, known-Squash, part-squash, made-squash, known-Sum, known-closed, part-sum, made-sum}
 use Rattle.u_congruence.proofs.Pairs.{one-shown, pair-shown}
@@ -36,47 +41,62 @@ still-brief F outs t s most d e h = record {
     few = omega (arith, ap length h.steps);
     small = omega (arith, h.nodes, ap nodes h.from);
     shallow = omega (arith, h.depth, ap nodes h.from, deep t);
+    plain = still-plain d h.steps;
   };
   fewer = omega (arith, ap nodes e);
 }
 
-pub step-brief : (F : Facts) (outs : ℕ) (t s : U) (step : Step) (d : Derivation) → nodes s ≤ nodes t → IsOneStep F outs t step s d → IsBrief F outs t s 1 d
-step-brief F outs t s step d fewer h = record {
+pub step-brief : (F : Facts) (outs : ℕ) (t s : U) (step : Step) (d : Derivation) → HasPlainSteps d → nodes s ≤ nodes t → IsOneStep F outs t step s d → IsBrief F outs t s 1 d
+step-brief F outs t s step d plain fewer h = record {
   ends = record { facts = h.facts; outs = h.outs; from = h.from; to = h.to };
   short = record {
     few = omega (arith, ap length h.steps);
     small = omega (arith, h.nodes, ap nodes h.from, fewer);
     shallow = omega (arith, h.depth, ap nodes h.from, deep t, deep s, fewer);
+    plain = plain;
   };
   fewer = fewer;
 }
 
-pub step-brief-by : (F : Facts) (outs : ℕ) (t s from to : U) (step : Step) (made : Derivation) → from ≡ t → to ≡ s → nodes s ≤ nodes t → IsOneStep F outs from step to made → (d : Derivation) → d ≡ made → IsBrief F outs t s 1 d
-step-brief-by F outs t s from to step made e f fewer h d same =
+pub step-brief-by : (F : Facts) (outs : ℕ) (t s from to : U) (q : Rule) (args : List Arg) (made : Derivation) → (q ≡ rule.SqFix → ⊥) → (q ≡ rule.SumUse → ⊥) → from ≡ t → to ≡ s → nodes s ≤ nodes t → IsOneStep F outs from (root_step q args) to made → (d : Derivation) → d ≡ made → IsBrief F outs t s 1 d
+step-brief-by F outs t s from to q args made proves uses e f fewer h d same =
     subst (λ (x : Derivation). IsBrief F outs t s 1 x) (sym same)
-    (step-brief F outs t s step made fewer (subst (λ (x : U). IsOneStep F outs x step s made) e (subst (λ (x : U). IsOneStep F outs from step x made) f h)))
+    (step-brief F outs t s (root_step q args) made (move-plain q args made proves uses h.steps) fewer
+    (subst (λ (x : U). IsOneStep F outs x (root_step q args) s made) e (subst (λ (x : U). IsOneStep F outs from (root_step q args) x made) f h)))
 
 -- ---- made in a whole
 pub record IsInside (most n : ℕ) (d : Derivation) : Type 0 where
   pub few : length d.steps ≤ most
   pub small : d.nodes ≤ n
   pub shallow : d.depth ≤ n
+  pub plain : HasPlainSteps d
 
 made-inside : (path : List Run) (w l x : Derivation) (k n : ℕ) → length (turns path) ≡ 1 → IsMadeIn path w l x → IsInside k n w → nodes w.to ≤ n → IsShort (length l.steps) l → nodes l.from + 1 ≤ n → IsInside (k + length l.steps) n x
 made-inside path w l x k n once made whole last part fits = record {
   few = omega (arith, ap length made.steps, length-append w.steps (lifted path l.steps), length-map l.steps (lifted_step path), whole.few);
   small = omega (arith, made.nodes, whole.small, last, part.small);
   shallow = omega (arith, made.depth, once, whole.shallow, part.shallow, fits);
+  plain = made-plain path w l x made.steps whole.plain part.plain;
 }
 
 from-none : (m n : ℕ) (d : Derivation) → IsInside (0 + m) n d → IsInside m n d
-from-none m n d h = record { few = omega (arith, h.few); small = h.small; shallow = h.shallow }
+from-none m n d h = record { few = omega (arith, h.few); small = h.small; shallow = h.shallow; plain = h.plain }
 
 still-inside : (F : Facts) (outs : ℕ) (t : U) (d : Derivation) → IsStill F outs t d → IsInside 0 (nodes t) d
-still-inside F outs t d h = record { few = omega (arith, ap length h.steps); small = omega (arith, h.nodes); shallow = omega (arith, h.depth, deep t) }
+still-inside F outs t d h = record {
+  few = omega (arith, ap length h.steps);
+  small = omega (arith, h.nodes);
+  shallow = omega (arith, h.depth, deep t);
+  plain = still-plain d h.steps;
+}
 
 inside-short : (t : U) (most n : ℕ) (d : Derivation) → d.from ≡ t → n ≡ nodes t → IsInside most n d → IsShort most d
-inside-short t most n d e f h = record { few = h.few; small = omega (arith, h.small, ap nodes e, f); shallow = omega (arith, h.shallow, ap nodes e, f) }
+inside-short t most n d e f h = record {
+  few = h.few;
+  small = omega (arith, h.small, ap nodes e, f);
+  shallow = omega (arith, h.shallow, ap nodes e, f);
+  plain = h.plain;
+}
 
 module _ (op : U → U) (outs inner : ℕ) (moves : Moves) (l : Derivation) (by : IsBy moves.facts.now inner l)
     (known : (a : U) → IsKnown 0 inner a → IsKnown 0 moves.outs (op a))
@@ -148,10 +168,11 @@ more-short before d n more short fewer last from = record {
   few = omega (arith, more.few, short.few);
   small = omega (arith, more.small, short.small, fewer, last, ap nodes from);
   shallow = omega (arith, more.shallow, short.shallow, deep d.to, fewer, last, ap nodes from);
+  plain = more.plain short.plain;
 }
 
 pub brief-part : (F : Facts) (outs : ℕ) (first last : U) (most : ℕ) (d : Derivation) → IsBrief F outs first last most d → IsBriefPart d
 brief-part F outs first last most d h = record {
-  short = record { few = omega arith; small = h.short.small; shallow = h.short.shallow };
+  short = record { few = omega arith; small = h.short.small; shallow = h.short.shallow; plain = h.short.plain };
   fewer = omega (arith, ap nodes h.ends.to, ap nodes h.ends.from, h.fewer);
 }

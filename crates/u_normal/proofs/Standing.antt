@@ -20,12 +20,12 @@ use Rattle.u_deriv.specs.Steps.{Replaced}
 use Rattle.u_deriv.specs.Turns.{turns}
 use Rattle.u_deriv.proofs.Opening.{opened_path-closed}
 use Rattle.u_deriv.proofs.Extents.{nodes-filled}
+use Rattle.u_deriv.proofs.Arguments.{nodes-positive}
 use Rattle.u_moves.specs.Lifting.{IsPart}
 use Rattle.u_congruence.proofs.Turned.{made-here}
 use Rattle.normal_form.specs.NormalTerms.{IsNormal, IsNormalValue, AreNormalValues, bound, free, literal, call, aggregate, no_value, value_then}
 use Rattle.normal_form.proofs.Lists.{each-append}
 use Rattle.normal_form.proofs.Renamed.{normal-closed}
-use Rattle.u_normal.proofs.Nodes.{nodes-positive}
 use Rattle.u_normal.specs.Values.{arguments, IsPlace, IsRowPlace, Stands, AreStanding, StandsWithBody, HasOtherBody, IsNormalAt, AreNormalAt, AreNormalUpTo}
 
 -- ---- places

@@ -20,7 +20,7 @@ pub record IsFinished (before after : U) : Type 0 where
 
 -- ---- equalities, predicates and relations
 -- 1 or a factor that is no squash and no negation
-pub record IsPlain (t : U) : Type 0 where
+pub record IsPlainFactor (t : U) : Type 0 where
   pub factor : IsFactorOrOne t
   pub no_squash : (p : U) → t ≡ u.Squash p → ⊥
   pub no_negation : (p : U) → t ≡ u.Not p → ⊥

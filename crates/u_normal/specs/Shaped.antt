@@ -7,7 +7,7 @@ use Rattle.u_terms.specs.declared.facts.Facts.{Facts}
 use Rattle.u_rules.specs.Terms.{◌⊕◌, mul_leaves}
 use Rattle.u_deriv.specs.declared.run.Run.{Run}
 use Rattle.u_moves.specs.declared.moves.Moves.{Moves}
-use Rattle.u_moves.specs.Derivations.{Derivation, IsStill}
+use Rattle.u_moves.specs.Derivations.{Derivation, HasPlainSteps, IsStill}
 use Rattle.u_moves.specs.Lifting.{IsMadeIn}
 use Rattle.u_congruence.specs.Congruence.{IsBy, IsFromTo}
 use Rattle.normal_form.specs.NormalTerms.{IsNormal}
@@ -22,11 +22,13 @@ pub data IsShaped (outs : ℕ) : U → Type 0 where
   sum_of_shapes : {u : U} (ss : List Shape) → HaveShapes outs u ss → IsShaped outs u
   squash_of_shape : {u : U} (s : Shape) → IsSquashed outs u s → IsShaped outs u
 
--- so many steps at most, and no term on the way with more nodes, or deeper, than the first has nodes
+-- So many steps at most, and no term on the way with more nodes, or deeper, than the first has nodes. The steps are plain, so the bound of
+-- their lines is at most, for each step, 18 and 39 for each node of the first term, by the law of plain derivations.
 pub record IsShort (most : ℕ) (d : Derivation) : Type 0 where
   pub few : length d.steps ≤ most
   pub small : d.nodes ≤ nodes d.from
   pub shallow : d.depth ≤ nodes d.from
+  pub plain : HasPlainSteps d
 
 pub record KeepsSum (outs : ℕ) (ss : List Shape) (d : Derivation) : Type 0 where
   pub shapes : HaveShapes outs d.to ss

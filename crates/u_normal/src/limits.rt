@@ -20,13 +20,13 @@ use u_terms::{U, nodes};
 /// Where the blocks that a term may have, times its nodes, are no more, it has its normal form whatever the size.
 const UNLIMITED: u64 = 20_000;
 
-/// The most nodes of a term on the way.
+/// The most nodes that the last term may have.
 const MOST_NODES: u64 = 200_000;
 
 /// Why a term has no derivation to its normal form.
 #[derive(Clone, Copy, Debug, PartialEq, Eq)]
 pub enum NormalFault {
-    /// A term on the way has this many nodes.
+    /// Steps lead to a term that has this many nodes, more than 200,000.
     TooLarge { nodes: u64 },
     NoMemory,
 }

@@ -9,7 +9,7 @@ ghost use Rattle.normal_form.specs.Kinds as spec;
 ghost use Rattle.normal_form.specs.declared.kind.Kind.TheVariants as kind;
 ghost use Rattle.normal_form.specs.NormalTerms.{IsNormal};
 ghost use Rattle.u_congruence.specs.Congruence.{IsBy};
-ghost use Rattle.u_normal.specs.Finishing.{IsFactorOrOne, IsFinished, IsFinishedPlain, IsPlain};
+ghost use Rattle.u_normal.specs.Finishing.{IsFactorOrOne, IsFinished, IsFinishedPlain, IsPlainFactor};
 ghost use Rattle.u_normal.specs.Heads.{HasHead, IsFactorRow, IsTidy};
 ghost use Rattle.u_normal.specs.Leading.{Leads};
 ghost use Rattle.u_normal.specs.Rooms.{InRoom, BecomesInRoom};
@@ -171,7 +171,7 @@ fn normal_factor<'f>(moves: Moves<'f>, room: u64, u: &U) -> Result<Derived<'f>, 
 #[cycle(normal)]
 fn normal_plain<'f>(moves: Moves<'f>, room: u64, u: &U) -> Result<Derived<'f>, NoMemory>
     requires known { IsKnown 0 moves.outs u.now }
-    requires plain { IsPlain u.now }
+    requires plain { IsPlainFactor u.now }
     ensures { IfOk result (Leads (InRoom room (IsFinishedPlain u.now)) moves.entry.facts.now moves.entry.outs u.now) }
 {
     let whole = still(moves, copied(moves.alloc, u)?)?;

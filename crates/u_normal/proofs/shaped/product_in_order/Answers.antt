@@ -2,6 +2,7 @@ use Rattle.std.proofs.Common.{◌≡◌, sym, subst, ◌∙◌}
 use Rattle.std.specs.Prelude.{IsPermutation}
 use Rattle.u_terms.specs.Syntax.{U}
 use Rattle.u_terms.specs.Products.{product_of}
+use Rattle.u_rules.specs.declared.rule.Rule.TheVariants as rule
 use Rattle.u_rules.specs.Terms.{mul_leaves}
 use Rattle.u_moves.specs.Derivations.{Derivation, IsKnown, IsStill}
 use Rattle.u_moves.proofs.Whole.{if-ok}
@@ -44,6 +45,6 @@ returns c =
     let row = row-is (goal.at.returns c).In_ok-row in
     if-ok (λ (x : Derivation). x ≡ c.in_ok-step.step)
     (IsBrief c.args.moves.facts.now c.args.moves.outs c.args.u.now (product_of (ordered (mul_leaves c.args.u.now))) 1)
-    (step-brief-by c.args.moves.facts.now c.args.moves.outs c.args.u.now (product_of (ordered (mul_leaves c.args.u.now))) c.into_inner.result c.into_inner-2.result _ c.in_ok-step.step
+    (step-brief-by c.args.moves.facts.now c.args.moves.outs c.args.u.now (product_of (ordered (mul_leaves c.args.u.now))) c.into_inner.result c.into_inner-2.result rule.MulAc _ c.in_ok-step.step (λ e. cc) (λ e. cc)
     (c.into_inner.ensures ∙ c.in_ok-from.ensures {u = tt}) (c.into_inner-2.ensures ∙ row) (ordered-small c.args.u.now (product-kinds c.args.u.now c.requires.product)) (c.in_ok-step.ensures {u = tt}))
     c.new-2.result c.new-2.ensures

@@ -1,6 +1,7 @@
 use Rattle.std.proofs.Common.{◌≡◌, ap, sym, subst, ◌∙◌}
 use Rattle.std.specs.Prelude.{IsPermutation}
 use Rattle.u_terms.specs.Syntax.{U}
+use Rattle.u_rules.specs.declared.rule.Rule.TheVariants as rule
 use Rattle.u_rules.specs.Terms.{add_leaves}
 use Rattle.u_moves.specs.Derivations.{Derivation, IsKnown, IsSound}
 use Rattle.normal_form.specs.NormalTerms.{sum_of}
@@ -37,6 +38,6 @@ returns-clause-more c =
     let last : c.into_inner.result ≡ c.args.d.to = c.into_inner.ensures ∙ c.in_ok-last.ensures {u = tt} ∙ c.to-3.ensures.lent ∙ ap (λ (d : Derivation). d.to) c.get-4.ensures in
     let joined = c.in_ok-then.ensures {u = tt} in
     if-ok (λ (x : Derivation). x ≡ c.in_ok-then.field-0) (IsOneMore c.args.d)
-    (more-of c.args.moves.facts.now c.args.moves.outs c.args.d c.into_inner-3.result c.in_ok-step.step c.in_ok-then.field-0 c.into_inner.result c.into_inner-2.result _ c.into_inner-3.ensures
+    (more-of c.args.moves.facts.now c.args.moves.outs c.args.d c.into_inner-3.result c.in_ok-step.step c.in_ok-then.field-0 c.into_inner.result c.into_inner-2.result rule.AddAc _ (λ e. cc) (λ e. cc) c.into_inner-3.ensures
     (subst (λ (d : Derivation). IsSound d) c.get-4.ensures c.to-3.ensures.sound) last (c.in_ok-step.ensures {u = tt}) joined.steps joined.bounds joined.to)
     c.new-2.result c.new-2.ensures

@@ -14,7 +14,7 @@ use Rattle.normal_form.specs.Kinds.{is_truth}
 use Rattle.u_normal.specs.Summing.{IsBlockSum}
 use Rattle.u_normal.specs.Values.{Stands, HasOtherBody, IsNormalAt, AreNormalAt, AreNormalUpTo, LeadsOn}
 use Rattle.u_normal.specs.Heads.{IsFactorRow, HasHead, head_load}
-use Rattle.u_normal.specs.Finishing.{IsFactorOrOne, IsFinished, IsFinishedPlain, IsPlain, factor}
+use Rattle.u_normal.specs.Finishing.{IsFactorOrOne, IsFinished, IsFinishedPlain, IsPlainFactor, factor}
 use Rattle.normal_form.specs.NormalTerms.{IsNormal}
 use Rattle.u_normal.proofs.KnownParts.{known-left, known-right, known-body, known-opened, known-factor_left, known-factor_right, known-squashed, known-negated, body-again, again-at, to-known}
 use Rattle.u_normal.proofs.Led.{leads-to, leads-same}
@@ -163,7 +163,7 @@ normal_factor-normal_plain-requires t c =
       omega (arith, c.decreases, plain-lighter c.args.u.now c.in-Not-2.p c.in-Not-2.is, ap load c.get-in-Not-2.ensures),
       (
         subst (λ (u : U). IsKnown 0 c.args.moves.outs u) (sym c.get-in-Not-2.ensures) (known-negated c.args.moves.outs c.in-Not-2.p (subst (λ (u : U). IsKnown 0 c.args.moves.outs u) c.in-Not-2.is c.requires.known)),
-        subst (λ (u : U). IsPlain u) (sym c.get-in-Not-2.ensures) (truth-plain c.in-Not-2.p is),
+        subst (λ (u : U). IsPlainFactor u) (sym c.get-in-Not-2.ensures) (truth-plain c.in-Not-2.p is),
       ),
     )
 
