@@ -10,7 +10,7 @@ use Rattle.u_rules.specs.Terms.{mul_leaves}
 use Rattle.u_equal.specs.Tables.{AreIn, HasArguments}
 use Rattle.u_equal.proofs.StandingAt.{standing-Eq}
 use Rattle.u_equal.proofs.Members.{in-head, in-cons, in-none, in-left, in-right, in-either, in-last, in-push}
-use Rattle.u_equal.proofs.Rounds.{parts-Fun}
+use Rattle.u_equal.proofs.Signatures.{parts-Fun}
 
 -- ---- rows as lists
 list_of : {n : _} → Vals n → List Val

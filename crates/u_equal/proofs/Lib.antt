@@ -13,7 +13,8 @@ pub mod Fed
 pub mod KeyLaws
 pub mod Moves
 pub mod Sides
-pub mod Rounds
+pub mod Signatures
+pub mod Waiting
 pub mod LinkNumbers
 pub mod Ways
 pub mod Listed

@@ -23,7 +23,7 @@ use Rattle.u_equal.proofs.Labels.{first-unique}
 use Rattle.u_equal.proofs.Moves.{calls-back}
 use Rattle.u_equal.proofs.Reaches.{reach-le}
 use Rattle.u_equal.proofs.LinkNumbers.{arguments-Fun, same-both, edge-given, edge-called, pairs-found, one-given, one-call}
-use Rattle.u_equal.proofs.Rounds.{parts-Fun}
+use Rattle.u_equal.proofs.Signatures.{parts-Fun}
 use Rattle.u_equal.proofs.Ways.{far-within}
 use Rattle.u_equal.proofs.Listed.{at-push}
 

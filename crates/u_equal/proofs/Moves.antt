@@ -1,5 +1,5 @@
 -- What joining two places keeps.
-use Rattle.std.proofs.Common.{◌≡◌, ℕ, ◌+◌, ◌<◌, ◌≤◌, List, [], ◌∷◌, ◌++◌, length, inl, inr, refl, ap, sym, ◌∙◌, subst, arith}
+use Rattle.std.proofs.Common.{◌≡◌, ℕ, ◌+◌, ◌≤◌, List, length, inl, inr, refl, sym, ◌∙◌, subst, arith}
 use Rattle.std.specs.Prelude.{Bool, true, false, Some, slice_get}
 use Rattle.std.proofs.lemmas.Bool.{true≢false}
 use Rattle.std.proofs.lemmas.List.{length_push}
@@ -65,11 +65,11 @@ module _ (s : State) (left right : ℕ) (reason : Reason) where
     pub moved-once : length t.edges ≤ length s.edges + 1
     moved-once = moved-by (λ x. length x.edges ≤ length s.edges + 1) t joined (λ _. omega arith) (λ _. omega (arith, length_push s.edges forth)) (λ _. omega (arith, length_push s.edges back)) m
 
-  pub moved-more : (t : State) (joined : Bool) → IsMoved left right reason s t joined → joined ≡ true → length s.edges < length t.edges
-  moved-more t false m e = absurd (true≢false (sym e))
-  moved-more t true m e = elim m.1 [
-    | inl h ↦ let k : length t.edges ≡ length (s.edges ++ forth ∷ []) = ap (λ (x : State). length x.edges) h in omega (arith, k, length_push s.edges forth)
-    | inr h ↦ let k : length t.edges ≡ length (s.edges ++ back ∷ []) = ap (λ (x : State). length x.edges) h in omega (arith, k, length_push s.edges back)
+  pub moved-pushes : (t : State) (joined : Bool) → IsMoved left right reason s t joined → joined ≡ true → (e : Edge) × (t ≡ pushed s e)
+  moved-pushes t false m e = absurd (true≢false (sym e))
+  moved-pushes t true m e = elim m.1 [
+    | inl h ↦ (forth, h)
+    | inr h ↦ (back, h)
   ]
 
   pub moved-stays : (t : State) (joined : Bool) → IsMoved left right reason s t joined → joined ≡ false → (label_now s left ≡ label_now s right) × (t ≡ s)

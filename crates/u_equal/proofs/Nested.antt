@@ -1,5 +1,5 @@
 -- How deep links are in links: each edge of calls has links of earlier edges inside.
-use Rattle.std.proofs.Common.{◌≡◌, ℕ, ◌+◌, ◌<◌, ◌≤◌, Bool, List, [], ◌∷◌, ◌++◌, sym, subst, arith}
+use Rattle.std.proofs.Common.{◌≡◌, ℕ, ◌≤◌, Bool, List, [], ◌∷◌, ◌++◌, sym, subst, arith}
 use Rattle.u_equal.specs.declared.link.Link.{Link}
 use Rattle.u_equal.specs.declared.link.Link.TheVariants as link
 use Rattle.u_equal.specs.Links.{Nests, NestsEach, no_depth, given_within, call_within, no_lists, lists_within}

@@ -18,7 +18,7 @@ module _ (s : State) (e : Edge) where
   pub long-edges : length edges ≡ T + 1
   long-edges = length_push s.edges e
 
-  edge-last : edge_at edges T ≡ e
+  pub edge-last : edge_at edges T ≡ e
   edge-last = get_or_push s.edges e no_edge T refl
 
   edge-before : (k : ℕ) → k < T → edge_at edges k ≡ edge_at s.edges k

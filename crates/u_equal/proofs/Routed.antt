@@ -1,6 +1,6 @@
 -- What a chain between two values says, and how many links it has where no call stands in the product.
-use Rattle.std.proofs.Common.{◌≡◌, ℕ, zero, suc, ◌+◌, ◌<◌, ◌≤◌, List, length, inl, inr, refl, ap, sym, ◌∙◌, subst, arith, add-one}
-use Rattle.std.specs.Prelude.{Some, slice_get, count_by, nat_eq, Result, Ok, Err, IfOk}
+use Rattle.std.proofs.Common.{◌≡◌, ℕ, zero, suc, ◌+◌, ◌<◌, ◌≤◌, List, length, inl, inr, refl, ap, sym, ◌∙◌, subst, arith}
+use Rattle.std.specs.Prelude.{Some, count_by, nat_eq, Result, Ok, Err, IfOk}
 use Rattle.std.proofs.lemmas.Bool.{cases_eq}
 use Rattle.u_terms.specs.Syntax.{U, Val}
 use Rattle.u_rules.specs.Terms.{mul_leaves}
@@ -9,10 +9,10 @@ use Rattle.u_equal.specs.declared.forest.Reason.{Reason}
 use Rattle.u_equal.specs.declared.forest.Reason.TheVariants.{Given, Called}
 use Rattle.u_equal.specs.declared.link.Link.{Link}
 use Rattle.u_equal.specs.Standing.{standing, IsIn}
-use Rattle.u_equal.specs.Links.{IsChain, HasNoCall, Nests, is_equality, told}
+use Rattle.u_equal.specs.Links.{IsChain, HasNoCall, Nests, is_equality}
 use Rattle.u_equal.specs.LinkCounts.{links_between, links_of_edge, links_of_values, IsRoute}
 use Rattle.u_equal.specs.Chains.{LinksValues}
-use Rattle.u_equal.specs.Joined.{edge_at, label_at, label_now, count, reach, seen, Same, AreCalls, AreClasses, AreEdges, HasReason, State, IsState}
+use Rattle.u_equal.specs.Joined.{edge_at, label_at, label_now, count, reach, seen, Same, AreClasses, AreEdges, HasReason, State, IsState}
 use Rattle.u_equal.proofs.Labels.{label_at-keeps, label_at-joins, joined_by, before, across, across_turned}
 use Rattle.u_equal.proofs.LinkNumbers.{links-none, links-kept, links-forth, links-back, links-same, links-at, edge-given}
 use Rattle.u_equal.proofs.Nested.{nests-wider}

@@ -180,12 +180,6 @@ pub record IsProgress (calls : List Val) (before after : State) : Type 0 where
   pub grows : length before.edges ≤ length after.edges
   pub quiet : HasNoCall calls → length after.edges ≤ length before.edges
 
--- whether some were joined; where none were, nothing is left to be joined
-pub record IsRound (closed : Type 0) (calls : List Val) (before after : State) (grew : Bool) : Type 0 where
-  pub progress : IsProgress calls before after
-  pub more : grew ≡ true → length before.edges < length after.edges
-  pub stays : grew ≡ false → (after ≡ before) × closed
-
 -- each value in a class of its own
 pub record IsFresh (values : List Val) (s : State) : Type 0 where
   pub values_are : s.values ≡ values

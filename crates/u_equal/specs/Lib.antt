@@ -8,3 +8,4 @@ pub mod Tables
 pub mod Chains
 pub mod LinkCounts
 pub mod Routes
+pub mod Agendas

@@ -1,14 +1,15 @@
 -- Tables of values, and the calls among them: contracts of private functions cite this.
-use Rattle.std.specs.Prelude.{◌≡◌, ℕ, ◌<◌, ◌≤◌, Bool, true, false, ◌&&◌, nat_eq, List, length, map, Option, None, Some, slice_get, cond}
+use Rattle.std.specs.Prelude.{◌≡◌, ℕ, ◌≤◌, Bool, true, false, ◌&&◌, nat_eq, List, length, map, Option, None, Some, slice_get, cond}
 use Rattle.std.specs.Cmp.Lexicographic.{pointwise}
 use Rattle.u_terms.specs.Syntax.{Val}
 use Rattle.u_terms.specs.declared.term.Val.TheVariants as v
 use Rattle.u_equal.specs.declared.calls.Call.{Call}
 use Rattle.u_equal.specs.declared.calls.Signature.{Signature}
+use Rattle.u_equal.specs.declared.forest.Edge.{Edge}
 use Rattle.u_equal.specs.Standing.{IsIn}
 use Rattle.u_terms.specs.Syntax.{U}
 use Rattle.u_rules.specs.Terms.{◌≐◌}
-use Rattle.u_equal.specs.Joined.{FirstAt, State, label_at, label_now, IsProgress}
+use Rattle.u_equal.specs.Joined.{FirstAt, State, label_at, label_now, pushed, IsProgress}
 
 -- both lists have the same values, and the second one no more of them
 pub record AreValuesOf (standing values : List Val) : Type 0 where
@@ -49,27 +50,28 @@ same_signature s t = nat_eq s.symbol t.symbol && pointwise nat_eq s.classes t.cl
 abbrev pub signature : (ℕ → ℕ) → Call → Signature
 signature label c = record { symbol = c.symbol; classes = map label c.arguments }
 
--- what a round knows: where a signature leads to, a call had it by the labels of some time
+-- what is known: where a signature leads to, a call had it by the labels of some time
 abbrev pub IsKnown : List Val → State → (Signature → Option ℕ) → Type 0
 IsKnown values s look = (g : Signature) (place : ℕ) → look g ≡ Some place
     → (c : Call) × (time : ℕ) × IsCall values c × (c.place ≡ place) × (time ≤ length s.edges) × (g ≡ signature (label_at s.edges time) c)
 
--- the signature of the call leads to a call in its class
-abbrev pub Leads : State → (Signature → Option ℕ) → Call → Type 0
-Leads s look c = (place : ℕ) × (look (signature (label_now s) c) ≡ Some place) × (label_now s place ≡ label_now s c.place)
+-- the signature that the call had before leads to a call that is in its class after
+abbrev pub Finds : State → State → (Signature → Option ℕ) → Call → Type 0
+Finds before after look c = (place : ℕ) × (look (signature (label_now before) c) ≡ Some place) × (label_now after place ≡ label_now after c.place)
 
--- of the first calls too
-abbrev pub LeadEach : List Call → ℕ → State → (Signature → Option ℕ) → Type 0
-LeadEach calls upto s look = (k : ℕ) (c : Call) → k < upto → slice_get calls k ≡ Some c → Leads s look c
+abbrev pub Leads : State → (Signature → Option ℕ) → Call → Type 0
+Leads s = Finds s s
 
 -- what a signature leads to, or that it leads to this place from now on
 abbrev pub IsNoted : Signature → ℕ → (Signature → Option ℕ) → (Signature → Option ℕ) → Option ℕ → Type 0
 IsNoted g place before after (Some other) = (before g ≡ Some other) × (after ≡ before)
 IsNoted g place before after None = (before g ≡ None) × ((q : Signature) → after q ≡ cond (same_signature g q) (Some place) (before q))
 
--- one call was joined with what a round knows, or is known from now on
+-- one call was joined with what is known, or is known from now on
 pub record IsStep (c : Call) (before after : State) (look_before look_after : Signature → Option ℕ) (joined : Bool) : Type 0 where
   pub progress : IsProgress before.values before after
   pub known : IsKnown after.values after look_after
-  pub more : joined ≡ true → length before.edges < length after.edges
-  pub stays : joined ≡ false → (after ≡ before) × Leads before look_after c × ((g : Signature) (place : ℕ) → look_before g ≡ Some place → look_after g ≡ Some place)
+  pub pushes : joined ≡ true → (e : Edge) × (after ≡ pushed before e)
+  pub stays : joined ≡ false → after ≡ before
+  pub kept : (g : Signature) (place : ℕ) → look_before g ≡ Some place → look_after g ≡ Some place
+  pub finds : Finds before after look_after c

@@ -20,7 +20,8 @@ use u_rules::leaves;
 use u_terms::{List, U, Val, same_value};
 
 /// The classes of the values that stand in a product outside every binder: of the least equivalence that holds the equalities among its
-/// factors, and that carries equal arguments to equal calls of one function. Contracts see them as the product.
+/// factors, and that carries equal arguments to equal calls of one function. What stands under `+`, `#` and `!` counts, also as an argument of a
+/// call; what stands under a sum or in an aggregate does not. Contracts see the classes as the product.
 #[derive(Drop)]
 pub struct Classes<'a> {
     product: &'a U,
@@ -43,7 +44,9 @@ impl<'a> Model for Classes<'a> {
 }
 
 impl<'a> Classes<'a> {
-    /// The classes of a product.
+    /// The classes of a product. Each value is hashed whole, so calls take up to the nodes of the product times the depth of calls in calls. A call
+    /// is looked at again, with all its arguments, for each argument whose class is hung under another one while calls are joined: up to the square
+    /// of its arguments, in time and memory. Everything else is about linear.
     pub fn of(alloc: Global, product: &'a U) -> Result<Classes<'a>, NoMemory>
         requires few { length (mul_leaves product.now) < 2 ^ 32 }
         ensures { IfOk result (λ classes. classes ≡ product.now) }
@@ -58,14 +61,16 @@ impl<'a> Classes<'a> {
         Ok(Classes { product, forest })
     }
 
-    /// Whether the product's equalities entail that the values are equal.
+    /// Whether the product's equalities entail that the values are equal. They may be any values: one that does not stand in the product is equal
+    /// to itself alone.
     pub fn entails(&self, a: &Val, b: &Val) -> bool
         ensures { IsTrue result ↔ Entails self.now a.now b.now }
     {
         self.forest.are_same(a, b)
     }
 
-    /// Links that lead from the one value to the other, where the product's equalities entail that they are equal.
+    /// Links that lead from the one value to the other; `None` where the product's equalities do not entail that they are equal. Through calls in
+    /// calls they may be exponentially many, so `route` counts them first. They are made by recursion, a level for each call on the way.
     pub fn chain(&self, alloc: Global, a: &Val, b: &Val) -> Result<Option<List<Link>>, NoMemory>
         ensures { IfOk result (λ found. IsChain self.now a.now b.now found) }
     {
@@ -75,7 +80,8 @@ impl<'a> Classes<'a> {
         Ok(Some(self.forest.links(alloc, a, b)?))
     }
 
-    /// The chain from the one value to the other, counted and not made yet, where the product's equalities entail that they are equal.
+    /// The chain from the one value to the other, counted and not made yet; `None` where the product's equalities do not entail that they are equal.
+    /// Each call of this counts all edges anew: a walk for each argument of each two calls that were joined.
     pub fn route<'c>(
         &'c self,
         alloc: Global,

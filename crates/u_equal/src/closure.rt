@@ -2,10 +2,12 @@
 ghost use Rattle.std.specs.Prelude.{◌≡◌, ◌^◌, ◌<◌, IfOk, OnOk, length};
 ghost use Rattle.indexmap.specs.IndexMap.{get};
 ghost use Rattle.u_rules.specs.Terms.{terms};
-ghost use Rattle.u_equal.specs.Joined.{seen, label_now, IsState, IsTree, HoldsCalls, IsProgress, IsRound, JoinsFactors};
+ghost use Rattle.u_equal.specs.Joined.{seen, label_now, IsState, IsTree, HoldsCalls, IsProgress, JoinsFactors};
 ghost use Rattle.u_equal.specs.Tables.{AreCallsOf, HasSides, IsCall, IsKnown, IsNoted, IsStep, same_signature, signature};
+ghost use Rattle.u_equal.specs.Agendas.{AreSettled, IsLooked, IsNext};
 
 use crate::NoMemory;
+use crate::agenda::Agenda;
 use crate::calls::{Call, Signature};
 use crate::forest::{Forest, Reason};
 use indexmap::IndexMap;
@@ -36,8 +38,8 @@ impl<'a> Forest<'a> {
         Ok(())
     }
 
-    /// Joins calls with the same arguments until none are left: round after round, since what one joins may give others behind or
-    /// before it the same arguments.
+    /// Joins calls with the same arguments until none are left. A call is looked at again, with all its arguments, for each of them whose
+    /// class is hung under another one. The smaller class is, so for each argument that is at most as often as the number of values has binary digits.
     pub fn join_calls(&mut self, alloc: Global, calls: &[Call]) -> Result<(), NoMemory>
         requires tree { IsTree self.old }
         requires state { IsState (seen self.old) }
@@ -46,30 +48,61 @@ impl<'a> Forest<'a> {
         ensures progress { OnOk result (IsProgress self.old.values.keys (seen self.old) (seen self.new)) }
         ensures closed { OnOk result (HoldsCalls self.new.values.keys self.new.values.keys (label_now (seen self.new))) }
     {
-        while self.join_round(alloc, calls)? {}
+        let mut known = IndexMap::new(alloc);
+        let mut agenda = Agenda::new(alloc, self, calls)?;
+        while self.join_next(alloc, calls, &mut known, &mut agenda)? {
+            agenda.wake(alloc, self)?;
+        }
         Ok(())
     }
 
-    // Whether calls were joined.
-    fn join_round(&mut self, alloc: Global, calls: &[Call]) -> Result<bool, NoMemory>
+    // Looks at the calls that wait until one is joined. Says whether one was.
+    fn join_next(
+        &mut self,
+        alloc: Global,
+        calls: &[Call],
+        known: &mut IndexMap<Signature, usize>,
+        agenda: &mut Agenda,
+    ) -> Result<bool, NoMemory>
         requires tree { IsTree self.old }
         requires state { IsState (seen self.old) }
         requires calls { AreCallsOf self.old.values.keys calls.now }
+        requires known { IsKnown self.old.values.keys (seen self.old) (get same_signature known.old) }
+        requires settled { AreSettled calls.now agenda.old.waiting.items (seen self.old) (get same_signature known.old) }
         ensures tree { OnOk result (IsTree self.new) }
-        ensures round { IfOk result (λ grew. IsRound (HoldsCalls self.new.values.keys self.new.values.keys (label_now (seen self.new)))
-            self.old.values.keys (seen self.old) (seen self.new) grew) }
+        ensures next { IfOk result (λ joined. IsNext calls.now (seen self.old) (seen self.new) agenda.new.waiting.items (get same_signature known.new) joined) }
+        ensures users { OnOk result (agenda.new.users ≡ agenda.old.users) }
     {
-        let mut known = IndexMap::new(alloc);
-        let mut grew = false;
-        for call in calls {
-            if self.join_call(alloc, call, &mut known)? {
-                grew = true;
+        while let Some(number) = agenda.waiting.pop() {
+            if self.join_number(alloc, calls, number, known)? {
+                return Ok(true);
             }
         }
-        Ok(grew)
+        Ok(false)
     }
 
-    // Joins the call with one that had the same arguments before it in this round, or else notes it. Says whether they were apart.
+    // Joins the call with this number, if there is one, as `join_call` does.
+    fn join_number(
+        &mut self,
+        alloc: Global,
+        calls: &[Call],
+        number: usize,
+        known: &mut IndexMap<Signature, usize>,
+    ) -> Result<bool, NoMemory>
+        requires tree { IsTree self.old }
+        requires state { IsState (seen self.old) }
+        requires calls { AreCallsOf self.old.values.keys calls.now }
+        requires known { IsKnown self.old.values.keys (seen self.old) (get same_signature known.old) }
+        ensures tree { OnOk result (IsTree self.new) }
+        ensures looked { IfOk result (λ joined. IsLooked calls.now number (seen self.old) (seen self.new) (get same_signature known.old) (get same_signature known.new) joined) }
+    {
+        match calls.get(number) {
+            Some(call) => self.join_call(alloc, call, known),
+            None => Ok(false),
+        }
+    }
+
+    // Joins the call with one that had the same arguments when it was noted, or else notes it. Says whether they were apart.
     fn join_call(
         &mut self,
         alloc: Global,
@@ -89,7 +122,7 @@ impl<'a> Forest<'a> {
         }
     }
 
-    // The place of a call that had the same arguments before in this round. If there is none, the call is noted.
+    // The place of a call that was noted with the same arguments. If there is none, this one is noted.
     fn note(
         &self,
         alloc: Global,

@@ -1,6 +1,10 @@
-//! What the equalities among the factors of a product entail, and chains of them.
+//! What the equalities among the factors of a product entail, and chains of links that lead from a value to an equal one.
+//!
+//! The factors of a term are the leaves of its tree of products, but for 1, numbered from 0 from left to right. A term that is no product is
+//! its own one factor.
 #![tactic(auto)]
 
+mod agenda;
 mod calls;
 mod chains;
 mod classes;

@@ -13,7 +13,8 @@ use std::alloc::Global;
 use std::marker::Model;
 use u_terms::{List, U, Val};
 
-/// A chain of links that is not made yet, and how many links it has. Through calls in calls they may be exponentially many.
+/// A chain of links between two values of a product that is not made yet, and how many links it has. Through calls in calls they may be
+/// exponentially many. Contracts see it as the product, both values and that number.
 #[derive(Drop)]
 pub struct Route<'c, 'a> {
     product: &'c U,
@@ -41,7 +42,7 @@ impl<'c, 'a> Model for Route<'c, 'a> {
 
 impl<'c, 'a> Route<'c, 'a> {
     /// The way between two values of one class.
-    pub fn between(
+    pub(crate) fn between(
         alloc: Global,
         product: &'c U,
         forest: &'c Forest<'a>,
@@ -80,7 +81,7 @@ impl<'c, 'a> Route<'c, 'a> {
         self.forest.links(alloc, self.from, self.to)
     }
 
-    /// Makes the chain, unless it has more than `most` links: then nothing is made.
+    /// Makes the chain, unless it has more than `most` links: then nothing is made, and the answer is `None`.
     pub fn chain_within(&self, alloc: Global, most: u64) -> Result<Option<List<Link>>, NoMemory>
         ensures { IfOk result (λ found. IsWithin self.now most found) }
     {

@@ -1,7 +1,7 @@
--- Rounds that join calls with the same arguments, found by signatures.
-use Rattle.std.proofs.Common.{◌≡◌, ℕ, suc, ◌+◌, ◌<◌, ◌≤◌, List, [], ◌∷◌, map, length, get_or, inl, inr, refl, ap, sym, ◌∙◌, subst, arith, eq-eqb}
+-- Calls with the same arguments, found by signatures, and what joining one of them keeps.
+use Rattle.std.proofs.Common.{◌≡◌, ℕ, suc, ◌<◌, ◌≤◌, List, [], ◌∷◌, map, length, get_or, inl, inr, refl, ap, sym, ◌∙◌, subst, arith, eq-eqb}
 use Rattle.std.specs.Prelude.{Bool, true, false, ◌&&◌, cond, Option, Some, None, slice_get}
-use Rattle.std.proofs.lemmas.Bool.{cases_eq, cases_Bool, true≢false, eqb-true}
+use Rattle.std.proofs.lemmas.Bool.{cases_Bool, true≢false, eqb-true}
 use Rattle.std.proofs.lemmas.Option.{same_Some, none-some, slice_get-map, slice_get_within, slice_get-get_or}
 use Rattle.std.proofs.lemmas.List.{length-map, length_push}
 use Rattle.std.specs.Option.{option_map}
@@ -15,11 +15,11 @@ use Rattle.u_equal.specs.declared.calls.Signature.{Signature}
 use Rattle.u_equal.specs.declared.forest.Edge.{Edge}
 use Rattle.u_equal.specs.declared.forest.Reason.TheVariants.{Called}
 use Rattle.u_equal.specs.Standing.{IsIn}
-use Rattle.u_equal.specs.Joined.{label_at, label_now, FirstAt, Same, SameEach, AreCalls, State, IsState, IsMoved, IsProgress, IsRound, HoldsCalls, pushed}
-use Rattle.u_equal.specs.Tables.{ArePlaces, IsCall, AreCallsOf, same_signature, signature, IsKnown, Leads, LeadEach, IsStep}
+use Rattle.u_equal.specs.Joined.{label_at, label_now, FirstAt, Same, SameEach, AreCalls, State, IsState, IsMoved, IsProgress, HoldsCalls, pushed}
+use Rattle.u_equal.specs.Tables.{ArePlaces, IsCall, AreCallsOf, same_signature, signature, IsKnown, Leads, IsStep}
 use Rattle.u_equal.proofs.Labels.{label_at-push, label_at-later, first-unique}
 use Rattle.u_equal.proofs.Reaches.{idem}
-use Rattle.u_equal.proofs.Moves.{moved-by, moved-values, moved-state, moved-edges, moved-joins, moved-grows, moved-more, moved-stays}
+use Rattle.u_equal.proofs.Moves.{moved-by, moved-values, moved-state, moved-edges, moved-joins, moved-grows, moved-pushes, moved-same, moved-stays}
 
 -- ---- progress
 pub progress-none : (calls : List Val) (s : State) → IsState s → IsProgress calls s s
@@ -34,13 +34,6 @@ progress-through calls s t w p q = record {
   grows = omega (arith, p.grows, q.grows);
   quiet = λ none. omega (arith, p.quiet none, q.quiet none);
 }
-
--- ---- rounds
-pub round-none : (P : Type 0) (calls : List Val) (s : State) → IsState s → P → IsRound P calls s s false
-round-none P calls s state closed = record { progress = progress-none calls s state; more = λ e. absurd (true≢false (sym e)); stays = λ e. (refl, closed) }
-
-pub round-keeps : (P Q : Type 0) (calls : List Val) (s t : State) (grew : Bool) → IsRound P calls s t grew → (P → Q) → IsRound Q calls s t grew
-round-keeps P Q calls s t grew r h = record { progress = r.progress; more = r.more; stays = λ e. let k = r.stays e in (k.0, h k.1) }
 
 -- ---- the parts of calls
 abbrev symbol_of : Val-F U Val → ℕ
@@ -160,9 +153,9 @@ labels-same values label xs ys ms ns at_xs at_ys same =
             same-labels values label a b (get_or ms k 0) (get_or ns k 0) (at_xs.1 k a (get_or ms k 0) at_a (slice_get-get_or ms k 0 one)) (at_ys.1 k b (get_or ns k 0) at_b (slice_get-get_or ns k 0 two))
             (same.each k a b at_a at_b)
 
--- ---- a round that joined nothing leaves nothing to be joined
-module _ (values : List Val) (calls : List Call) (s : State) (look : Signature → Option ℕ) (values_are : s.values ≡ values) (are : AreCallsOf values calls) (n : ℕ) (long : length calls ≤ n)
-    (seen : LeadEach calls n s look) where
+-- ---- where each call was looked at, nothing is left to be joined
+module _ (values : List Val) (calls : List Call) (s : State) (look : Signature → Option ℕ) (values_are : s.values ≡ values) (are : AreCallsOf values calls)
+    (lead : (k : ℕ) (c : Call) → slice_get calls k ≡ Some c → Leads s look c) where
   call-of : (f : ℕ) (xs : List Val) → IsIn (v.Fun f xs) values → (c : Call) × (h : IsCall values c) × Leads s look c × (c.symbol ≡ f) × (h.from ≡ xs)
   call-of f xs h =
       let found = are.all h.place f xs h.here in
@@ -170,16 +163,15 @@ module _ (values : List Val) (calls : List Call) (s : State) (look : Signature �
       let is : IsCall values c = are.are found.0 c found.2 in
       let same = parts-Fun c.symbol f is.from xs
       (same_Some (v.Fun c.symbol is.from) (v.Fun f xs) (sym is.here.here ∙ ap (λ m. slice_get values m) found.3 ∙ h.here)) in
-      let within = slice_get_within calls found.0 c found.2 in
-      (c, is, seen found.0 c (omega (arith, within, long)) found.2, same.0, same.1)
+      (c, is, lead found.0 c found.2, same.0, same.1)
 
   one-class : (c d : Call) → Leads s look c → Leads s look d → signature (label_now s) c ≡ signature (label_now s) d → label_now s c.place ≡ label_now s d.place
   one-class c d to_c to_d same =
       let place : to_c.0 ≡ to_d.0 = same_Some to_c.0 to_d.0 (sym to_c.1 ∙ ap look same ∙ to_d.1) in
       sym to_c.2 ∙ ap (label_now s) place ∙ to_d.2
 
-  pub round-closed : HoldsCalls values values (label_now s)
-  round-closed a b a_in b_in calls =
+  pub all-closed : HoldsCalls values values (label_now s)
+  all-closed a b a_in b_in calls =
       let c = call-of calls.symbol calls.from (subst (λ (x : Val). IsIn x values) calls.is_from a_in) in
       let d = call-of calls.symbol calls.to (subst (λ (x : Val). IsIn x values) calls.is_to b_in) in
       let same_classes = labels-same values (label_now s) c.1.from d.1.from c.0.arguments d.0.arguments c.1.arguments d.1.arguments
@@ -228,8 +220,10 @@ module _ (s : State) (state : IsState s) (call : Call) (is_call : IsCall s.value
           quiet = λ none. absurd (none call.symbol is_call.from two);
         };
         known = moved-by s other call.place Called (λ x. IsKnown x.values x look) t joined (λ same. known) (λ apart. known-pushed _) (λ apart. known-pushed _) m;
-        more = moved-more s other call.place Called t joined m;
-        stays = λ e. let h = moved-stays s other call.place Called t joined m e in (h.1, (other, ap look (sym g_is) ∙ at, h.0), λ q place there. there);
+        pushes = moved-pushes s other call.place Called t joined m;
+        stays = λ e. let h = moved-stays s other call.place Called t joined m e in h.1;
+        kept = λ q place there. there;
+        finds = (other, ap look (sym g_is) ∙ at, moved-same s other call.place Called t joined m);
       }
 
   module _ (look_after : Signature → Option ℕ) (after_is : (q : Signature) → look_after q ≡ cond (same_signature g q) (Some call.place) (look q)) (none : look g ≡ None) where
@@ -257,32 +251,8 @@ module _ (s : State) (state : IsState s) (call : Call) (is_call : IsCall s.value
     step-known = record {
       progress = progress-none s.values s state;
       known = known-more;
-      more = λ e. absurd (true≢false (sym e));
-      stays = λ e. (refl, (call.place, ap look_after (sym g_is) ∙ at-own, refl), kept);
+      pushes = λ e. absurd (true≢false (sym e));
+      stays = λ e. refl;
+      kept = kept;
+      finds = (call.place, ap look_after (sym g_is) ∙ at-own, refl);
     }
-
--- ---- a round goes on
-module _ (calls : List Call) (values : List Val) (i : ℕ) (c : Call) (within : i < length calls) (at : slice_get calls i ≡ Some c) (s t w : State) (look_before look_after : Signature → Option ℕ)
-    (values_are : t.values ≡ values) where
-  pub round-grows : (grew : Bool) (P : Type 0) → IsRound P values s t grew → IsStep c t w look_before look_after true → (Q : Type 0) → IsRound Q values s w true
-  round-grows grew P r step Q = record {
-    progress = progress-through values s t w r.progress (subst (λ (vs : List Val). IsProgress vs t w) values_are step.progress);
-    more = λ e. let h = step.more refl in let k = r.progress.grows in omega (arith, h, k);
-    stays = λ e. absurd (true≢false e);
-  }
-
-  lead-more : w ≡ t → LeadEach calls i t look_before → Leads t look_after c → ((g : Signature) (place : ℕ) → look_before g ≡ Some place → look_after g ≡ Some place)
-      → LeadEach calls (i + 1) w look_after
-  lead-more same done here kept k d less at_d = subst (λ (x : State). Leads x look_after d) (sym same) (elim (cases_eq k i) [
-    | inl last ↦ subst (λ (x : Call). Leads t look_after x) (same_Some c d (sym at ∙ subst (λ (m : ℕ). slice_get calls m ≡ Some d) last at_d)) here
-    | inr other ↦ let h = done k d (omega (arith, less, other)) at_d in (h.0, kept (signature (label_now t) d) h.0 h.1, h.2)
-  ])
-
-  pub round-stays : (grew : Bool) → IsRound (LeadEach calls i t look_before) values s t grew → IsStep c t w look_before look_after false → IsRound (LeadEach calls (i + 1) w look_after) values s w grew
-  round-stays grew r step =
-      let k = step.stays refl in
-      record {
-        progress = progress-through values s t w r.progress (subst (λ (vs : List Val). IsProgress vs t w) values_are step.progress);
-        more = λ e. let h = r.more e in let g = step.progress.grows in omega (arith, h, g);
-        stays = λ e. let j = r.stays e in (k.0 ∙ j.0, lead-more k.0 j.1 k.1 k.2);
-      }
