@@ -19,6 +19,7 @@ use Rattle.u_deriv.proofs.OneContext.{same_context}
 use Rattle.u_deriv.proofs.Opening.{opened_path-closed}
 use Rattle.u_moves.specs.Derivations.{Derivation}
 use Rattle.u_moves.specs.Lifting.{IsPart, IsMadeIn, lifted, lifted_step}
+use Rattle.u_moves.proofs.Plain.{made-plain}
 use Rattle.u_entail.specs.Spines.{spine, IsMadeBehind}
 use Rattle.u_entail.proofs.Spines.{nodes-spine}
 
@@ -87,4 +88,5 @@ module _ (xs : List U) (path : List Run) (at : turns path ≡ replicate (length 
       steps = omega (arith, ap length made.steps, length-append first.steps (lifted path part.steps), length-map part.steps (lifted_step path));
       nodes = omega (arith, made.nodes, ap nodes is, nodes-spine xs part.from);
       depth = omega (arith, made.depth, turns-long);
+      plain = λ whole inner. made-plain path first part d made.steps whole inner;
     }

@@ -14,7 +14,7 @@ use Rattle.u_moves.specs.Derivations.{IsWithin}
 use Rattle.u_equal.specs.declared.link.Link.{Link}
 use Rattle.u_equal.specs.Entails.{Entails, EntailsEach, none, more}
 use Rattle.u_equal.specs.LinkCounts.{row_values}
-use Rattle.u_equal.specs.Links.{LeadsEach, no_pair, pair, HasCount, HasCountEach, list_more, HasNoCall, IsChain, NestsEach, no_lists, lists_within, is_equality}
+use Rattle.u_equal.specs.Links.{LeadsEach, no_pair, pair, HasCount, HasCountEach, list_more, HasNoCall, IsChain, NestsEach, no_lists, lists_within, is_equality, told}
 use Rattle.u_equal.specs.Routes.{Course, IsFrom}
 use Rattle.u_equal.specs.Standing.{standing}
 use Rattle.u_entail.specs.Gaining.{Begins}
@@ -23,7 +23,7 @@ use Rattle.u_entail.specs.Spines.{spine}
 use Rattle.u_entail.specs.Spots.{Spot, here, in_predicate, at_left, at_right, in_negation, filled, way}
 use Rattle.u_entail.specs.Hops.{AreHops, StayWithin, stays}
 use Rattle.u_entail.specs.Carrying as spec
-use Rattle.u_entail.specs.Carrying.{points, Carries, holds, equal, fails, Follows, straight, exchanged, Form, predicate, equality, negation, mark_of, Fits, AreCourses, no_course, course_more, LeadsMark, LeadsExchanged, PushesCourses, AreRouted, IsRouted, PushesMark, IsMarkRouted, PushesExchanged, IsExchangedRouted, IsDifferenceRouted, HavePoints, PointsBy, AlongCourses, PushesRoute, CarriesBy, links_of}
+use Rattle.u_entail.specs.Carrying.{points, Carries, holds, equal, fails, Follows, straight, exchanged, Form, predicate, equality, negation, mark_of, Fits, AreCourses, no_course, course_more, LeadsMark, LeadsExchanged, PushesCourses, AreRouted, IsRouted, PushesMark, IsMarkRouted, PushesExchanged, IsExchangedRouted, IsDifferenceRouted, HavePoints, PointsBy, AlongCourses, PushesRoute, CarriesBy, links_of, LeadsEither, AreFew, IsShortCourse, AreShortCourses}
 use Rattle.u_entail.specs.declared.hops.Hop.{Hop}
 use Rattle.u_entail.proofs.Flat.{stay-append}
 use Rattle.u_entail.proofs.Leading.{leads-entail, leads-by, leads-given, count-given, nests-pair}
@@ -515,3 +515,30 @@ pub mark-carried : (product mark wanted : U) (courses : List Course) → LeadsMa
 mark-carried product mark wanted courses l hops along =
     subst (λ (x : U). CarriesBy product x wanted hops) (sym l.mark_is)
     (subst (λ (x : U). CarriesBy product (mark_of l.form l.from) x hops) (sym l.wanted_is) (form-carried product courses hops along l.form l.from l.to l.fits l.each))
+
+-- ---- how many links where no call stands
+short-at : (product : U) (a b : Val) (course : Course) → IsFrom course product a b → IsShortCourse course → HasNoCall (standing product) → course.links ≤ count_by is_equality (mul_leaves product)
+short-at product a b course from short no_call =
+    subst (λ (p : U). HasNoCall (standing p) → course.links ≤ count_by is_equality (mul_leaves p)) from.product_is short no_call
+
+courses-short : (product : U) (xs ys : List Val) (courses : List Course) → AreCourses product xs courses ys → AreShortCourses courses → AreFew product (length ys) (links_of courses)
+courses-short product xs ys courses no_course short no_call = omega arith
+courses-short product xs ys courses (course_more a b course as' bs rest from each) short no_call =
+    let one = short-at product a b course from short.0 no_call in
+    let more = courses-short product as' bs rest each short.1 no_call in
+    omega (arith, sum_by-cons (λ (o : Course). o.links) course rest, one, more, more-times (length bs) (count_by is_equality (mul_leaves product)))
+
+courses-long : (product : U) (xs ys : List Val) (courses : List Course) → AreCourses product xs courses ys → length xs ≡ length ys
+courses-long product xs ys courses no_course = refl
+courses-long product xs ys courses (course_more a b course as' bs rest from each) = omega (arith, courses-long product as' bs rest each)
+
+mark-short : (product mark wanted : U) (courses : List Course) → LeadsMark product mark wanted courses → AreShortCourses courses → AreFew product (length (points wanted)) (links_of courses)
+mark-short product mark wanted courses l short no_call =
+    let fits : Fits l.form l.to = fits-same l.form l.from l.to (courses-long product l.from l.to courses l.each) l.fits in
+    same-many product (length l.to) (length (points wanted)) (links_of courses) (ap (λ (w : U). length (points w)) l.wanted_is ∙ ap length (mark-points l.form l.to fits))
+    (courses-short product l.from l.to courses l.each short no_call)
+
+pub route-short : (product mark wanted : U) (exchanged : Bool) (courses : List Course) (links : ℕ) → LeadsEither product mark wanted exchanged courses → links ≡ told (links_of courses) → AreShortCourses courses
+    → AreFew product (length (points wanted)) links
+route-short product mark wanted false courses links l is short no_call = omega (arith, is, mark-short product mark wanted courses l short no_call)
+route-short product mark wanted true courses links l is short no_call = omega (arith, is, mark-short product (neg (l.right ≐ l.left)) wanted courses l.leads short no_call)

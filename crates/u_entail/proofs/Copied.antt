@@ -66,7 +66,7 @@ module _ (facts : Facts) (outs : ℕ) (factors : List U) where
   pub copied-by : (first : U) (hops : List Hop) (more : ℕ) (begun d : Derivation) → LeadsBetween facts outs (product_of factors) (product_of (factors ++ first ∷ [])) begun → length begun.steps ≤ more
       → begun.nodes ≤ 2 * nodes (product_of factors) + 2 → begun.depth ≤ length factors + depth (product_of factors) + 1 → IsLed facts outs factors first hops begun d → IsCopiedBy facts outs factors first hops more d
   copied-by first hops more begun d b few light level l = record {
-    leads = λ last h. record { facts = l.facts; outs = l.outs; from = l.from ∙ b.from; to = l.arrives last h ∙ sym (product-spine factors last) };
+    leads = λ last h. record { facts = l.facts; outs = l.outs; from = l.from ∙ b.from; to = l.arrives last h ∙ sym (product-spine factors last); plain = l.plain b.plain };
     steps = omega (arith, l.steps, few);
     within = λ most deepest last stay room space. l.within most deepest last stay (record { few = omega (arith, light, room); shallow = omega (arith, level, space) });
   }
@@ -92,6 +92,7 @@ module _ (facts : Facts) (outs : ℕ) (factors : List U) where
             outs = made.outs ∙ l.outs;
             from = made.from ∙ l.from;
             to = made.to ∙ ap (λ (x : U). spine factors x) k.to ∙ sym (product-spine factors (neg (b ≐ a)));
+            plain = made.plain l.plain k.plain;
           };
           steps = omega (arith, made.steps, h.steps, one.steps);
           nodes = omega (arith, made.nodes, h.nodes, one.nodes, weight-product factors, weight-at factors place (neg (a ≐ b)) at, turned-nodes a b);

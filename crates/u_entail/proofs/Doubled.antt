@@ -27,6 +27,7 @@ use Rattle.u_entail.specs.Spines.{spine, weight, IsMadeBehind}
 use Rattle.u_entail.proofs.Bounds.{AreWithin, weight-append, weight-product, depth-product, depth-spine}
 use Rattle.u_entail.proofs.Lists.{each-append, each-parts, split-at}
 use Rattle.u_entail.proofs.Parts.{mul-known, one-known, spine-known, terms-front}
+use Rattle.u_moves.proofs.Plain.{joined-plain}
 use Rattle.u_entail.proofs.Spines.{nodes-spine, product-spine}
 
 -- what code that leaves the mark out has
@@ -182,7 +183,13 @@ module _ (factors others : List U) (place : ℕ) (mark : U) (p : IsParted factor
         let r = l.leads in
         let s = t.leads in
         record {
-          leads = record { facts = made.facts ∙ r.facts; outs = made.outs ∙ r.outs; from = made.from ∙ r.from; to = made.to ∙ ap (λ (x : U). spine others x) s.to };
+          leads = record {
+            facts = made.facts ∙ r.facts;
+            outs = made.outs ∙ r.outs;
+            from = made.from ∙ r.from;
+            to = made.to ∙ ap (λ (x : U). spine others x) s.to;
+            plain = made.plain r.plain s.plain;
+          };
           steps = omega (arith, made.steps, l.steps, t.steps);
           nodes = omega (arith, made.nodes, l.nodes, t.nodes, nodes-spine others mark, weighs, weight-product factors, mark-small);
           depth = omega (arith, made.depth, l.depth, t.depth, deep-last, mark-level, fewer);
@@ -196,7 +203,13 @@ module _ (factors others : List U) (place : ℕ) (mark : U) (p : IsParted factor
         let k = h.leads in
         let l = g.leads in
         record {
-          leads = record { facts = ef ∙ k.facts; outs = eo ∙ k.outs; from = ea ∙ k.from; to = eb ∙ l.to ∙ sym (product-spine factors mark) };
+          leads = record {
+            facts = ef ∙ k.facts;
+            outs = eo ∙ k.outs;
+            from = ea ∙ k.from;
+            to = eb ∙ l.to ∙ sym (product-spine factors mark);
+            plain = joined-plain doubled gathered d es k.plain l.plain;
+          };
           steps = omega (arith, ap length es, length-append doubled.steps gathered.steps, h.steps, g.steps);
           nodes = omega (arith, j.nodes, h.nodes, g.nodes, nodes-spine others (mark ⊗ mark), nodes-Mul mark mark, nodes-spine factors mark, weighs, weight-product factors, mark-small);
           depth = omega (arith, j.depth, h.depth, g.depth, deep-twice, deep-end);
@@ -215,7 +228,13 @@ module _ (facts : Facts) (outs : ℕ) (mark : U) where
       let k = s.leads in
       let l = p.leads in
       record {
-        leads = record { facts = made.facts ∙ k.facts; outs = made.outs ∙ k.outs; from = made.from ∙ k.from; to = made.to ∙ ap (λ (x : U). mark ⊗ x) l.to };
+        leads = record {
+          facts = made.facts ∙ k.facts;
+          outs = made.outs ∙ k.outs;
+          from = made.from ∙ k.from;
+          to = made.to ∙ ap (λ (x : U). mark ⊗ x) l.to;
+          plain = made.plain k.plain l.plain;
+        };
         steps = omega (arith, made.steps, s.steps, p.steps);
         nodes = omega (arith, made.nodes, s.nodes, p.nodes, nodes-Mul mark (sq mark), nodes-Squash mark, sum_by-cons nodes mark []);
         depth = omega (arith, made.depth, s.depth, p.depth, depth-Mul mark (sq mark), depth-Squash mark);

@@ -57,6 +57,7 @@ module _ (factors : List U) where
     arrives = λ to h. ended factors at.last to h;
     steps = omega arith;
     within = λ n m to stay bounded. bounded;
+    plain = λ plain. plain;
   }
 
   pub followed-more : (first : Hop) (rest : List Hop) (at mid end : Followed) → ((to : U) × HopLeads factors at.last first to) → IsFollowed factors (first ∷ []) at mid → IsFollowed factors rest mid end
@@ -72,6 +73,7 @@ module _ (factors : List U) where
         let there : mid.last ≡ p.mid = h.arrives p.mid (alone factors at.last p.mid first p.one) in
         k.within n m to (subst (λ (x : U). StayWithin n m factors x rest to) (sym there) p.more)
         (h.within n m p.mid (goes at.last p.mid p.mid first [] p.one p.here p.there (stays p.mid)) bounded);
+    plain = λ plain. k.plain (h.plain plain);
   }
 
   -- what is still to be followed leads on
@@ -198,4 +200,5 @@ module _ (facts : Facts) (outs : ℕ) (factors : List U) (ready : AreFactors out
           land.each p.mid p.one ∙ ended factors p.mid last p.more;
       steps = let e = ex in omega (arith, made.steps, e.steps);
       within = bounded-after;
+      plain = λ plain. let e = ex in made.plain plain e.plain;
     }

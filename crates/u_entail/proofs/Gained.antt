@@ -10,15 +10,19 @@ use Rattle.u_terms.specs.Products.{product_of}
 use Rattle.u_terms.specs.Size.{nodes, depth, value_nodes, value_depth}
 use Rattle.u_terms.specs.declared.facts.Facts.{Facts}
 use Rattle.u_terms.proofs.Sizes.{nodes-Mul, nodes-Eq, nodes-One, depth-Mul, depth-Eq, depth-One}
+use Rattle.u_rules.specs.declared.rule.Arg.{Arg}
+use Rattle.u_rules.specs.declared.rule.Rule.{Rule}
+use Rattle.u_rules.specs.declared.rule.Rule.TheVariants as rule
 use Rattle.u_rules.specs.Terms.{◌⊗◌, ◌≐◌, I, mul_leaves}
 use Rattle.u_rules.proofs.LeavesAt.{mul_leaves-Mul, mul_leaves-One}
-use Rattle.u_deriv.specs.declared.step.Step.{Step}
 use Rattle.u_equal.specs.declared.link.Link.{Link}
 use Rattle.u_equal.specs.Entails.{Entails}
 use Rattle.u_equal.specs.Links.{IsChain, Nests}
 use Rattle.u_equal.specs.Standing.{standing}
 use Rattle.u_moves.specs.Derivations.{Derivation, IsKnown, IsWithin, IsOneStep, IsStill, IsJoined}
-use Rattle.u_moves.specs.Moving.{IsKnownValue}
+use Rattle.u_moves.specs.Moving.{root_step, IsKnownValue}
+use Rattle.u_moves.specs.Turning.{turned_back}
+use Rattle.u_moves.proofs.Lines.{count-back}
 use Rattle.u_entail.specs.declared.following.Followed.{Followed}
 use Rattle.u_entail.specs.declared.hops.Hop.{Hop}
 use Rattle.u_entail.specs.Sides.{AreFactors, LeadsBy}
@@ -34,6 +38,7 @@ use Rattle.u_entail.proofs.Small.{small-factors, small-weight, stand-leaves, tim
 use Rattle.u_entail.proofs.Leading.{leads-by, leads-entail, leads-given, nests-given, count-given}
 use Rattle.u_entail.proofs.Lists.{each-append, each-parts}
 use Rattle.u_entail.proofs.Parts.{spine-known}
+use Rattle.u_moves.proofs.Plain.{back-plain, joined-plain, move-plain, still-plain}
 use Rattle.u_entail.proofs.Spines.{nodes-spine, depth-behind, spine-append, product-spine}
 
 -- ---- leaves
@@ -81,19 +86,27 @@ widened-leaves x u e =
 
 -- ---- one step
 module _ (facts : Facts) (outs : ℕ) where
-  pub regrouped : (l r first last : U) (step : Step) (d : Derivation) → l ≡ first → r ≡ last → IsOneStep facts outs l step r d → IsRegrouped facts outs first last d
-  regrouped l r first last step d el er one = record {
-    leads = record { facts = one.facts; outs = one.outs; from = one.from ∙ el; to = one.to ∙ er };
+  pub regrouped : (l r first last : U) (q : Rule) (args : List Arg) (d : Derivation) → (q ≡ rule.SqFix → ⊥) → (q ≡ rule.SumUse → ⊥) → l ≡ first → r ≡ last
+      → IsOneStep facts outs l (root_step q args) r d → IsRegrouped facts outs first last d
+  regrouped l r first last q args d proves uses el er one = record {
+    leads = record { facts = one.facts; outs = one.outs; from = one.from ∙ el; to = one.to ∙ er; plain = move-plain q args d proves uses one.steps };
     steps = ap length one.steps;
     nodes = omega (arith, one.nodes, ap nodes el, ap nodes er);
     depth = omega (arith, one.depth, ap depth el, ap depth er);
   }
 
-  pub regrouped-back : (l r first last : U) (step : Step) (d e : Derivation) → l ≡ last → r ≡ first → IsOneStep facts outs l step r d → e.facts ≡ d.facts → e.outs ≡ d.outs → e.from ≡ d.to → e.to ≡ d.from
-      → length e.steps ≡ length d.steps → e.nodes ≡ d.nodes → e.depth ≡ d.depth → IsRegrouped facts outs first last e
-  regrouped-back l r first last step d e el er one ef eo ea eb es en em = record {
-    leads = record { facts = ef ∙ one.facts; outs = eo ∙ one.outs; from = ea ∙ one.to ∙ er; to = eb ∙ one.from ∙ el };
-    steps = es ∙ ap length one.steps;
+  pub regrouped-back : (l r first last : U) (q : Rule) (args : List Arg) (d e : Derivation) → (q ≡ rule.SqFix → ⊥) → (q ≡ rule.SumUse → ⊥) → l ≡ last → r ≡ first
+      → IsOneStep facts outs l (root_step q args) r d → e.facts ≡ d.facts → e.outs ≡ d.outs → e.from ≡ d.to → e.to ≡ d.from
+      → e.steps ≡ turned_back d.steps → e.nodes ≡ d.nodes → e.depth ≡ d.depth → IsRegrouped facts outs first last e
+  regrouped-back l r first last q args d e proves uses el er one ef eo ea eb es en em = record {
+    leads = record {
+      facts = ef ∙ one.facts;
+      outs = eo ∙ one.outs;
+      from = ea ∙ one.to ∙ er;
+      to = eb ∙ one.from ∙ el;
+      plain = back-plain d e es (move-plain q args d proves uses one.steps);
+    };
+    steps = ap length es ∙ count-back d.steps ∙ ap length one.steps;
     nodes = omega (arith, en, one.nodes, ap nodes el, ap nodes er);
     depth = omega (arith, em, one.depth, ap depth el, ap depth er);
   }
@@ -115,6 +128,7 @@ module _ (facts : Facts) (outs : ℕ) (factors : List U) (a : Val) (first itself
         from = made.from;
         steps = omega (arith, made.steps, one.steps);
         within = begun-bounded;
+        plain = λ plain. made.plain plain l.plain;
       }
 
 -- ---- and along the hops
@@ -130,6 +144,7 @@ module _ (facts : Facts) (outs : ℕ) (factors : List U) (last : U) (begun : Der
     arrives = λ to leads. h.to ∙ ap (λ (x : U). spine factors x) (f.arrives to leads);
     steps = f.steps;
     within = f.within;
+    plain = f.plain;
   }
 
 pub equality-gained : (facts : Facts) (outs : ℕ) (factors : List U) (a : Val) (hops : List Hop) (first begun d : Derivation) (last : U) → last ≡ (a ≐ a) → EndsIn facts outs (spine factors I) first
@@ -143,6 +158,7 @@ equality-gained facts outs factors a hops first begun d last is ends b l =
       arrives = k.arrives;
       steps = omega (arith, k.steps, b.steps);
       within = λ n m to stay w x bounded. k.within n m to stay (b.within n m w x bounded);
+      plain = λ plain. k.plain (b.plain plain);
     }
 
 -- ---- how large
@@ -213,7 +229,7 @@ gained-between facts outs product factors a b hops d leads h =
     let s = h.first in
     let l = s.leads in
     let g = h.gained in
-    record { facts = g.facts ∙ l.facts; outs = g.outs ∙ l.outs; from = g.from ∙ l.from; to = g.arrives (a ≐ b) leads }
+    record { facts = g.facts ∙ l.facts; outs = g.outs ∙ l.outs; from = g.from ∙ l.from; to = g.arrives (a ≐ b) leads; plain = g.plain l.plain }
 
 pub regathered : {E : Type 0} (facts : Facts) (outs : ℕ) (factors : List U) (product : U) (a b : Val) (gained gathered : Derivation) → IsRegrouped facts outs (spine factors (a ≐ b)) (product ⊗ (a ≐ b)) gathered
     → (r : Result Derivation E) → IfOk r (λ d. d.facts ≡ gained.facts) → IfOk r (λ d. d.outs ≡ gained.outs) → IfOk r (λ d. d.from ≡ gained.from) → IfOk r (λ d. d.to ≡ gathered.to)
@@ -272,7 +288,7 @@ module _ (facts : Facts) (outs : ℕ) (product : U) (factors : List U) (is : fac
       let last = k.last in
       let m = last.leads in
       record {
-        leads = record { facts = k.facts ∙ l.facts; outs = k.outs ∙ l.outs; from = k.from ∙ l.from; to = k.to ∙ m.to };
+        leads = record { facts = k.facts ∙ l.facts; outs = k.outs ∙ l.outs; from = k.from ∙ l.from; to = k.to ∙ m.to; plain = joined-plain gained k.gathered d k.steps l.plain m.plain };
         steps = whole-steps;
         nodes = λ n stays. let w = whole-bounded n stays in w.few;
         depth = λ n stays. let w = whole-bounded n stays in w.shallow;
@@ -309,7 +325,13 @@ module _ (facts : Facts) (outs : ℕ) (product : U) (factors : List U) (first la
 module _ (facts : Facts) (outs : ℕ) (factors : List U) where
   pub widened-none : factors ≡ [] → (d : Derivation) → IsStill facts outs I d → IsWidened facts outs factors d
   widened-none none d s = record {
-    leads = record { facts = s.facts; outs = s.outs; from = s.from ∙ sym (ap product_of none); to = s.to ∙ sym (ap (λ (xs : List U). spine xs I) none) };
+    leads = record {
+      facts = s.facts;
+      outs = s.outs;
+      from = s.from ∙ sym (ap product_of none);
+      to = s.to ∙ sym (ap (λ (xs : List U). spine xs I) none);
+      plain = still-plain d s.steps;
+    };
     steps = omega (arith, ap length s.steps);
     within = λ n m w x. record {
       few = omega (arith, s.nodes, w.few, ap (λ (xs : List U). nodes (product_of xs)) none);
@@ -333,6 +355,7 @@ module _ (facts : Facts) (outs : ℕ) (factors : List U) where
             outs = made.outs ∙ s.outs;
             from = made.from ∙ s.from ∙ sym whole-product;
             to = made.to ∙ ap (λ (t : U). spine front t) l.to ∙ sym whole-spine;
+            plain = made.plain (still-plain still s.steps) l.plain;
           };
           steps = omega (arith, made.steps, r.steps, ap length s.steps);
           within = λ n m w x. record {
@@ -380,7 +403,13 @@ module _ (facts : Facts) (outs : ℕ) (factors : List U) (a b : Val) (known : Is
   product-appended =
       let l = w.leads in
       record {
-        leads = record { facts = g.facts ∙ l.facts; outs = g.outs ∙ l.outs; from = g.from ∙ l.from; to = g.arrives (a ≐ b) leads ∙ sym (product-spine factors (a ≐ b)) };
+        leads = record {
+          facts = g.facts ∙ l.facts;
+          outs = g.outs ∙ l.outs;
+          from = g.from ∙ l.from;
+          to = g.arrives (a ≐ b) leads ∙ sym (product-spine factors (a ≐ b));
+          plain = g.plain l.plain;
+        };
         steps = omega (arith, g.steps, w.steps);
         nodes = λ n stays. let h = appended-bounded n stays in h.few;
         depth = λ n stays. let h = appended-bounded n stays in h.shallow;

@@ -1,6 +1,7 @@
 pub mod Lists
 pub mod Places
 pub mod Spines
+pub mod Plain
 pub mod Behind
 pub mod Parts
 pub mod Leading

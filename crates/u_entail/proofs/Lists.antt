@@ -1,5 +1,5 @@
 -- Lists taken apart, and what holds of each item.
-use Rattle.std.proofs.Common.{◌≡◌, ℕ, zero, suc, ◌+◌, ◌<◌, List, [], ◌∷◌, ◌++◌, length, take, drop, get_or, ap, sym, ◌∙◌, subst, add-one}
+use Rattle.std.proofs.Common.{◌≡◌, ℕ, zero, suc, ◌+◌, ◌<◌, List, [], ◌∷◌, ◌++◌, length, take, drop, get_or, refl, ap, sym, ◌∙◌, subst, add-one, arith}
 use Rattle.std.specs.Prelude.{Some, slice_get}
 use Rattle.std.proofs.Math.Seq.{drop-cons}
 use Rattle.std.proofs.lemmas.Option.{none-some, same_Some}
@@ -38,3 +38,14 @@ split-at xs i x at = split-suc xs i x at ∙ ap (λ n. take i xs ++ x ∷ drop n
 
 pub drop-item : {X : Type 0} (xs : List X) (i : ℕ) (x : X) → i < length xs → x ≡ get_or xs i x → drop i xs ≡ x ∷ drop (i + 1) xs
 drop-item xs i x within is = drop-cons xs i x within ∙ ap (λ y. y ∷ drop (suc i) xs) (sym is) ∙ ap (λ n. x ∷ drop n xs) (sym (add-one i))
+
+each-to : {X : Type 0} (P : X → Type 0) (xs : List X) (i j : ℕ) (d x : X) → j ≡ i + 1 → x ≡ get_or xs i d → i < length xs → Each P (take i xs) → P x → Each P (take j xs)
+each-to P [] i j d x next is within each one = absurd (omega (arith, within))
+each-to P (y ∷ ys) zero j d x next is within each one = let first : j ≡ suc zero = omega (arith, next) in rw first (subst P is one, tt)
+each-to P (y ∷ ys) (suc i) j d x next is within each one =
+    let later : j ≡ suc (i + 1) = omega (arith, next) in
+    rw later (each.0, each-to P ys i (i + 1) d x refl is (omega (arith, within)) each.1 one)
+
+-- of one item more
+pub each-next : {X : Type 0} (P : X → Type 0) (xs : List X) (i : ℕ) (d x : X) → x ≡ get_or xs i d → i < length xs → Each P (take i xs) → P x → Each P (take (i + 1) xs)
+each-next P xs i d x is within each one = each-to P xs i (i + 1) d x refl is within each one

@@ -19,6 +19,7 @@ use Rattle.u_deriv.proofs.OneContext.{same_context}
 use Rattle.u_deriv.proofs.Opening.{opened_path-closed}
 use Rattle.u_moves.specs.Derivations.{Derivation, IsKnown}
 use Rattle.u_moves.specs.Lifting.{IsPartOfKnown, IsUnder, lifted_step}
+use Rattle.u_moves.proofs.Plain.{under-plain}
 use Rattle.u_entail.specs.Gaining.{IsRegrouped}
 
 filled-not : (x : U) → filled (in_not hole) x ≡ neg x
@@ -76,6 +77,7 @@ module _ (path : List Run) (at : turns path ≡ turn.Inside ∷ []) where
           outs = sym names ∙ l.outs;
           from = u.from ∙ is;
           to = ends-negated d.outs whole inner.from inner.to d.to (is ∙ ap (λ (x : U). neg x) (sym l.from)) r ∙ ap (λ (x : U). neg x) l.to;
+          plain = under-plain path inner d u.steps l.plain;
         };
         steps = omega (arith, ap length u.steps, length-map inner.steps (lifted_step path), one.steps);
         nodes = omega (arith, u.nodes, one.nodes, ap nodes is, ap nodes l.from, nodes-Not (a ≐ b), nodes-Not (b ≐ a), nodes-Eq a b, nodes-Eq b a);

@@ -1,5 +1,6 @@
 -- The same mark of other points, where each is entailed to be equal to the one in its place.
 use Rattle.std.specs.Prelude.{◌≡◌, ℕ, ◌+◌, ◌-◌, ◌^◌, ◌<◌, ◌≤◌, ◌*◌, count_by, sum_by, Bool, true, false, List, [], ◌∷◌, ◌++◌, Some, length}
+use Rattle.data_model.specs.Lists.{Each}
 use Rattle.u_terms.specs.Syntax.{U, Val, Eq, Not, Pred}
 use Rattle.u_terms.specs.Size as size
 use Rattle.u_terms.specs.Size.{list_nodes, list_depth}
@@ -95,12 +96,24 @@ pub record IsMarkFrom (course : MarkCourse) (product mark wanted : U) : Type 0 w
 abbrev pub links_of : List Course → ℕ
 links_of = sum_by (λ course. course.links)
 
+-- where no call stands in the product, at most as many as it has equalities, for each of so many points
+abbrev pub AreFew : U → ℕ → ℕ → Type 0
+AreFew product points number = HasNoCall (standing product) → number ≤ points * count_by is_equality (mul_leaves product)
+
 -- what a route of a mark keeps
 pub record IsMarkRoute (product mark wanted : U) (exchanged : Bool) (courses : List Course) (links : ℕ) : Type 0 where
   pub leads : LeadsEither product mark wanted exchanged courses
   pub is : links ≡ told (links_of courses)
+  pub few : AreFew product (length (points wanted)) links
 
 -- ---- contracts of private functions alone cite this
+-- where no call stands in its product, a chain has no more links than that has equalities
+abbrev pub IsShortCourse : Course → Type 0
+IsShortCourse course = HasNoCall (standing course.product) → course.links ≤ count_by is_equality (mul_leaves course.product)
+
+abbrev pub AreShortCourses : List Course → Type 0
+AreShortCourses = Each IsShortCourse
+
 -- chains were pushed, one for each point
 pub record PushesCourses (product : U) (xs ys : List Val) (before after : List Course) : Type 0 where
   pub courses : List Course
@@ -146,10 +159,6 @@ IsDifferenceRouted product mark wanted before after true = PushesDifference prod
 IsDifferenceRouted product mark wanted before after false = (a b : Val) → mark ≡ neg (a ≐ b) → Carries product (neg (b ≐ a)) wanted → ⊥
 
 -- ---- the hops of such chains
--- where no call stands in the product, at most as many as it has equalities, for each of so many points
-abbrev pub AreFew : U → ℕ → ℕ → Type 0
-AreFew product points hops = HasNoCall (standing product) → hops ≤ points * count_by is_equality (mul_leaves product)
-
 -- points on the way are within this
 pub record AreWithin (most level : ℕ) (vs : List Val) : Type 0 where
   pub few : list_nodes vs ≤ most

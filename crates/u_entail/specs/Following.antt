@@ -5,7 +5,7 @@ use Rattle.u_terms.specs.Places.{IsClosed}
 use Rattle.u_terms.specs.Size as size
 use Rattle.u_terms.specs.declared.facts.Facts.{Facts}
 use Rattle.u_rules.specs.Terms.{put}
-use Rattle.u_moves.specs.Derivations.{Derivation, IsKnown}
+use Rattle.u_moves.specs.Derivations.{Derivation, HasPlainSteps, IsKnown}
 use Rattle.u_entail.specs.Spines.{spine}
 use Rattle.u_entail.specs.Sides.{IsSide}
 use Rattle.u_entail.specs.Hops.{HopLeads, HopsLead, StayWithin}
@@ -24,6 +24,7 @@ pub record IsExchange (F : Facts) (names : ℕ) (factors : List U) (factor : ℕ
   pub steps : length d.steps ≡ 1
   pub nodes : d.nodes ≡ max (size.nodes d.from) (size.nodes d.to)
   pub depth : d.depth ≡ max (size.depth d.from) (size.depth d.to)
+  pub plain : HasPlainSteps d
 
 -- the one side of the equality becomes the other one at the body's place
 pub record Exchanges (facts : Facts) (outs : ℕ) (factors : List U) (factor : ℕ) (turned : Bool) (body : U) (d : Derivation) : Type 0 where
@@ -53,3 +54,4 @@ pub record IsFollowed (factors : List U) (hops : List Hop) (at end : Followed) :
   pub arrives : (to : U) → HopsLead factors at.last hops to → end.last ≡ to
   pub steps : length end.deriv.steps ≡ length at.deriv.steps + length hops
   pub within : (nodes depth : ℕ) (to : U) → StayWithin nodes depth factors at.last hops to → IsBounded nodes depth at.deriv → IsBounded nodes depth end.deriv
+  pub plain : HasPlainSteps at.deriv → HasPlainSteps end.deriv

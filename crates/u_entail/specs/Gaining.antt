@@ -5,7 +5,7 @@ use Rattle.u_terms.specs.Size as size
 use Rattle.u_terms.specs.Products.{product_of}
 use Rattle.u_terms.specs.declared.facts.Facts.{Facts}
 use Rattle.u_rules.specs.Terms.{◌⊗◌, ◌≐◌, I, mul_leaves}
-use Rattle.u_moves.specs.Derivations.{Derivation, IsJoined, IsWithin}
+use Rattle.u_moves.specs.Derivations.{Derivation, HasPlainSteps, IsJoined, IsWithin}
 use Rattle.u_equal.specs.declared.link.Link.{Link}
 use Rattle.u_equal.specs.Standing.{standing}
 use Rattle.u_equal.specs.Entails.{Entails}
@@ -29,13 +29,16 @@ pub record IsGained (factors : List U) (a : Val) (hops : List Hop) (first d : De
   pub steps : length d.steps ≡ length first.steps + 1 + length hops
   pub within : (nodes depth : ℕ) (to : U) → StayWithin nodes depth factors (a ≐ a) hops to → IsWithin nodes depth (spine factors I) → IsWithin nodes depth (spine factors (a ≐ a)) → IsBounded nodes depth first
       → IsBounded nodes depth d
+  pub plain : HasPlainSteps first → HasPlainSteps d
 
--- a derivation by these facts, with the names from `outs` on for binders, that leads from the one term to the other
+-- A derivation by these facts, with the names from `outs` on for binders, that leads from the one term to the other. Its steps are plain, so
+-- their bytes follow from its steps and from the nodes and the depth that it states, by the law of plain derivations.
 pub record LeadsBetween (F : Facts) (names : ℕ) (first last : U) (d : Derivation) : Type 0 where
   pub facts : d.facts ≡ F
   pub outs : d.outs ≡ names
   pub from : d.from ≡ first
   pub to : d.to ≡ last
+  pub plain : HasPlainSteps d
 
 -- ---- private functions alone cite this
 -- one step
@@ -63,6 +66,7 @@ pub record IsBegun (facts : Facts) (outs : ℕ) (factors : List U) (a : Val) (fi
   pub from : d.from ≡ first.from
   pub steps : length d.steps ≡ length first.steps + 1
   pub within : (nodes depth : ℕ) → IsWithin nodes depth (spine factors I) → IsWithin nodes depth (spine factors (a ≐ a)) → IsBounded nodes depth first → IsBounded nodes depth d
+  pub plain : HasPlainSteps first → HasPlainSteps d
 
 -- the last factor has gone along the hops
 pub record IsLed (F : Facts) (names : ℕ) (factors : List U) (last : U) (hops : List Hop) (begun d : Derivation) : Type 0 where
@@ -72,6 +76,7 @@ pub record IsLed (F : Facts) (names : ℕ) (factors : List U) (last : U) (hops :
   pub arrives : (to : U) → HopsLead factors last hops to → d.to ≡ spine factors to
   pub steps : length d.steps ≡ length begun.steps + length hops
   pub within : (nodes depth : ℕ) (to : U) → StayWithin nodes depth factors last hops to → IsBounded nodes depth begun → IsBounded nodes depth d
+  pub plain : HasPlainSteps begun → HasPlainSteps d
 
 -- the product leans to the right, and behind its factors the equality is gained
 pub record IsGainedIn (facts : Facts) (outs : ℕ) (product : U) (factors : List U) (a : Val) (hops : List Hop) (d : Derivation) : Type 0 where

@@ -3,7 +3,7 @@ use Rattle.std.specs.Prelude.{◌≡◌, ℕ, ◌+◌, max, List, [], ◌∷◌,
 use Rattle.u_terms.specs.Syntax.{U}
 use Rattle.u_terms.specs.Size.{nodes}
 use Rattle.u_rules.specs.Terms.{◌⊗◌}
-use Rattle.u_moves.specs.Derivations.{Derivation}
+use Rattle.u_moves.specs.Derivations.{Derivation, HasPlainSteps}
 
 -- the factors in order and then the last one, to the right
 abbrev pub spine : List U → U → U
@@ -23,3 +23,4 @@ pub record IsMadeBehind (front : List U) (first part d : Derivation) : Type 0 wh
   pub steps : length d.steps ≡ length first.steps + length part.steps
   pub nodes : d.nodes ≡ max first.nodes (weight front + part.nodes)
   pub depth : d.depth ≡ max first.depth (length front + part.depth)
+  pub plain : HasPlainSteps first → HasPlainSteps part → HasPlainSteps d

@@ -1,9 +1,10 @@
 //! From a mark to the same mark of other points, where the equalities of a product entail that each is equal to the one in its place: the
 //! chains that lead there, counted before any is made.
-ghost use Rattle.std.specs.Prelude.{◌≡◌, ◌∷◌, [], IfOk, MatchOption};
+ghost use Rattle.std.specs.Prelude.{◌≡◌, ◌∷◌, [], IfOk, MatchOption, length};
 ghost use Rattle.u_equal.specs.Links.{told};
 ghost use Rattle.u_rules.specs.Terms.{◌≐◌, P};
-ghost use Rattle.u_entail.specs.Carrying.{AreRouted, Follows, IsDifferenceRouted, IsExchangedRouted, IsMarkFrom, IsMarkRouted, IsRouted, LeadsEither, links_of};
+ghost use Rattle.u_entail.specs.Carrying.{AreFew, AreRouted, AreShortCourses, Follows, IsDifferenceRouted, IsExchangedRouted, IsMarkFrom, IsMarkRouted, IsRouted, LeadsEither, links_of};
+ghost use Rattle.u_entail.specs.Carrying as spec;
 
 use crate::NoMemory;
 use std::alloc::Global;
@@ -12,7 +13,7 @@ use u_equal::{Classes, Route};
 use u_terms::{U, Val};
 
 /// Chains from the points of a mark to those of a wanted one that are not made yet, and how many links they have. Through calls in calls they
-/// may be exponentially many.
+/// may be exponentially many. Contracts see them as the product, both marks and that number.
 #[derive(Drop)]
 pub struct MarkRoute<'c, 'a> {
     classes: &'c Classes<'a>,
@@ -38,8 +39,8 @@ impl<'c, 'a> Model for MarkRoute<'c, 'a> {
 }
 
 impl<'c, 'a> MarkRoute<'c, 'a> {
-    /// The chains from the points of the mark to those of the wanted one, where this follows from the mark. The sides of a negated equality may
-    /// be exchanged.
+    /// The chains from the points of the mark to those of the wanted one; `None` where this does not follow from the mark. The sides of a negated
+    /// equality may be exchanged. For each point all edges of the classes are counted anew.
     pub fn between(
         alloc: Global,
         classes: &'c Classes<'a>,
@@ -82,16 +83,18 @@ impl<'c, 'a> MarkRoute<'c, 'a> {
         }
     }
 
-    /// How many links the chains have, those of arguments of calls too, or `u64::MAX` where there are more.
+    /// How many links the chains have together, those of arguments of calls too, or `u64::MAX` where there are more.
     pub fn links(&self) -> u64
-        ensures { result ≡ self.now.links }
+        ensures is { result ≡ self.now.links }
+        ensures few { AreFew self.now.product (length (spec.points self.now.wanted)) result }
     {
         self.links
     }
 }
 
 fn sum_of_links(routes: &[Route<'_, '_>]) -> u64
-    ensures { result ≡ told (links_of routes.now) }
+    ensures is { result ≡ told (links_of routes.now) }
+    ensures few { AreShortCourses routes.now }
 {
     let mut total: u64 = 0;
     for route in routes {

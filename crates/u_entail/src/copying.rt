@@ -23,9 +23,10 @@ use u_equal::Classes;
 use u_moves::{Deriv, Moves};
 use u_terms::{Boxed, U, Val};
 
-/// From the product of the factors to that with the wanted mark behind them, where the factor at the place is the same mark and the first
-/// factors, which are those of the classes, entail that its points are equal to the wanted ones. The sides of a negated equality may be
-/// exchanged. No chain is made before each point is known to be entailed.
+/// From the product of the factors to that with the wanted mark behind them; `None` where it does not follow from the factor at the place, which
+/// counts from 0 and has to be a mark. It follows where both are the same predicate or equality under the same negations, and the first factors,
+/// which are those of the classes, entail that each point is equal to the one in its place; the sides of a negated equality may be exchanged. No
+/// chain is made before each point is known to be entailed.
 pub fn copy_mark<'f>(
     moves: Moves<'f>,
     classes: &Classes<'_>,
@@ -48,7 +49,8 @@ pub fn copy_mark<'f>(
     }
 }
 
-/// The same along chains that were counted: whoever does not want ones of so many links does not call this.
+/// As `copy_mark`, from the mark of a route to the wanted one along chains that were counted: whoever does not want so many steps as they have
+/// links does not call this. The mark is the factor at the place.
 pub fn copy_mark_along<'f>(
     moves: Moves<'f>,
     route: &MarkRoute<'_, '_>,

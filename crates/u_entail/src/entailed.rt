@@ -24,7 +24,9 @@ use u_terms::{Facts, U, Val};
 /// Where the right side of an equality stands.
 const RIGHT_SIDE: [usize; 1] = [1];
 
-/// From a product to the product times the equality of two values, where its equalities entail that they are equal.
+/// From a product to the product times the equality of two values; `None` where its equalities do not entail that they are equal. Each link of a
+/// chain between them is one step, and through calls in calls there may be exponentially many: `append_along` is for whoever wants them counted
+/// before.
 pub fn derive<'f>(
     alloc: Global,
     facts: &'f Facts,
@@ -71,8 +73,8 @@ fn derive_by<'f>(
     Ok(Some(deriv))
 }
 
-/// From the product of the factors to that with the equality of two values behind them, where the first factors, which are those of the
-/// classes, entail that they are equal.
+/// From the product of the factors to that with the equality of two values behind them; `None` where the first factors, which are those of the
+/// classes, do not entail that they are equal.
 pub fn append<'f>(
     moves: Moves<'f>,
     classes: &Classes<'_>,
@@ -112,7 +114,7 @@ fn append_by<'f>(
     Ok(Some(deriv))
 }
 
-/// The same along a chain that was counted: whoever does not want one of so many links does not call this.
+/// As `append`, from one end of a chain to the other that was counted: whoever does not want so many steps as it has links does not call this.
 pub fn append_along<'f>(
     moves: Moves<'f>,
     route: &Route<'_, '_>,

@@ -14,7 +14,7 @@ use crate::spine::{spine, then_behind};
 use u_moves::{Deriv, Moves};
 use u_terms::{Boxed, U};
 
-/// From the product of the factors to that with one of them, a mark, behind them once more.
+/// From the product of the factors to that with the one at the place, a mark, behind them once more. Places count from 0.
 pub fn repeat_mark<'f>(
     moves: Moves<'f>,
     factors: &[&U],
@@ -70,6 +70,7 @@ impl<'f, 'p, 'a> Front<'f, 'p, 'a> {
         then_behind(self.moves.alloc, last, others, twice)
     }
 
+    #[tactic(auto, using(crate::proofs::Plain::one_move))]
     fn mark_last(&self, others: &[&U], place: usize, mark: &U) -> Result<Deriv<'f>, NoMemory>
         requires factors { AreFactors self.now.moves.outs (terms self.now.factors.now) }
         requires parted { IsParted (terms self.now.factors.now) (terms others.now) place mark.now }
@@ -81,6 +82,7 @@ impl<'f, 'p, 'a> Front<'f, 'p, 'a> {
     }
 
     // One of the two goes back among the factors.
+    #[tactic(auto, using(crate::proofs::Plain::one_move))]
     fn mark_gathered(&self, others: &[&U], place: usize, mark: &U) -> Result<Deriv<'f>, NoMemory>
         requires factors { AreFactors self.now.moves.outs (terms self.now.factors.now) }
         requires parted { IsParted (terms self.now.factors.now) (terms others.now) place mark.now }
@@ -127,6 +129,7 @@ fn doubled<'f>(moves: Moves<'f>, mark: &U) -> Result<Deriv<'f>, NoMemory>
 }
 
 // Beside a term its squash.
+#[tactic(auto, using(crate::proofs::Plain::one_move))]
 fn with_square<'f>(moves: Moves<'f>, term: &U) -> Result<Deriv<'f>, NoMemory>
     requires { IsKnown 0 moves.outs term.now }
     ensures { IfOk result (IsRegrouped moves.entry.facts.now moves.entry.outs term.now (term.now ⊗ sq term.now)) }
@@ -136,6 +139,7 @@ fn with_square<'f>(moves: Moves<'f>, term: &U) -> Result<Deriv<'f>, NoMemory>
 }
 
 // The squash of a mark is the mark.
+#[tactic(auto, using(crate::proofs::Plain::one_move))]
 fn unsquashed<'f>(moves: Moves<'f>, mark: &U) -> Result<Deriv<'f>, NoMemory>
     requires known { IsKnown 0 moves.outs mark.now }
     requires mark { IsMark mark.now }

@@ -1,6 +1,7 @@
 use Rattle.std.proofs.Common.{ap, sym, ◌∙◌, subst}
 use Rattle.std.proofs.lemmas.Result.{IfOk-weaker}
 use Rattle.u_terms.specs.Syntax.{Val}
+use Rattle.u_rules.specs.declared.rule.Rule.TheVariants as rule
 use Rattle.u_rules.specs.Terms.{◌≐◌, terms}
 use Rattle.u_moves.specs.Moving.{IsKnownValue}
 use Rattle.u_entail.proofs.Copied.{sides-here}
@@ -25,6 +26,6 @@ returns c =
     let ea = c.in_ok-copy.ensures {u = tt} in
     let eb = c.in_ok-copy-2.ensures {u = tt} in
     IfOk-weaker c.eq_sym.result _ _
-    (λ d one. regrouped m.facts.now m.outs (c.in_ok-copy.field-0 ≐ c.in_ok-copy-2.field-0) (c.in_ok-copy-2.field-0 ≐ c.in_ok-copy.field-0) (c.args.a.now ≐ c.args.b.now) (c.args.b.now ≐ c.args.a.now) _ d
+    (λ d one. regrouped m.facts.now m.outs (c.in_ok-copy.field-0 ≐ c.in_ok-copy-2.field-0) (c.in_ok-copy-2.field-0 ≐ c.in_ok-copy.field-0) (c.args.a.now ≐ c.args.b.now) (c.args.b.now ≐ c.args.a.now) rule.EqSym _ d (λ e. cc) (λ e. cc)
     (ap (λ (x : Val). x ≐ c.in_ok-copy-2.field-0) ea ∙ ap (λ (x : Val). c.args.a.now ≐ x) eb) (ap (λ (x : Val). x ≐ c.in_ok-copy.field-0) eb ∙ ap (λ (x : Val). c.args.b.now ≐ x) ea) one)
     c.eq_sym.ensures
