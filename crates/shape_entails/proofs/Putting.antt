@@ -1,9 +1,11 @@
 -- Other values at the places of a product: its shape stays, and the values of its points are the other ones.
-use Rattle.std.proofs.Common.{◌≡◌, ℕ, zero, suc, ◌+◌, ◌≤◌, ◌⊎◌, inl, inr, Bool, true, false, cond, List, [], ◌∷◌, ◌++◌, length, map, get_or, refl, ap, sym, ◌∙◌, subst, arith}
+use Rattle.std.proofs.Common.{◌≡◌, ℕ, zero, suc, ◌+◌, ◌<◌, ◌≤◌, ◌⊎◌, inl, inr, Bool, true, false, cond, List, [], ◌∷◌, ◌++◌, length, map, get_or, refl, ap, sym, ◌∙◌, subst, arith}
 use Rattle.std.specs.Prelude.{option_map}
 use Rattle.std.specs.List.{filter}
 use Rattle.std.proofs.lemmas.List.{map-append, length-map}
 use Rattle.std.proofs.lemmas.Option.{slice_get-map}
+use Rattle.u_terms.specs.Size.{depth}
+use Rattle.u_terms.proofs.Sizes.{depth-positive, depth-Sum}
 use Rattle.u_terms.specs.Syntax.{U, Zero, One, Add, Mul, Squash, Not, Sum, Rel, Eq, Pred, Val, Vals, NoVals, ValThen, constructors}
 use Rattle.u_terms.specs.declared.term.Val.TheVariants as v
 use Rattle.u_terms.specs.Binding.{mapped, mapped_value, mapped_row, same_name, sums}
@@ -280,4 +282,10 @@ inside-sums (suc n) (Rel table shape arguments) low = absurd (omega (arith, low)
 inside-sums (suc n) (Eq a b) low = absurd (omega (arith, low))
 inside-sums (suc n) (Pred symbol shape arguments) low = absurd (omega (arith, low))
 
-pub ruleset laws = (inside-sums, value-put, value-under, count-put, around-under, around-count, without-sums)
+-- each sum stands on the way inward
+pub shallow-sums : (w : U) → sum_count w < depth w
+unfolding sum_count constructors
+shallow-sums (Sum body) = let below = shallow-sums body in omega (arith, below, depth-Sum body)
+shallow-sums w = let some = depth-positive w in omega (arith, some)
+
+pub ruleset laws = (inside-sums, shallow-sums, value-put, value-under, count-put, around-under, around-count, without-sums)

@@ -134,17 +134,17 @@ if-true true o x h = refl
 if-true false o x h = absurd (none-some x h)
 
 -- both walks over the factors
-record IsRead (outs : ℕ) (w : U) (s : Shape) : Type 0 where
-  atoms : Atoms
-  said : Said
-  outputs : List Point
-  full : list_all has_point atoms.points ≡ true
-  placed : folded with_atom (no_atoms (sum_count w)) (factors (under_sums w)) ≡ Some atoms
-  told : folded (with_factor atoms.points) (nothing_said outs) (factors (under_sums w)) ≡ Some said
-  all : all_points said.outputs ≡ Some outputs
-  is : shape_said atoms.entries said outputs ≡ s
+pub record IsRead (outs : ℕ) (w : U) (s : Shape) : Type 0 where
+  pub atoms : Atoms
+  pub said : Said
+  pub outputs : List Point
+  pub full : list_all has_point atoms.points ≡ true
+  pub placed : folded with_atom (no_atoms (sum_count w)) (factors (under_sums w)) ≡ Some atoms
+  pub told : folded (with_factor atoms.points) (nothing_said outs) (factors (under_sums w)) ≡ Some said
+  pub all : all_points said.outputs ≡ Some outputs
+  pub is : shape_said atoms.entries said outputs ≡ s
 
-read-of : (outs : ℕ) (w : U) (s : Shape) → HasShape outs w s → IsRead outs w s
+pub read-of : (outs : ℕ) (w : U) (s : Shape) → HasShape outs w s → IsRead outs w s
 unfolding term_shape
 read-of outs w s h =
     let one = then-some (shape_of_atoms outs (factors (under_sums w))) (folded with_atom (no_atoms (sum_count w)) (factors (under_sums w))) s h in

@@ -2,12 +2,14 @@
 ghost use Rattle.std.specs.Prelude.{◌≡◌, ◌+◌, ◌<◌, ◌≤◌, ℕ, List, [], ◌∷◌, Some, get_or, length, reverse, slice_get, IsPermutation};
 ghost use Rattle.std.specs.List.{remove};
 ghost use Rattle.shapes.specs.Alike.{Equal, Pairing};
+ghost use Rattle.shapes.specs.Small.{columns_of};
 ghost use Rattle.shapes.specs.Shapes.{IsPoint, Point, Shape, column, entry_of};
 ghost use Rattle.term_shapes.specs.Factors.{sum_count, under_sums};
 ghost use Rattle.term_shapes.specs.TermShape.{Atoms, HasShape, value_point};
 ghost use Rattle.u_binder.specs.Changes.{exchanged};
 ghost use Rattle.u_rules.specs.Terms.{S};
 ghost use Rattle.u_terms.specs.Binding.{mapped, mapped_value, opened, same_name, sums};
+ghost use Rattle.u_terms.specs.Size.{depth};
 ghost use Rattle.u_terms.specs.Syntax.{U, Val};
 ghost use Rattle.u_terms.specs.declared.term.Val.TheVariants as v;
 ghost use Rattle.u_equal.specs.Entails.{Entails};
@@ -56,13 +58,14 @@ pub fn values_may_be_put_under_sums()
     ensures count { (at_place : ℕ → ℕ → Val) (k : ℕ) (u : U) → sum_count (mapped at_place same_name k u) ≡ sum_count u }
 {}
 
-/// Sums around a term add to its sums, and under them stands what stood under its own.
+/// Sums around a term add to its sums, and under them stands what stood under its own. A term has fewer sums than it is deep.
 #[tactic(auto, using(crate::proofs::Putting::laws))]
 pub fn sums_around_a_term()
     ensures under { (n : ℕ) (u : U) → under_sums (sums n u) ≡ under_sums u }
     ensures count { (n : ℕ) (u : U) → sum_count (sums n u) ≡ n + sum_count u }
     ensures none { (u : U) → sum_count u ≡ 0 → under_sums u ≡ u }
     ensures inside { (n : ℕ) (u : U) → n ≤ sum_count u → IsAround n u }
+    ensures shallow { (u : U) → sum_count u < depth u }
 {}
 
 /// A product entails that points which its shape holds to be equal have equal values, and that each output has its point's value.
@@ -88,6 +91,12 @@ pub fn each_entails_what_the_other_has_beside()
         (factor : U) → IsIn factor only_right → EntailsFactor left factor }
     ensures left { (left right : U) (common only_left only_right : List U) → AreApart left right common only_left only_right → SayTheSame left right →
         (factor : U) → IsIn factor only_left → EntailsFactor right factor }
+{}
+
+/// A term that has a shape has as many sums as the shape's entries have columns.
+#[tactic(auto, using(crate::proofs::Columns::laws))]
+pub fn sums_are_columns()
+    ensures { (outs : ℕ) (u : U) (s : Shape) → HasShape outs u s → sum_count u ≡ columns_of s.entries }
 {}
 
 /// Terms of paired shapes have as many sums, and turns that bring each place of the left one to that of the right one which its column goes
