@@ -1,15 +1,13 @@
 -- What is known of the factors of a product and of the terms of a sum.
-use Rattle.std.proofs.Common.{◌≡◌, ℕ, zero, suc, ◌-◌, ◌<◌, List, [], ◌∷◌, ◌++◌, length, get_or, ap, sym, subst, ◌∙◌, arith}
+use Rattle.std.proofs.Common.{◌≡◌, ℕ, zero, suc, ◌-◌, ◌<◌, List, [], ◌∷◌, ◌++◌, ap, sym, subst, ◌∙◌, arith}
 use Rattle.std.specs.Prelude.{IsPermutation, All, Contains}
-use denote.Ref.{Bor}
-use Rattle.std.proofs.lemmas.List.{length-map}
 use Rattle.std.proofs.lemmas.List.Elements.{All-nil, All-cons, All-contains}
 use Rattle.std.proofs.lemmas.List.Sorted.{IsPermutation-refl}
 use Rattle.data_model.specs.Lists.{Each}
 use Rattle.u_terms.specs.Syntax.{U}
 use Rattle.u_terms.specs.Products.{product_of}
 use Rattle.u_terms.specs.Binding.{sums}
-use Rattle.u_rules.specs.Terms.{S, add_leaves, mul_leaves, terms}
+use Rattle.u_rules.specs.Terms.{S, add_leaves, mul_leaves}
 use Rattle.u_moves.specs.Derivations.{IsKnown}
 use Rattle.normal_form.specs.NormalTerms.{sum_of}
 use Rattle.normal_form.proofs.Leaves.{each-mul_leaf, mul_leaves-row}
@@ -58,12 +56,3 @@ sums-more zero u f body some is e = absurd (omega (arith, some))
 sums-more (suc count) u f body some is e =
     let n : suc count - 1 ≡ count = omega arith in
     is ∙ ap (λ (x : U). S x) (e ∙ ap (λ (k : ℕ). sums k body) n)
-
--- ---- terms that are lent
-pub term-in : (refs : List (Bor U)) (k : ℕ) (r : Bor U) → k < length refs → r ≡ get_or refs k r → Contains (terms refs) r.now
-term-in refs k r less is = (k, omega (arith, less, length-map refs (λ x. x.now)), here refs k less is)
-  where
-    here : (rs : List (Bor U)) (i : ℕ) → i < length rs → r ≡ get_or rs i r → get_or (terms rs) i r.now ≡ r.now
-    here [] i l e = absurd (omega (arith, l))
-    here (x ∷ rs) zero l e = ap (λ (y : Bor U). y.now) (sym e)
-    here (x ∷ rs) (suc i) l e = here rs i (omega (arith, l)) e

@@ -2,5 +2,8 @@ pub mod Factors
 pub mod Splits
 pub mod Marked
 pub mod Gained
+pub mod Ordered
 pub mod Meets
+pub mod Partners
+pub mod SumBlocks
 pub mod Paired

@@ -1,14 +1,16 @@
 -- Where turns lead, and why they do not.
-use Rattle.std.proofs.Common.{◌≡◌, ℕ, zero, suc, ◌-◌, ◌<◌, ◌≤◌, List, [], ◌∷◌, length, take, drop, Option, Some, None, refl, sym, ◌∙◌, subst, arith}
+use Rattle.std.proofs.Common.{◌≡◌, ℕ, zero, suc, ◌-◌, ◌<◌, ◌≤◌, List, [], ◌∷◌, length, take, drop, Option, Some, None, sym, ◌∙◌, subst, arith}
+use Rattle.std.specs.Prelude.{MatchOption}
 use Rattle.std.proofs.Math.Seq.{take-length}
 use denote.Ref.{Bor}
-use Rattle.u_terms.specs.Syntax.{U, Zero, One, Add, Mul, Squash, Not, Sum, Rel, Eq, Pred, constructors}
+use Rattle.u_terms.specs.Syntax.{U}
 use Rattle.u_terms.proofs.Parts.{parts-Sum}
 use Rattle.u_terms.specs.Binding.{opened, sums}
 use Rattle.u_terms.specs.declared.facts.Facts.{Facts}
 use Rattle.u_binder.specs.Changes.{exchanged}
 use Rattle.u_rules.specs.Terms.{S}
 use Rattle.u_moves.specs.Derivations.{Derivation}
+use Rattle.u_congruence.specs.Congruence.{IsFromTo}
 use Rattle.term_shapes.specs.Factors.{sum_count}
 use Rattle.term_shapes.proofs.Reading.{count-Sum}
 use Rattle.shape_entails.specs.Places.{IsAround}
@@ -16,22 +18,11 @@ use Rattle.shape_entails.proofs.Putting.{inside-sums}
 use Rattle.shape_entails.proofs.Meeting.{go-still, go-turned, end}
 use Rattle.u_bag.specs.Rows.{AreMet}
 use Rattle.u_bag.proofs.Factors.{sums-more}
+use Rattle.u_bag.proofs.Ordered.{summed-there}
+use Rattle.u_bag.specs.Shapes.{HasTooManySums}
 use Rattle.u_bag.specs.Meeting.{Turn, IsMeeting, IsMeetingAfter, IsMeetingInside, GoesOutward, IsInsideSums}
 
 -- ---- where terms are sums
-pub summed-there : (u : U) (n : ℕ) → sum_count u ≡ suc n → (f : U) × (u ≡ S f)
-unfolding sum_count constructors
-summed-there Zero n h = absurd (omega (arith, h))
-summed-there One n h = absurd (omega (arith, h))
-summed-there (Add a b) n h = absurd (omega (arith, h))
-summed-there (Mul a b) n h = absurd (omega (arith, h))
-summed-there (Squash a) n h = absurd (omega (arith, h))
-summed-there (Not a) n h = absurd (omega (arith, h))
-summed-there (Sum a) n h = (a, refl)
-summed-there (Rel table shape row) n h = absurd (omega (arith, h))
-summed-there (Eq a b) n h = absurd (omega (arith, h))
-summed-there (Pred symbol shape row) n h = absurd (omega (arith, h))
-
 pub no-sums : (turn : ℕ) (turns : List ℕ) (left right : U) → ((f g : U) → left ≡ S f → right ≡ S g → ⊥) → Turn (turn ∷ turns) left right → ⊥
 no-sums turn turns left right none h =
     let f = summed-there left (length turns) h.turning.turned.many_left in
@@ -98,3 +89,9 @@ module _ (F : Facts) (names : ℕ) (turns : List ℕ) (f g : U) where
   pub by-inside : (first : Derivation) → first.to ≡ S f → (o : Option Derivation) → o ≡ None → IsMeetingInside F names turns f g o → (x : U) → first.to ≡ S x → Turn turns (opened x names) (opened g names) → ⊥
   by-inside first to o none h x at t =
       subst (λ (q : Option Derivation). IsMeetingInside F names turns f g q) none h (subst (λ (y : U). Turn turns (opened y names) (opened g names)) (parts-Sum x f (sym at ∙ to)) t)
+
+-- ---- the turns that are found
+pub by-turn : (F : Facts) (names : ℕ) (turns : List ℕ) (left right : U) → Turn turns left right → (o : Option Derivation) → IsMeeting F names turns left right o
+    → MatchOption o (HasTooManySums left) (IsFromTo F names left right)
+by-turn F names turns left right t None h = absurd (h t)
+by-turn F names turns left right t (Some d) h = h

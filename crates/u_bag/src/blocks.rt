@@ -1,12 +1,13 @@
 //! The search for a pairing of the entries of two blocks, and the derivation that it gives.
-ghost use Rattle.std.specs.Prelude.{IfOk, IfSome};
+ghost use Rattle.std.specs.Prelude.{IfOk, MatchOption};
 ghost use Rattle.term_shapes.specs.TermShape.{HasShape};
 ghost use Rattle.u_congruence.specs.Congruence.{IsFromTo};
 ghost use Rattle.u_moves.specs.Derivations.{IsKnown};
 ghost use Rattle.u_bag.specs.Matching.{IsMade, IsMatched};
+ghost use Rattle.u_bag.specs.Shapes.{ArePairedBy, HasTooManySums};
 
 use crate::NoMemory;
-use crate::meeting::{MOST_SUMS, meeting};
+use crate::meeting::meeting;
 use crate::order::turns;
 use bag_search::{Match, match_shapes};
 use shapes::Shape;
@@ -21,13 +22,14 @@ use u_terms::{Facts, U};
 pub enum Matched<'f> {
     /// From the left term to the right one.
     Found { deriv: Deriv<'f> },
-    /// There is no pairing, or none that was made into a derivation.
+    /// There is no pairing, or a block has more than 2,048 sums: a step exchanges no more. Such a term is deeper than a proof may go.
     Nothing,
     /// The budget was spent before this was known.
     Spent,
 }
 
-/// Pairs the entries of two blocks, where the names below `outs` are the columns of their row. A term without a shape is paired with none.
+/// Pairs the entries of two blocks, where the names below `outs` are the columns of their row, and makes the pairing into a derivation. A term
+/// without a shape is paired with none.
 pub fn match_blocks<'f>(
     alloc: Global,
     facts: &'f Facts,
@@ -73,6 +75,7 @@ fn match_shaped<'f>(
 fn made<'f>(moves: Moves<'f>, left: &U, right: &U, entries: &[u32]) -> Result<Matched<'f>, NoMemory>
     requires left { IsKnown 0 moves.outs left.now }
     requires right { IsKnown 0 moves.outs right.now }
+    requires paired { ArePairedBy entries.now left.now right.now }
     ensures { IfOk result (IsMade moves.entry.facts.now moves.entry.outs left.now right.now) }
 {
     match paired(moves, left, right, entries)? {
@@ -83,7 +86,7 @@ fn made<'f>(moves: Moves<'f>, left: &U, right: &U, entries: &[u32]) -> Result<Ma
     }
 }
 
-/// From the one block to the other, whose entries are those of the list.
+/// From the one block to the other, whose entries are those of the list, unless there are more sums than a step exchanges.
 pub fn paired<'f>(
     moves: Moves<'f>,
     left: &U,
@@ -92,12 +95,11 @@ pub fn paired<'f>(
 ) -> Result<Option<Derived<'f>>, NoMemory>
     requires left { IsKnown 0 moves.outs left.now }
     requires right { IsKnown 0 moves.outs right.now }
-    ensures { IfOk result (λ found. IfSome found (IsFromTo moves.entry.facts.now moves.entry.outs left.now right.now)) }
+    requires paired { ArePairedBy entries.now left.now right.now }
+    ensures { IfOk result (λ found. MatchOption found (HasTooManySums left.now) (IsFromTo moves.entry.facts.now moves.entry.outs left.now right.now)) }
 {
     match turns(moves.alloc, left, right, entries)? {
-        Some(turns) if turns.len() <= MOST_SUMS as usize => {
-            meeting(moves, left, right, turns.as_slice())
-        }
-        _ => Ok(None),
+        Some(turns) => meeting(moves, left, right, turns.as_slice()),
+        None => Ok(None),
     }
 }

@@ -1,9 +1,9 @@
 //! The search for a pairing of the blocks of two sums.
-ghost use Rattle.std.specs.Prelude.{◌≡◌, IfOk, IfSome};
+ghost use Rattle.std.specs.Prelude.{◌≡◌, All, IfOk, MatchOption, None, length};
 ghost use Rattle.u_rules.specs.Terms as spec;
 ghost use Rattle.u_rules.specs.Terms.{add_leaves};
-ghost use Rattle.term_shapes.specs.TermShape.{HasShape};
-ghost use Rattle.u_bag.specs.Pairs.{AreBlocks, AreFoundAmong, ArePartners, IsPartner, IsSpentAbove};
+ghost use Rattle.term_shapes.specs.TermShape.{term_shape};
+ghost use Rattle.u_bag.specs.Pairs.{AreBlocks, AreFoundAmong, ArePartners, AreTables, IsAnswer, IsBlock, IsPartner, IsWholeBlock, SomeShapeless};
 
 use crate::NoMemory;
 use bag_search::{Match, match_shapes};
@@ -72,7 +72,7 @@ pub fn pair_sums<'a>(
 
 // The blocks with their shapes, where each has one.
 fn blocks<'a>(alloc: Global, outs: u32, terms: &[&'a U]) -> Result<Option<Vec<Block<'a>>>, NoMemory>
-    ensures { IfOk result (λ found. IfSome found (λ blocks. AreBlocks outs (spec.terms terms.now) blocks.items)) }
+    ensures { IfOk result (λ found. MatchOption found (SomeShapeless outs (spec.terms terms.now)) (λ blocks. AreBlocks outs (spec.terms terms.now) blocks.items)) }
 {
     let mut blocks = Vec::with_capacity(alloc, terms.len())?;
     for term in terms {
@@ -86,7 +86,7 @@ fn blocks<'a>(alloc: Global, outs: u32, terms: &[&'a U]) -> Result<Option<Vec<Bl
 
 // The block with its shape, where it has one.
 fn block_of<'a>(alloc: Global, outs: u32, term: &'a U) -> Result<Option<Block<'a>>, NoMemory>
-    ensures { IfOk result (λ found. IfSome found (λ block. (block.term.now ≡ term.now) × HasShape outs term.now block.shape)) }
+    ensures { IfOk result (λ found. MatchOption found (term_shape outs term.now ≡ None) (λ block. (block.term.now ≡ term.now) × IsBlock outs block)) }
 {
     match shape_of(alloc, outs, term)? {
         Some(shape) => {
@@ -102,7 +102,9 @@ fn block_of<'a>(alloc: Global, outs: u32, term: &'a U) -> Result<Option<Block<'a
 }
 
 // The tables of entries, in an order that is the same for the same tables.
-fn tables_of(alloc: Global, entries: &[Entry]) -> Result<Vec<(u32, u32)>, NoMemory> {
+fn tables_of(alloc: Global, entries: &[Entry]) -> Result<Vec<(u32, u32)>, NoMemory>
+    ensures { IfOk result (λ tables. AreTables entries.now tables.items) }
+{
     let mut tables = Vec::with_capacity(alloc, entries.len())?;
     for entry in entries {
         tables.push((entry.table, entry.columns))?;
@@ -118,6 +120,9 @@ fn pair_all<'a>(
     rights: Vec<Block<'a>>,
     budget: u64,
 ) -> Result<Partners<'a>, NoMemory>
+    requires lefts { All IsWholeBlock lefts.now }
+    requires rights { All IsWholeBlock rights.items }
+    requires as_many { length lefts.now ≡ length rights.items }
     ensures { IfOk result (AreFoundAmong lefts.now rights.entry.items budget) }
 {
     let mut rest = rights;
@@ -146,6 +151,8 @@ fn first_partner(
     rights: &[Block<'_>],
     budget: u64,
 ) -> Result<Partner, NoMemory>
+    requires left { IsWholeBlock left.now }
+    requires rights { All IsWholeBlock rights.now }
     ensures { IfOk result (IsPartner left.now.shape rights.now budget) }
 {
     let mut spent = false;
@@ -165,7 +172,9 @@ fn first_partner(
 
 // How the entries of two blocks are paired. Blocks of other tables are told apart without a search.
 fn alike(alloc: Global, left: &Block<'_>, right: &Block<'_>, budget: u64) -> Result<Match, NoMemory>
-    ensures { IfOk result (IsSpentAbove left.now.shape right.now.shape budget) }
+    requires left { IsWholeBlock left.now }
+    requires right { IsWholeBlock right.now }
+    ensures { IfOk result (IsAnswer left.now.shape right.now.shape budget) }
 {
     if left.tables == right.tables && left.shape.outputs.len() == right.shape.outputs.len() {
         match_shapes(alloc, &left.shape, &right.shape, budget)

@@ -1,5 +1,6 @@
 //! Terms of the same parts.
-ghost use Rattle.std.specs.Prelude.{◌≡◌, IfOk, IfSome};
+ghost use Rattle.std.specs.Prelude.{◌≡◌, IfOk, IsPermutation};
+ghost use Rattle.u_rules.specs.Terms.{add_leaves};
 ghost use Rattle.u_moves.specs.Derivations.{IsKnown};
 ghost use Rattle.u_congruence.specs.Congruence.{IsBy, IsFromTo};
 
@@ -7,26 +8,20 @@ use crate::NoMemory;
 use std::alloc::Global;
 use u_congruence::{Derived, copied, joined, still};
 use u_moves::Moves;
-use u_rules::same_leaves;
 use u_simple::sums_rearranged;
 use u_terms::{Boxed, U, same};
 
-/// From the one sum to the other, if both have the same terms.
-pub fn sums_regrouped<'f>(
-    moves: Moves<'f>,
-    left: &U,
-    right: &U,
-) -> Result<Option<Derived<'f>>, NoMemory>
+/// From the one sum to the other, which has the same terms.
+pub fn sums_regrouped<'f>(moves: Moves<'f>, left: &U, right: &U) -> Result<Derived<'f>, NoMemory>
     requires left { IsKnown 0 moves.outs left.now }
     requires right { IsKnown 0 moves.outs right.now }
-    ensures { IfOk result (λ found. IfSome found (IsFromTo moves.entry.facts.now moves.entry.outs left.now right.now)) }
+    requires leaves { IsPermutation (add_leaves left.now) (add_leaves right.now) }
+    ensures { IfOk result (IsFromTo moves.entry.facts.now moves.entry.outs left.now right.now) }
 {
     if same(left, right) {
-        Ok(Some(still(moves, copied(moves.alloc, left)?)?))
-    } else if same_leaves(moves.alloc, left, right, false)? {
-        Ok(Some(sums_rearranged(moves, left, right)?))
+        still(moves, copied(moves.alloc, left)?)
     } else {
-        Ok(None)
+        sums_rearranged(moves, left, right)
     }
 }
 

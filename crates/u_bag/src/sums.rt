@@ -1,9 +1,11 @@
 //! Sums of blocks: each block of the one is paired with a block of its own of the other.
-ghost use Rattle.std.specs.Prelude.{IfOk, IfSome};
+ghost use Rattle.std.specs.Prelude.{All, IfOk, MatchOption};
+ghost use Rattle.u_rules.specs.Terms.{add_leaves};
 ghost use Rattle.u_moves.specs.Derivations.{IsKnown};
-ghost use Rattle.u_congruence.specs.Congruence.{IsBy, IsFromTo};
-ghost use Rattle.u_bag.specs.Matching.{IsMade};
-ghost use Rattle.u_bag.specs.Sums.{AreKnownPairs, IsSumsMatch};
+ghost use Rattle.u_congruence.specs.Congruence.{IsFromTo};
+ghost use Rattle.u_bag.specs.Pairs.{ArePairs, HasPairing, lefts_of};
+ghost use Rattle.u_bag.specs.Shapes.{SomeHasTooManySums};
+ghost use Rattle.u_bag.specs.Sums.{AreKnownPairs, AreMade, IsFromPairs, IsSumsMatch};
 
 use crate::NoMemory;
 use crate::blocks::{Matched, paired};
@@ -45,8 +47,8 @@ fn made<'f>(
 ) -> Result<Matched<'f>, NoMemory>
     requires left { IsKnown 0 moves.outs left.now }
     requires right { IsKnown 0 moves.outs right.now }
-    requires pairs { AreKnownPairs moves.outs pairs.now }
-    ensures { IfOk result (IsMade moves.entry.facts.now moves.entry.outs left.now right.now) }
+    requires pairs { ArePairs (add_leaves left.now) (add_leaves right.now) pairs.now }
+    ensures { IfOk result (AreMade moves.entry.facts.now moves.entry.outs left.now right.now) }
 {
     match by_pairs(moves, left, right, pairs)? {
         Some(deriv) => Ok(Matched::Found {
@@ -56,7 +58,7 @@ fn made<'f>(
     }
 }
 
-// From the one sum to the other, if they are those of the blocks that are paired.
+// From the one sum to the other, whose blocks are paired, unless one of them has more sums than a step exchanges.
 fn by_pairs<'f>(
     moves: Moves<'f>,
     left: &U,
@@ -65,25 +67,22 @@ fn by_pairs<'f>(
 ) -> Result<Option<Derived<'f>>, NoMemory>
     requires left { IsKnown 0 moves.outs left.now }
     requires right { IsKnown 0 moves.outs right.now }
-    requires pairs { AreKnownPairs moves.outs pairs.now }
-    ensures { IfOk result (λ found. IfSome found (IsFromTo moves.entry.facts.now moves.entry.outs left.now right.now)) }
+    requires pairs { ArePairs (add_leaves left.now) (add_leaves right.now) pairs.now }
+    ensures { IfOk result (λ found. MatchOption found (SomeHasTooManySums (add_leaves left.now)) (IsFromTo moves.entry.facts.now moves.entry.outs left.now right.now)) }
 {
     let Some(between) = added_pairs(moves, pairs)? else {
         return Ok(None);
     };
-    let Some(first) = sums_regrouped(moves, left, start_of(&between))? else {
-        return Ok(None);
-    };
-    let Some(last) = sums_regrouped(moves, end_of(&between), right)? else {
-        return Ok(None);
-    };
+    let first = sums_regrouped(moves, left, start_of(&between))?;
+    let last = sums_regrouped(moves, end_of(&between), right)?;
     Ok(Some(joined_by(moves.alloc, first, between, last)?))
 }
 
 // From the sum of the left blocks to that of the right ones.
 fn added_pairs<'f>(moves: Moves<'f>, pairs: &[Pair<'_>]) -> Result<Option<Derived<'f>>, NoMemory>
-    requires { AreKnownPairs moves.outs pairs.now }
-    ensures { IfOk result (λ found. IfSome found (IsBy moves.entry.facts.now moves.entry.outs)) }
+    requires known { AreKnownPairs moves.outs pairs.now }
+    requires paired { All HasPairing pairs.now }
+    ensures { IfOk result (λ found. MatchOption found (SomeHasTooManySums (lefts_of pairs.now)) (IsFromPairs moves.entry.facts.now moves.entry.outs pairs.now)) }
 {
     match pairs {
         [] => Ok(Some(still(moves, Boxed::new(moves.alloc, U::Zero)?)?)),

@@ -1,11 +1,23 @@
 use Rattle.std.proofs.Common.{sym, subst}
+use Rattle.std.proofs.lemmas.Result.{IfOk-weaker}
 use Rattle.u_rules.specs.Terms.{add_leaves}
-use Rattle.u_bag.specs.Pairs.{ArePartners}
-use Rattle.u_bag.specs.Sums.{AreKnownPairs}
-use Rattle.u_bag.proofs.Paired.{pairs-known}
+use Rattle.u_bag.specs.Pairs.{ArePairs, ArePartners}
+use Rattle.u_bag.specs.Sums.{AreMade, IsSumsMatch}
+use Rattle.u_bag.proofs.Paired.{made-sums}
 use Rattle.u_bag.proofs.sums.match_sums.Goals as goal
 
 pub made-requires-clause-pairs : goal.made-requires-clause-pairs
 made-requires-clause-pairs c =
+    let us = add_leaves c.args.left.now in
+    let vs = add_leaves c.args.right.now in
     let found = subst (ArePartners c.args.outs (add_leaves c.args.left.now) (add_leaves c.args.right.now) c.args.budget) c.in-All.is (c.in_ok-pairs.ensures {u = tt}) in
-    subst (AreKnownPairs c.args.outs) (sym c.as_slice.ensures.value) (pairs-known c.args.outs c.args.left.now c.args.right.now c.in-All.pairs.items c.requires.left c.requires.right found)
+    subst (ArePairs us vs) (sym c.as_slice.ensures.value) found.0
+
+pub returns-in-All : goal.returns-in-All
+returns-in-All c =
+    let F = c.args.facts.now in
+    let outs = c.args.outs in
+    let left = c.args.left.now in
+    let right = c.args.right.now in
+    let found = subst (ArePartners c.args.outs (add_leaves c.args.left.now) (add_leaves c.args.right.now) c.args.budget) c.in-All.is (c.in_ok-pairs.ensures {u = tt}) in
+    IfOk-weaker c.made.result (AreMade F outs left right) (IsSumsMatch F outs left right c.args.budget) (made-sums F outs left right c.args.budget found.1) c.made.ensures
