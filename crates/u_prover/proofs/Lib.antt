@@ -1,3 +1,4 @@
 pub mod RuleKinds
 pub mod Fitting
 pub mod Outcomes
+pub mod Reach

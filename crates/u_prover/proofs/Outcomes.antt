@@ -1,6 +1,6 @@
 -- What a search comes to, by what was found on the way.
-use Rattle.std.proofs.Common.{◌≡◌, ℕ, List, length, Bool, refl, ap, sym, subst, ◌∙◌, inl, inr, Some, None, arith}
-use Rattle.std.specs.Prelude.{true, false, Option, MatchOption}
+use Rattle.std.proofs.Common.{◌≡◌, ℕ, List, length, Bool, ap, sym, subst, ◌∙◌, inl, inr, arith}
+use Rattle.std.specs.Prelude.{true, false}
 use Rattle.data_model.specs.Lists.{Each}
 use Rattle.u_terms.specs.Syntax.{U}
 use Rattle.u_terms.specs.Size as size
@@ -10,14 +10,15 @@ use Rattle.u_deriv.specs.Steps.{Replays}
 use Rattle.u_moves.specs.Derivations.{Derivation, IsSound, IsStill}
 use Rattle.u_moves.proofs.Sound.{sound-plain}
 use Rattle.u_congruence.specs.Congruence.{IsFromTo}
-use Rattle.u_normal.specs.Leading.{Leads}
-use Rattle.normal_form.specs.NormalTerms.{IsNormal}
 use Rattle.proof_check.specs.Limits.{IsWithin}
 use Rattle.u_prover.specs.declared.proving.Outcome.{Outcome}
 use Rattle.u_prover.specs.declared.proving.Outcome.TheVariants.{Found, Unknown}
 use Rattle.u_rules.specs.Terms.{add_leaves}
+use Rattle.u_bag.specs.declared.blocks.Matched.{Matched}
+use Rattle.u_bag.specs.declared.blocks.Matched.TheVariants as matched
 use Rattle.u_bag.specs.Pairs.{SomePassBudget}
-use Rattle.u_prover.specs.Proving.{AreApart, HasNoNormal, IsFound, IsNormalEnd, IsNormalOf, IsOutcome, IsSmallStep, IsSpent, IsUnknown, IsWithinLimits, KeepsBounds, normal_terms_differ}
+use Rattle.u_bag.specs.Sums.{IsSumsMatch}
+use Rattle.u_prover.specs.Proving.{AreApart, IsBetween, IsFound, IsMissed, IsNormalEnd, IsNormalOf, IsOutcome, IsSmallStep, IsSpent, IsUnknown, IsWithinLimits, KeepsBounds, normal_terms_differ}
 
 -- ---- a derivation that was found
 bounds-still : (F : Facts) (outs : ℕ) (t : U) (d : Derivation) → IsStill F outs t d → IsWithin (size.nodes t) (size.depth t) → KeepsBounds d
@@ -37,7 +38,7 @@ module _ (F : Facts) (outs : ℕ) (left right : U) (budget : ℕ) (d : Derivatio
   outcome-of (Unknown spent) h leads small = record {
     spends = unspent F outs left right budget spent h.0;
     differ = λ same within. h.2 (small same within);
-    cause = inr (record { deriv = d; leads = leads; sound = h.1; passes = h.2 });
+    cause = inr (h.0, record { deriv = d; leads = leads; sound = h.1; passes = h.2 });
   }
 
   pub outcome-joined : (left ≡ right → ⊥) → (o : Outcome) → IsWithinLimits d o → IsFromTo F outs left right d → IsOutcome F outs left right budget o
@@ -47,9 +48,9 @@ pub outcome-still : (F : Facts) (outs : ℕ) (t : U) (budget : ℕ) (d : Derivat
 outcome-still F outs t budget d still o h =
     outcome-of F outs t t budget d o h (record { facts = still.facts; outs = still.outs; from = still.from; to = still.to }) (λ same within. bounds-still F outs t d still within)
 
-pub apart-unknown : (F : Facts) (outs : ℕ) (left right : U) (budget : ℕ) (spent : Bool) → (left ≡ right → ⊥) → AreApart F outs left right
+pub missed-unknown : (F : Facts) (outs : ℕ) (left right : U) (budget : ℕ) (spent : Bool) → (left ≡ right → ⊥) → IsMissed F outs left right budget spent
     → (spent ≡ true → IsSpent F outs left right budget) → IsUnknown F outs left right budget spent
-apart-unknown F outs left right budget spent differ apart spends = record { spends = spends; differ = λ same. absurd (differ same); cause = inl apart }
+missed-unknown F outs left right budget spent differ missed spends = record { spends = spends; differ = λ same. absurd (differ same); cause = inl missed }
 
 -- ---- normal terms
 pub normal-of : (F : Facts) (outs : ℕ) (d : Derivation) → IsNormalEnd F outs d → IsSound d → IsNormalOf F outs d.from d.to
@@ -63,13 +64,6 @@ pub ends-apart : (F : Facts) (outs : ℕ) (down up : Derivation) → IsNormalEnd
 ends-apart F outs down up end_down end_up sound_down sound_up differ =
     normal_terms_differ down.to up.to (normal-of F outs down end_down sound_down) (normal-of F outs up end_up sound_up) differ
 
-pub normal-end : (F : Facts) (outs : ℕ) (t : U) (d : Derivation) → Leads IsNormal F outs t d → IsNormalEnd F outs d
-normal-end F outs t d h = record { facts = h.facts; outs = h.outs; normal = h.reached }
-
-pub none-large : (F : Facts) (outs : ℕ) (t : U) (o : Option Derivation) → ((d : Derivation) → o ≡ Some d → ⊥) → MatchOption o (HasNoNormal F outs t) (Leads IsNormal F outs t) → HasNoNormal F outs t
-none-large F outs t None none h = h
-none-large F outs t (Some d) none h = absurd (none d refl)
-
 pub ends-spent : (F : Facts) (outs : ℕ) (down up : Derivation) (budget : ℕ) → IsNormalEnd F outs down → IsNormalEnd F outs up → IsSound down → IsSound up
     → SomePassBudget outs (add_leaves down.to) (add_leaves up.to) budget → IsSpent F outs down.from up.from budget
 ends-spent F outs down up budget end_down end_up sound_down sound_up passes = record {
@@ -79,3 +73,9 @@ ends-spent F outs down up budget end_down end_up sound_down sound_up passes = re
   right_leads = normal-of F outs up end_up sound_up;
   passes = passes;
 }
+
+-- what a pairing of the blocks comes to
+pub by-blocks : (F : Facts) (outs : ℕ) (left right : U) (budget : ℕ) (m : Matched) → IsSumsMatch F outs left right budget m → IsBetween F outs left right budget m
+by-blocks F outs left right budget (matched.Found d) h = h.leads
+by-blocks F outs left right budget matched.Nothing h = h
+by-blocks F outs left right budget matched.Spent h = h

@@ -1,11 +1,8 @@
 //! Derivations by way of normal forms.
 ghost use Rattle.std.specs.Prelude.{◌≡◌, ◌↔◌, IfOk, IfSome, IsTrue, MatchOption};
-ghost use Rattle.normal_form.specs.NormalTerms.{IsNormal};
-ghost use Rattle.u_bag.specs.Sums.{IsSumsMatch};
 ghost use Rattle.u_congruence.specs.Congruence.{IsBy, IsFromTo};
 ghost use Rattle.u_moves.specs.Derivations.{IsKnown, IsSound};
-ghost use Rattle.u_normal.specs.Leading.{Leads};
-ghost use Rattle.u_prover.specs.Proving.{HasNoNormal, IsMet, IsNormalEnd};
+ghost use Rattle.u_prover.specs.Proving.{HasNoNormal, IsBetween, IsMadeNormal, IsMet, IsNormalEnd};
 ghost use Rattle.u_simple.specs.Passes.{IsFrom};
 
 use crate::NoMemory;
@@ -51,7 +48,7 @@ pub fn by_normal_forms<'f>(
 // From a term to its normal form, unless that is too large.
 fn made_normal<'f>(moves: Moves<'f>, u: &U) -> Result<Option<Derived<'f>>, NoMemory>
     requires { IsKnown 0 moves.outs u.now }
-    ensures { IfOk result (λ found. MatchOption found (HasNoNormal moves.entry.facts.now moves.entry.outs u.now) (Leads IsNormal moves.entry.facts.now moves.entry.outs u.now)) }
+    ensures { IfOk result (λ found. MatchOption found (HasNoNormal moves.entry.facts.now moves.entry.outs u.now) (IsMadeNormal moves.entry.facts.now moves.entry.outs u.now)) }
 {
     match normal(moves, u) {
         Ok(d) => Ok(Some(d)),
@@ -90,7 +87,7 @@ fn from_normal_terms<'f>(
 fn between<'f>(moves: Moves<'f>, left: &U, right: &U, budget: u64) -> Result<Matched<'f>, NoMemory>
     requires left { IsKnown 0 moves.outs left.now }
     requires right { IsKnown 0 moves.outs right.now }
-    ensures { IfOk result (IsSumsMatch moves.entry.facts.now moves.entry.outs left.now right.now budget) }
+    ensures { IfOk result (IsBetween moves.entry.facts.now moves.entry.outs left.now right.now budget) }
 {
     match by_order(moves, left, right)? {
         Some(d) => Ok(Matched::Found {

@@ -4,7 +4,7 @@ use Rattle.u_terms.specs.Syntax.{U}
 use Rattle.u_prover.specs.declared.simplifying.Met.{Met}
 use Rattle.u_prover.specs.declared.simplifying.Met.TheVariants.{Spent}
 use Rattle.u_prover.specs.Proving.{IsMet, IsOutcome}
-use Rattle.u_prover.proofs.Outcomes.{outcome-joined, apart-unknown}
+use Rattle.u_prover.proofs.Outcomes.{outcome-joined, missed-unknown}
 use Rattle.u_prover.proofs.proving.prove.Goals as goal
 
 pub returns-then-same : goal.returns-then-same
@@ -19,7 +19,7 @@ returns-in-Joined c =
 
 pub returns-in-Apart : goal.returns-in-Apart
 returns-in-Apart c =
-    apart-unknown c.args.facts.now c.args.outs c.args.left.now c.args.right.now c.args.budget false
+    missed-unknown c.args.facts.now c.args.outs c.args.left.now c.args.right.now c.args.budget false
     (λ same. let e : false ≡ true = sym c.if-same.false ∙ c.same.ensures.1 same in absurd (cc))
     (subst (λ (m : Met). IsMet c.args.facts.now c.args.outs c.args.left.now c.args.right.now c.args.budget m) c.in-Apart.is (c.in_ok-deriv.ensures {u = tt}))
     (λ e. absurd (cc))
@@ -28,6 +28,6 @@ pub returns-in-Spent : goal.returns-in-Spent
 returns-in-Spent c =
     let both : IsMet c.args.facts.now c.args.outs c.args.left.now c.args.right.now c.args.budget Spent =
     subst (λ (m : Met). IsMet c.args.facts.now c.args.outs c.args.left.now c.args.right.now c.args.budget m) c.in-Spent.is (c.in_ok-deriv.ensures {u = tt}) in
-    apart-unknown c.args.facts.now c.args.outs c.args.left.now c.args.right.now c.args.budget true
+    missed-unknown c.args.facts.now c.args.outs c.args.left.now c.args.right.now c.args.budget true
     (λ same. let e : false ≡ true = sym c.if-same.false ∙ c.same.ensures.1 same in absurd (cc))
     both.0 (λ e. both.1)
