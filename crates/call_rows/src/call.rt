@@ -1,6 +1,7 @@
 //! The calls by their names.
 
 use crate::alike::alike;
+use crate::behind::{appended, appended_along, copied, copied_along, repeated};
 use crate::entailed::{derived, entails, links};
 use crate::fault::CallFault;
 use crate::lines::line;
@@ -16,6 +17,10 @@ pub fn answer(alloc: Global, facts: &Facts, call: &str) -> Result<String, CallFa
     let (name, words) = call.split_once(' ').unwrap_or((call, ""));
     match name {
         "alike" => alike(alloc, words),
+        "append" => appended(alloc, facts, words),
+        "append-along" => appended_along(alloc, facts, words),
+        "copy" => copied(alloc, facts, words),
+        "copy-along" => copied_along(alloc, facts, words),
         "derive" => derived(alloc, facts, words),
         "entails" => entails(alloc, words),
         "line" => line(alloc, words),
@@ -23,6 +28,7 @@ pub fn answer(alloc: Global, facts: &Facts, call: &str) -> Result<String, CallFa
         "move" => moved(alloc, facts, words),
         "normal" => normal_form(alloc, facts, words),
         "part" => part(alloc, words),
+        "repeat" => repeated(alloc, facts, words),
         "rests" => rests(alloc, facts, words),
         "sides" => sides(alloc, facts, words),
         "sizes" => side_sizes(alloc, facts, words),

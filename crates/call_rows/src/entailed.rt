@@ -1,4 +1,5 @@
 //! What the equalities of a product entail.
+ghost use Rattle.std.specs.Prelude.{◌≡◌, IfOk};
 
 use crate::fault::CallFault;
 use crate::known::{is_known, is_known_value};
@@ -9,10 +10,10 @@ use u_equal::{Classes, Route, factors};
 use u_terms::{Boxed, Facts, U, Val};
 
 /// The names that terms may have are below this one.
-const OUTS: u32 = 1_000;
+pub const OUTS: u32 = 1_000;
 
 /// The most links that are made.
-const MOST_LINKS: u64 = 1_000;
+pub const MOST_LINKS: u64 = 1_000;
 
 /// A product, and two values.
 #[derive(Drop)]
@@ -34,7 +35,10 @@ fn asked(alloc: Global, words: &str) -> Result<Question, CallFault> {
     })
 }
 
-fn classes(alloc: Global, product: &U) -> Result<Classes<'_>, CallFault> {
+/// The classes of a product.
+pub fn classes(alloc: Global, product: &U) -> Result<Classes<'_>, CallFault>
+    ensures { IfOk result (λ classes. classes ≡ product.now) }
+{
     if factors(product) >= 1 << 32 {
         return Err(CallFault::TooLarge);
     }

@@ -2,6 +2,7 @@
 #![tactic(auto)]
 
 mod alike;
+mod behind;
 mod call;
 mod entailed;
 mod facts;
