@@ -2,6 +2,7 @@
 #![tactic(auto)]
 
 mod fault;
+mod growing;
 pub mod laws;
 mod listed;
 mod names;

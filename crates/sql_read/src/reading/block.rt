@@ -17,6 +17,7 @@ use super::expr::expr;
 use super::item::item;
 use super::primary::reference;
 use crate::fault::ReadFault;
+use crate::growing::push;
 use crate::tokens::Tokens;
 use plain_data::{Boxed, List};
 use sql_grammar::Kind;
@@ -60,7 +61,7 @@ fn items(alloc: Global, tokens: &mut Tokens<'_>, levels: u8) -> Result<List<Item
 {
     let mut items = List::new(alloc);
     let first = item(alloc, tokens, levels)?;
-    items.push(first)?;
+    push(&mut items, alloc, first)?;
     let mut room = MOST_SEPARATORS;
     'more: while let Some(_) = tokens.eat_within(&[Kind::Comma], room)? {
         room -= 1;

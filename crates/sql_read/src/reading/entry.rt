@@ -21,6 +21,7 @@ use super::expr::expr;
 use super::item::{NAME_KINDS, alias, optional_alias};
 use super::query::query;
 use crate::fault::{LimitKind, ReadFault};
+use crate::growing::push;
 use crate::listed::{entry_of, listed_query, listed_table};
 use crate::tokens::Tokens;
 use plain_data::List;
@@ -66,7 +67,7 @@ fn from(
 {
     let mut entries = before;
     let first = entry(alloc, tokens, levels, entries.len())?;
-    entries.push(entry_of(first, false, None))?;
+    push(&mut entries, alloc, entry_of(first, false, None))?;
     'joins: while let Some(next) = joined_entry(alloc, tokens, levels, entries.len())? {
         entries.push(next)?;
     }
