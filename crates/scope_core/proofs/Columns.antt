@@ -1,5 +1,5 @@
 -- Which fault a column has, by what was found of its name.
-use Rattle.std.proofs.Common.{◌≡◌, ℕ, suc, ◌+◌, ◌<◌, length, drop, get_or, arith, Bool, true, false, List, [], ◌∷◌, Option, Some, None, refl, sym, not}
+use Rattle.std.proofs.Common.{◌≡◌, ℕ, Bool, true, false, List, [], ◌∷◌, Option, Some, None, refl, sym, not}
 use Rattle.std.specs.Prelude.{◌&&◌, if◌then◌else◌, is_some, is_none}
 use Rattle.std.specs.Prelude.{find}
 use Rattle.std.specs.List.{list_any}
@@ -7,10 +7,6 @@ use Rattle.sql_model.specs.Syntax.{Name}
 use Rattle.sql_model.specs.Columns.{same_name}
 use Rattle.sql_model.specs.Headings.{Heading}
 use Rattle.scope_core.proofs.Booleans.{no}
-use Rattle.std.proofs.Math.Seq.{drop-cons}
-use Rattle.sql_model.specs.Frames.{ColumnName}
-use Rattle.scope_core.specs.declared.tree.RVal.TheVariants as v
-use Rattle.scope_core.specs.Resolving.{entry_columns}
 use Rattle.scope_core.specs.declared.fault.ScopeFault.{ScopeFault}
 use Rattle.scope_core.specs.declared.fault.ScopeFault.TheVariants as fault
 use Rattle.scope_core.specs.declared.fault.ScopeCode.{ScopeCode}
@@ -109,10 +105,3 @@ alias_star-fine alias levels at e found = rw e (by (find (λ h. same_name alias 
     by (Some h) e = refl
 
 pub ruleset stars = (causes, cause-star_in_group, cause-alias_star_in_group, cause-alias_unknown, alias_star-fine)
-
-pub entry_columns-drop : (entry k : ℕ) (cs : List ColumnName) → k < length cs
-    → entry_columns entry k (drop k cs) ≡ v.Col 0 entry k ∷ entry_columns entry (k + 1) (drop (k + 1) cs)
-entry_columns-drop entry k cs h =
-    let e : k + 1 ≡ suc k = omega arith in
-    let d : drop k cs ≡ get_or cs k None ∷ drop (suc k) cs = drop-cons cs k None h in
-    rw (e, d) refl

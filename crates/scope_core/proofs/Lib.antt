@@ -3,6 +3,7 @@ pub mod Lists
 pub mod Occurring
 pub mod Each
 pub mod Columns
+pub mod Written
 pub mod Outputs
 pub mod Walks
 pub mod Groups

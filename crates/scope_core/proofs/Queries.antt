@@ -42,9 +42,6 @@ module _ (known : List Known) (levels : Levels) where
   pub cause-Set-left : (f : ScopeFault) (op : n.SetOp) (left right : n.Query) (at : ℕ) → IsCause f (fault_within known levels left) → IsCause f (fault_within known levels (query.Set op left right at))
   cause-Set-left f op left right at h0 = cause-first f _ _ _ (fault-Set op left right at) h0
 
-  pub cause-Set-right : (f : ScopeFault) (op : n.SetOp) (left right : n.Query) (at : ℕ) → fault_within known levels left ≡ None → IsCause f (fault_within known levels right) → IsCause f (fault_within known levels (query.Set op left right at))
-  cause-Set-right f op left right at h0 h1 = cause-second f _ _ _ (fault-Set op left right at) h0 (cause-first f _ _ _ refl h1)
-
   pub fault-Named : (name : n.Name) (at : ℕ) → source_fault known levels (source.Named name at) ≡ fault_at (ASource name known at)
   unfolding resolving value_fault values_fault truth_fault truths_fault fault_within block_fault source_fault entries_fault on_fault item_fault items_fault values_listed conjuncts_listed conditions_listed entries_listed on_listed items_listed
   fault-Named name at = first_fault-one (ASource name known at)
@@ -63,8 +60,8 @@ module _ (known : List Known) (levels : Levels) where
   pub cause-Query : (f : ScopeFault) (query : n.Query) → IsCause f (fault_within known levels query) → IsCause f (source_fault known levels (source.Query query))
   cause-Query f query h0 = cause-same f _ _ (fault-Query query) h0
 
-  pub cause-Set-widths : (f : ScopeFault) (op : n.SetOp) (left right : n.Query) (at : ℕ) → fault_within known levels left ≡ None → fault_within known levels right ≡ None → IsCause f (fault_at (TwoWidths (length (output_columns left (map heading known))) (length (output_columns right (map heading known))) at)) → IsCause f (fault_within known levels (query.Set op left right at))
-  cause-Set-widths f op left right at h0 h1 h2 = cause-second f _ _ _ (fault-Set op left right at) h0 (cause-second f _ _ _ refl h1 h2)
+  pub cause-Set-rest : (f : ScopeFault) (op : n.SetOp) (left right : n.Query) (at : ℕ) → fault_within known levels left ≡ None → IsCause f (option_or (fault_within known levels right) (fault_at (TwoWidths (length (output_columns left (map heading known))) (length (output_columns right (map heading known))) at))) → IsCause f (fault_within known levels (query.Set op left right at))
+  cause-Set-rest f op left right at h0 h = cause-second f _ _ _ (fault-Set op left right at) h0 h
 
   pub tree-Named : (name : n.Name) (at : ℕ) → resolved_source (source.Named name at) known levels ≡ source_named name known
   unfolding resolving value_fault values_fault truth_fault truths_fault fault_within block_fault source_fault entries_fault on_fault item_fault items_fault values_listed conjuncts_listed conditions_listed entries_listed on_listed items_listed
@@ -103,4 +100,10 @@ module _ (known : List Known) (levels : Levels) where
   pub cause-AliasStar : (f : ScopeFault) (alias : n.Name) (at : ℕ) → IsCause f (fault_at (AnAliasStar alias levels at)) → IsCause f (item_fault known levels (item.AliasStar alias at))
   cause-AliasStar f alias at h0 = cause-same f _ _ (fault-AliasStar alias at) h0
 
-pub ruleset laws = (causes, fault-Block, tree-Block, cause-Block, fault-Set, tree-Set, cause-Set-left, cause-Set-right, fault-Named, fault-Query, tree-Query, cause-Named, cause-Query, cause-Set-widths, tree-Named, tree-Star, tree-AliasStar, fault-Value, fault-Star, fault-AliasStar, tree-Value, cause-Value, cause-Star, cause-AliasStar)
+pub cause-of-first : (f : ScopeFault) (a b : Option ScopeFault) → IsCause f a → IsCause f (option_or a b)
+cause-of-first f a b h = cause-first f (option_or a b) a b refl h
+
+pub cause-of-second : (f : ScopeFault) (a b : Option ScopeFault) → a ≡ None → IsCause f b → IsCause f (option_or a b)
+cause-of-second f a b none h = cause-second f (option_or a b) a b refl none h
+
+pub ruleset laws = (causes, cause-Set-rest, cause-of-first, cause-of-second, fault-Block, tree-Block, cause-Block, fault-Set, tree-Set, cause-Set-left, fault-Named, fault-Query, tree-Query, cause-Named, cause-Query, tree-Named, tree-Star, tree-AliasStar, fault-Value, fault-Star, fault-AliasStar, tree-Value, cause-Value, cause-Star, cause-AliasStar)

@@ -42,7 +42,7 @@ sight_of lent.Member = AsMember
 
 -- the blocks around a place
 abbrev pub levels_of : LentLevels → Levels
-levels_of around.Outside = []
+levels_of (around.Outside runs) = []
 levels_of (around.Block' first headings sight p outer) =
     record { first = first; headings = headings.now; sight = sight_of sight } ∷ levels_of outer
 

@@ -1,5 +1,7 @@
 -- Resolved trees, in the order in which they are read: their vocabulary, which tree a query has, what trees mean, and which queries are well
 -- formed.
+pub mod formers
+pub mod Written
 pub mod Syntax
 pub mod Scope
 pub mod Resolving
@@ -9,6 +11,7 @@ pub mod Evaluation
 pub mod Width
 pub mod Sites
 pub mod Faults
+pub mod Runs
 pub mod Names
 pub mod Held
 pub mod WellFormed

@@ -12,6 +12,7 @@ ghost use Rattle.scope_core.specs.Scope.{bare_place, headings_here, member_level
 use crate::fault::ScopeFault;
 use crate::heading::Heading;
 use crate::names::Columns;
+use crate::run::Runs;
 use sql_model::Name;
 
 /// How a place sees a block around it: by the rows of its entries, by the columns of a group, or by the rows of one member.
@@ -25,7 +26,10 @@ pub enum Sight<'a> {
 /// The blocks around a place, the innermost first. The first of the headings is that of entry number `first`.
 #[derive(Clone, Copy)]
 pub enum Levels<'s, 'k, 'a> {
-    Outside,
+    /// Around all blocks: the columns that stars share.
+    Outside {
+        runs: &'s Runs,
+    },
     Block {
         first: u32,
         headings: &'s [Heading<'k, 'a>],
@@ -74,7 +78,15 @@ impl<'s, 'k, 'a> Levels<'s, 'k, 'a> {
     {
         match self {
             Levels::Block { headings, .. } => *headings,
-            Levels::Outside => &[],
+            Levels::Outside { .. } => &[],
+        }
+    }
+
+    /// The columns that stars share.
+    pub fn runs(&self) -> &'s Runs {
+        match self {
+            Levels::Outside { runs } => *runs,
+            Levels::Block { outer, .. } => outer.runs(),
         }
     }
 
@@ -83,7 +95,7 @@ impl<'s, 'k, 'a> Levels<'s, 'k, 'a> {
         ensures { levels_of result ≡ member_levels (levels_of self.now) }
     {
         match self {
-            Levels::Outside => Levels::Outside,
+            Levels::Outside { runs } => Levels::Outside { runs: *runs },
             Levels::Block {
                 first,
                 headings,

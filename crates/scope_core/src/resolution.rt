@@ -2,11 +2,13 @@
 //!
 //! One walk seeks faults and builds the tree. A chain of operators is as deep as it is long, so the functions on the way down keep
 //! small frames: what needs room of its own is kept out of them by `inline(never)`.
+ghost use Rattle.std.specs.Option.{option_or};
 ghost use Rattle.std.specs.Prelude.{◌≡◌, ◌++◌, ◌∷◌, [], ℕ, OnOk, OnErr, IfOk, IfErr, false, true, None, length};
 ghost use Rattle.sql_model.specs.declared.tree.Expr.TheVariants as expr;
 ghost use Rattle.sql_model.specs.Headings.{block_columns, output_columns, source_columns};
 ghost use Rattle.scope_core.specs.declared.fault.ScopeFault.TheVariants as fault;
 ghost use Rattle.scope_core.specs.declared.tree.RCond.TheVariants as condition;
+ghost use Rattle.scope_core.specs.declared.tree.RQuery.TheVariants as query;
 ghost use Rattle.scope_core.specs.declared.fault.ScopeCode.TheVariants as code;
 ghost use Rattle.scope_core.specs.Answer.{IsCause};
 ghost use Rattle.scope_core.specs.Faults.{is_in_group};
@@ -25,6 +27,7 @@ use crate::column::resolve_column;
 use crate::fault::{ScopeCode, ScopeFault, number, refused};
 use crate::grouping::{conjunction, resolve_grouping, sight_by};
 use crate::heading::{Heading, Held, Known};
+use crate::items::Items;
 use crate::level::{Levels, Sight};
 use crate::output::{Projection, named_columns};
 use crate::star::{add_alias_star, add_star};
@@ -223,7 +226,7 @@ fn resolve_condition<'k, 'a>(
         } => {
             check_subquery(*at, levels)?;
             let value = resolve_value(alloc, value.get(), known, levels)?;
-            let query = resolve_boxed_query(alloc, query, known, levels)?;
+            let query = resolve_query(alloc, query.get(), known, levels)?;
             check_widths(1, query.columns.width(), *in_at)?;
             Ok(RCond::In {
                 value,
@@ -275,7 +278,7 @@ fn resolve_exists<'k, 'a>(
     ensures err { IfErr result (λ f. IsCause f (truth_fault (relations_of known.now) (levels_of levels.now) (expr.Exists query.now at))) }
 {
     check_subquery(at, levels)?;
-    let query = resolve_boxed_query(alloc, query, known, levels)?;
+    let query = resolve_query(alloc, query.get(), known, levels)?;
     Ok(RCond::Exists { query: query.tree })
 }
 
@@ -389,12 +392,13 @@ fn check_subquery(at: u32, levels: &Levels) -> Result<(), ScopeFault>
     Ok(())
 }
 
+/// A query within the blocks around it, in a box. The columns of a set are those of its left operand.
 #[cycle(resolve)]
 #[inline(never)]
-#[tactic(auto, using(crate::proofs::Queries::laws))]
-fn resolve_boxed_query<'k, 'a>(
+#[tactic(auto, using(crate::proofs::Queries::laws, crate::proofs::Outputs::outputs))]
+pub fn resolve_query<'k, 'a>(
     alloc: Global,
-    query: &'a Boxed<Query>,
+    query: &'a Query,
     known: &'k [Known<'a>],
     levels: &Levels<'_, 'k, 'a>,
 ) -> Result<Projected<'k, 'a, Boxed<RQuery>>, ScopeFault>
@@ -403,54 +407,84 @@ fn resolve_boxed_query<'k, 'a>(
     ensures columns { IfOk result (λ v. v.columns ≡ output_columns query.now (headings_of known.now)) }
     ensures err { IfErr result (λ f. IsCause f (fault_within (relations_of known.now) (levels_of levels.now) query.now)) }
 {
-    let query = resolve_query(alloc, query.get(), known, levels)?;
-    Ok(Projected {
-        tree: Boxed::new(alloc, query.tree)?,
-        columns: query.columns,
-    })
-}
-
-/// A query within the blocks around it. The columns of a set are those of its left operand.
-#[cycle(resolve)]
-#[tactic(auto, using(crate::proofs::Queries::laws, crate::proofs::Outputs::outputs))]
-pub fn resolve_query<'k, 'a>(
-    alloc: Global,
-    query: &'a Query,
-    known: &'k [Known<'a>],
-    levels: &Levels<'_, 'k, 'a>,
-) -> Result<Projected<'k, 'a, RQuery>, ScopeFault>
-    ensures fine { IfOk result (λ v. fault_within (relations_of known.now) (levels_of levels.now) query.now ≡ None) }
-    ensures value { IfOk result (λ v. v.tree ≡ resolved query.now (relations_of known.now) (levels_of levels.now)) }
-    ensures columns { IfOk result (λ v. v.columns ≡ output_columns query.now (headings_of known.now)) }
-    ensures err { IfErr result (λ f. IsCause f (fault_within (relations_of known.now) (levels_of levels.now) query.now)) }
-{
     match query {
-        Query::Block { block } => {
-            let block = resolve_boxed_block(alloc, block, known, levels)?;
-            Ok(Projected {
-                tree: RQuery::Block { block: block.tree },
-                columns: block.columns,
-            })
-        }
+        Query::Block { block } => resolve_block_query(alloc, block, known, levels),
         Query::Set {
             op,
             left,
             right,
             at,
         } => {
-            let left = resolve_boxed_query(alloc, left, known, levels)?;
-            let right = resolve_boxed_query(alloc, right, known, levels)?;
-            check_widths(left.columns.width(), right.columns.width(), *at)?;
-            Ok(Projected {
-                tree: RQuery::Set {
-                    op: *op,
-                    left: left.tree,
-                    right: right.tree,
-                },
-                columns: left.columns,
-            })
+            // A function that is called in one place alone may become part of its caller, frame and all, whatever it is marked. So the block
+            // that a chain of sets ends at has calls of its own.
+            match left.get() {
+                Query::Block { block } => {
+                    let left = resolve_block_query(alloc, block, known, levels)?;
+                    resolve_right(alloc, *op, left, right.get(), *at, known, levels)
+                }
+                Query::Set { .. } => {
+                    let left = resolve_query(alloc, left.get(), known, levels)?;
+                    resolve_right(alloc, *op, left, right.get(), *at, known, levels)
+                }
+            }
         }
     }
+}
+
+#[cycle(resolve)]
+#[inline(never)]
+#[tactic(auto, using(crate::proofs::Queries::laws))]
+fn resolve_block_query<'k, 'a>(
+    alloc: Global,
+    block: &'a Boxed<Block>,
+    known: &'k [Known<'a>],
+    levels: &Levels<'_, 'k, 'a>,
+) -> Result<Projected<'k, 'a, Boxed<RQuery>>, ScopeFault>
+    ensures fine { IfOk result (λ v. block_fault (relations_of known.now) (levels_of levels.now) block.now ≡ None) }
+    ensures value { IfOk result (λ v. v.tree ≡ query.Block (resolved_block block.now (relations_of known.now) (levels_of levels.now))) }
+    ensures columns { IfOk result (λ v. v.columns ≡ block_columns block.now (headings_of known.now)) }
+    ensures err { IfErr result (λ f. IsCause f (block_fault (relations_of known.now) (levels_of levels.now) block.now)) }
+{
+    let block = resolve_boxed_block(alloc, block, known, levels)?;
+    let tree = RQuery::Block { block: block.tree };
+    Ok(Projected {
+        tree: Boxed::new(alloc, tree)?,
+        columns: block.columns,
+    })
+}
+
+/// A set of a query that is resolved and another, of one width. A chain of sets goes down on the left, so that the right operand takes no
+/// room on the way.
+#[cycle(resolve)]
+#[inline(never)]
+#[tactic(auto, using(crate::proofs::Queries::laws))]
+fn resolve_right<'k, 'a>(
+    alloc: Global,
+    op: SetOp,
+    left: Projected<'k, 'a, Boxed<RQuery>>,
+    right: &'a Query,
+    at: u32,
+    known: &'k [Known<'a>],
+    levels: &Levels<'_, 'k, 'a>,
+) -> Result<Projected<'k, 'a, Boxed<RQuery>>, ScopeFault>
+    ensures right { IfOk result (λ v. fault_within (relations_of known.now) (levels_of levels.now) right.now ≡ None) }
+    ensures widths { IfOk result (λ v. fault_at (TwoWidths (length left.entry.columns) (length (output_columns right.now (headings_of known.now))) at) ≡ None) }
+    ensures value { IfOk result (λ v. v.tree ≡ query.Set op left.entry.tree (resolved right.now (relations_of known.now) (levels_of levels.now))) }
+    ensures columns { IfOk result (λ v. v.columns ≡ left.entry.columns) }
+    ensures err { IfErr result (λ f. IsCause f (option_or (fault_within (relations_of known.now) (levels_of levels.now) right.now)
+        (fault_at (TwoWidths (length left.entry.columns) (length (output_columns right.now (headings_of known.now))) at)))) }
+{
+    let right = resolve_query(alloc, right, known, levels)?;
+    check_widths(left.columns.width(), right.columns.width(), at)?;
+    let tree = RQuery::Set {
+        op,
+        left: left.tree,
+        right: right.tree,
+    };
+    Ok(Projected {
+        tree: Boxed::new(alloc, tree)?,
+        columns: left.columns,
+    })
 }
 
 /// A block: its entries, then what stands in ON and WHERE, GROUP BY, the items and HAVING.
@@ -571,7 +605,7 @@ fn resolve_source<'k, 'a>(
             columns: named_columns(alloc, name, known),
         }),
         Source::Query { query } => {
-            let query = resolve_boxed_query(alloc, query, known, levels)?;
+            let query = resolve_query(alloc, query.get(), known, levels)?;
             Ok(FromSource {
                 columns: query.columns.into_columns(alloc)?,
                 tree: RSource::Query { query: query.tree },
@@ -662,17 +696,25 @@ fn resolve_items<'k, 'a>(
     items: &'a [Item],
     known: &'k [Known<'a>],
     levels: &Levels<'_, 'k, 'a>,
-) -> Result<List<RVal>, ScopeFault>
+) -> Result<Items<RVal>, ScopeFault>
     ensures fine { IfOk result (λ v. items_fault (relations_of known.now) (levels_of levels.now) 0 items.now ≡ None) }
     ensures value { IfOk result (λ v. v ≡ items_listed (relations_of known.now) (levels_of levels.now) items.now) }
     ensures err { IfErr result (λ f. IsCause f (items_fault (relations_of known.now) (levels_of levels.now) 0 items.now)) }
 {
-    let mut values = Vec::with_capacity(alloc, items.len())?;
+    let mut values = Items::with_capacity(alloc, count_values(items))?;
     for item in items {
-        add_item(&mut values, alloc, item, known, levels)?;
+        add_item(item, &mut values, alloc, known, levels)?;
         check_outputs(values.len())?;
     }
-    Ok(List::from_vec(values))
+    Ok(values)
+}
+
+/// How many items are values.
+fn count_values(items: &[Item]) -> usize {
+    items
+        .iter()
+        .filter(|item| matches!(item, Item::Value { .. }))
+        .count()
 }
 
 /// Appends the values of an item.
@@ -680,19 +722,19 @@ fn resolve_items<'k, 'a>(
 #[inline(never)]
 #[tactic(auto, using(crate::proofs::Queries::laws))]
 fn add_item<'k, 'a>(
-    values: &mut Vec<RVal>,
-    alloc: Global,
     item: &'a Item,
+    values: &mut Items<RVal>,
+    alloc: Global,
     known: &'k [Known<'a>],
     levels: &Levels<'_, 'k, 'a>,
 ) -> Result<(), ScopeFault>
     ensures fine { OnOk result (item_fault (relations_of known.now) (levels_of levels.now) item.now ≡ None) }
-    ensures value { OnOk result (values.new.items ≡ values.old.items ++ resolved_item item.now (relations_of known.now) (levels_of levels.now)) }
+    ensures value { OnOk result (values.new ≡ values.old ++ resolved_item item.now (relations_of known.now) (levels_of levels.now)) }
     ensures err { IfErr result (λ f. IsCause f (item_fault (relations_of known.now) (levels_of levels.now) item.now)) }
 {
     match item {
-        Item::Star { at } => add_star(values, *at, levels),
-        Item::AliasStar { alias, at } => add_alias_star(values, alias, *at, levels),
+        Item::Star { at } => add_star(values, alloc, *at, levels),
+        Item::AliasStar { alias, at } => add_alias_star(values, alloc, alias, *at, levels),
         Item::Value { expr, .. } => {
             let value = resolve_value(alloc, expr, known, levels)?;
             values.push(value)?;

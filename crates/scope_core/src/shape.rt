@@ -5,7 +5,10 @@ ghost use Rattle.scope_core.specs.declared.tree.RQuery.TheVariants as query;
 ghost use Rattle.scope_core.specs.Plain.{is_grouping, is_plain_tree, is_table, is_tree_equality, is_tree_point};
 ghost use Rattle.scope_core.specs.Width.{width};
 
+use crate::items::Items;
+use crate::shared::Shared;
 use crate::tree::{Grouping, RBlock, RCond, REntry, RQuery, RSource, RVal};
+use plain_data::List;
 
 /// How many columns the answer of a tree has.
 #[tactic(auto, using(crate::proofs::Shapes::widths))]
@@ -39,7 +42,7 @@ fn is_plain_block(block: &RBlock) -> bool
     }
     are_tables(block.entries.as_slice())
         && are_equalities(block.conds.as_slice())
-        && are_points(block.items.as_slice())
+        && are_all_points(&block.items)
 }
 
 /// Whether a grouping makes groups.
@@ -89,6 +92,19 @@ fn is_equality(condition: &RCond) -> bool
         RCond::Exists { .. } => false,
         RCond::In { .. } => false,
     }
+}
+
+fn are_all_points(items: &Items<RVal>) -> bool
+    ensures { result ≡ list_all (λ value. is_tree_point value) items.now }
+{
+    let parts = items.parts();
+    are_parts_points(parts.before) && are_points(parts.last)
+}
+
+fn are_parts_points(parts: &[Shared<List<RVal>>]) -> bool
+    ensures { result ≡ list_all (λ part. list_all (λ value. is_tree_point value) part) parts.now }
+{
+    parts.iter().all(|part| are_points(part.get().as_slice()))
 }
 
 fn are_points(values: &[RVal]) -> bool

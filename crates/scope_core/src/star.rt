@@ -1,5 +1,5 @@
 //! Stars of SELECT: all columns of a block's entries, or of one of them.
-ghost use Rattle.std.specs.Prelude.{◌≡◌, ◌++◌, ◌<◌, true, OnOk, IfErr, IfNone, IfSome, find, get_or, is_some, length};
+ghost use Rattle.std.specs.Prelude.{◌≡◌, ◌++◌, ◌<◌, ◌≤◌, true, OnOk, IfErr, IfNone, IfSome, find, get_or, is_some, length};
 ghost use Rattle.sql_model.specs.Columns.{same_name};
 ghost use Rattle.sql_model.specs.Headings.{Heading as TheHeading};
 ghost use Rattle.scope_core.specs.declared.fault.ScopeFault.TheVariants as fault;
@@ -12,30 +12,43 @@ ghost use Rattle.scope_core.specs.Sites.{AStar, AnAliasStar};
 
 use crate::fault::{ScopeCode, ScopeFault, number, refused};
 use crate::heading::Heading;
+use crate::items::Items;
 use crate::level::Levels;
 use crate::names::Columns;
+use crate::run::{Run, Runs};
 use crate::tree::RVal;
 use sql_model::Name;
+use std::alloc::Global;
 
 /// Appends all columns of the innermost block.
 #[tactic(auto, using(crate::proofs::Columns::stars))]
-pub fn add_star(values: &mut Vec<RVal>, at: u32, levels: &Levels) -> Result<(), ScopeFault>
+pub fn add_star(
+    items: &mut Items<RVal>,
+    alloc: Global,
+    at: u32,
+    levels: &Levels,
+) -> Result<(), ScopeFault>
     ensures fine { OnOk result (fault_at (AStar (levels_of levels.now) at) ≡ None) }
-    ensures value { OnOk result (values.new.items ≡ values.old.items ++ star 0 (headings_here (levels_of levels.now))) }
+    ensures value { OnOk result (items.new ≡ items.old ++ star 0 (headings_here (levels_of levels.now))) }
     ensures err { IfErr result (λ f. IsCause f (fault_at (AStar (levels_of levels.now) at))) }
 {
     if levels.is_in_group() {
         return Err(refused(ScopeCode::StarInGroup, at));
     }
-    add_all(values, levels.headings())
+    add_all(items, alloc, levels.headings(), levels.runs())
 }
 
-fn add_all(values: &mut Vec<RVal>, headings: &[Heading]) -> Result<(), ScopeFault>
-    ensures value { OnOk result (values.new.items ≡ values.old.items ++ star 0 headings.now) }
+fn add_all(
+    items: &mut Items<RVal>,
+    alloc: Global,
+    headings: &[Heading],
+    runs: &Runs,
+) -> Result<(), ScopeFault>
+    ensures value { OnOk result (items.new ≡ items.old ++ star 0 headings.now) }
     ensures err { IfErr result (λ f. f ≡ fault.NoMemory) }
 {
     for (entry, heading) in headings.iter().enumerate() {
-        add_columns(values, entry, heading.columns())?;
+        add_columns(items, alloc, entry, heading.columns(), runs)?;
     }
     Ok(())
 }
@@ -43,20 +56,24 @@ fn add_all(values: &mut Vec<RVal>, headings: &[Heading]) -> Result<(), ScopeFaul
 /// Appends the columns of the first entry of this alias.
 #[tactic(auto, using(crate::proofs::Columns::stars))]
 pub fn add_alias_star(
-    values: &mut Vec<RVal>,
+    items: &mut Items<RVal>,
+    alloc: Global,
     alias: &Name,
     at: u32,
     levels: &Levels,
 ) -> Result<(), ScopeFault>
     ensures fine { OnOk result (fault_at (AnAliasStar alias.now (levels_of levels.now) at) ≡ None) }
-    ensures value { OnOk result (values.new.items ≡ values.old.items ++ alias_star alias.now 0 (headings_here (levels_of levels.now))) }
+    ensures value { OnOk result (items.new ≡ items.old ++ alias_star alias.now 0 (headings_here (levels_of levels.now))) }
     ensures err { IfErr result (λ f. IsCause f (fault_at (AnAliasStar alias.now (levels_of levels.now) at))) }
 {
     if levels.is_in_group() {
         return Err(refused(ScopeCode::StarInGroup, at));
     }
     match find_alias(alias, levels.headings()) {
-        Some(entry) => add_columns(values, entry, levels.headings()[entry].columns()),
+        Some(entry) => {
+            let columns = levels.headings()[entry].columns();
+            add_columns(items, alloc, entry, columns, levels.runs())
+        }
         None => Err(refused(ScopeCode::UnknownAlias, at)),
     }
 }
@@ -76,15 +93,42 @@ fn find_alias(alias: &Name, headings: &[Heading]) -> Option<usize>
     None
 }
 
-/// Appends the columns of an entry.
-fn add_columns(values: &mut Vec<RVal>, entry: usize, columns: &Columns) -> Result<(), ScopeFault>
-    ensures value { OnOk result (values.new.items ≡ values.old.items ++ entry_columns entry 0 columns.now) }
+/// Appends the columns of an entry, in pieces that stars share.
+fn add_columns(
+    items: &mut Items<RVal>,
+    alloc: Global,
+    entry: usize,
+    columns: &Columns,
+    runs: &Runs,
+) -> Result<(), ScopeFault>
+    ensures value { OnOk result (items.new ≡ items.old ++ entry_columns entry 0 columns.now) }
     ensures err { IfErr result (λ f. f ≡ fault.NoMemory) }
 {
     let entry = number(entry)?;
-    for column in 0..columns.len() {
-        let col = number(column)?;
-        values.push(RVal::Col { up: 0, entry, col })?;
+    let end = number(columns.len())?;
+    let mut first = 0;
+    while first < end {
+        let count = piece(end - first);
+        let run = Run {
+            entry,
+            first,
+            count,
+        };
+        items.append_shared(alloc, runs.columns(alloc, run)?)?;
+        first += count;
     }
     Ok(())
+}
+
+/// The greatest power of two that is not above a count. Pieces of such lengths begin at multiples of them, so few differ.
+fn piece(count: u32) -> u32
+    requires { 0 < count }
+    ensures some { 0 < result }
+    ensures within { result ≤ count }
+{
+    let mut length = 1;
+    while length <= count - length {
+        length += length;
+    }
+    length
 }

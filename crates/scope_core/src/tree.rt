@@ -1,6 +1,7 @@
 //! Queries after names have been resolved. Blocks are counted outwards from 0, the innermost first; entries of FROM, columns
 //! of an entry, columns of a group, base tables and views are counted from 0.
 
+use crate::items::Items;
 use plain_data::{Boxed, List};
 use sql_model::{AggFun, SetOp};
 
@@ -98,7 +99,7 @@ pub struct RBlock {
     pub grouping: Grouping,
     pub having: Option<RCond>,
     /// One value for each column of the answer.
-    pub items: List<RVal>,
+    pub items: Items<RVal>,
 }
 
 /// A query expression.

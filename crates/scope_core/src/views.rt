@@ -25,6 +25,7 @@ use crate::level::Levels;
 use crate::names::Columns;
 use crate::resolution::resolve_query;
 use crate::resolved::{Resolved, Views};
+use crate::run::Runs;
 use plain_data::List;
 use sql_model::{Name, Query, Relation, Schema};
 use std::alloc::Global;
@@ -40,8 +41,9 @@ pub fn resolve_views(alloc: Global, schema: &Schema) -> Result<Views, ScopeFault
 {
     let mut known = Vec::with_capacity(alloc, schema.relations.len())?;
     let mut trees = Vec::new(alloc);
+    let runs = Runs::new(alloc);
     for (name, relation) in schema.relations.iter() {
-        add_relation(&mut known, &mut trees, alloc, name, relation)?;
+        add_relation(&mut known, &mut trees, alloc, &runs, name, relation)?;
     }
     Ok(Views::new(List::from_vec(trees)))
 }
@@ -66,7 +68,7 @@ pub fn resolve<'a>(
     ensures err { IfErr result (λ f. IsCause f (query_fault schema.now query.now)) }
 {
     let known = known_relations(alloc, schema)?;
-    resolve_over(alloc, query, known.as_slice())
+    resolve_over(alloc, query, known.as_slice(), &Runs::new(alloc))
 }
 
 /// A query that stands by itself, over these relations.
@@ -75,14 +77,15 @@ fn resolve_over<'k, 'a>(
     alloc: Global,
     query: &'a Query,
     known: &'k [Known<'a>],
+    runs: &Runs,
 ) -> Result<Resolved, ScopeFault>
     ensures fine { IfOk result (λ tree. fault_within (relations_of known.now) [] query.now ≡ None) }
     ensures value { IfOk result (λ tree. tree ≡ resolved query.now (relations_of known.now) []) }
     ensures err { IfErr result (λ f. IsCause f (fault_within (relations_of known.now) [] query.now)) }
 {
-    let outside: Levels<'k, 'k, 'a> = Levels::Outside;
+    let outside = Levels::Outside { runs };
     let query = resolve_query(alloc, query, known, &outside)?;
-    Resolved::new(query.tree)
+    Resolved::new(query.tree.into_inner())
 }
 
 /// Appends a relation to those that are known, and its tree where it is a view.
@@ -91,6 +94,7 @@ fn add_relation<'a>(
     known: &mut Vec<Known<'a>>,
     trees: &mut Vec<Resolved>,
     alloc: Global,
+    runs: &Runs,
     name: &'a Name,
     relation: &'a Relation,
 ) -> Result<(), ScopeFault>
@@ -105,7 +109,7 @@ fn add_relation<'a>(
             known.push(table)?;
         }
         Relation::View { query, at } => {
-            let tree = resolve_over(alloc, query, known.as_slice())?;
+            let tree = resolve_over(alloc, query, known.as_slice(), runs)?;
             let view = known_view(alloc, name, query, known.as_slice(), trees.len())?;
             check_names(&view.columns, *at)?;
             known.push(view)?;

@@ -22,7 +22,7 @@ use Rattle.u_terms.specs.Binding.{closed_at}
 use Rattle.u_terms.proofs.Products as products
 use Rattle.u_terms.proofs.Products.{product_by, product_by-append}
 use Rattle.u_terms.proofs.Agreement.{get_or-put_same, list_below-same}
-use Rattle.u_terms.proofs.Meanings.{meaning-Zero, meaning-One, meaning-Add, meaning-Mul, meaning-Squash, meaning-Not, meaning-Eq, meaning-Free}
+use Rattle.u_terms.proofs.Meanings.{meaning-Zero, meaning-Add, meaning-Mul, meaning-Squash, meaning-Not, meaning-Eq, meaning-Free}
 use Rattle.u_terms.proofs.OverNames.{AgreeBelow, AgreeBelow-trans, put-agree, put_rows, put_rows-agree, aggregate-means}
 use Rattle.scope_core.proofs.RowsFit.{Fits}
 use Rattle.scope_core.specs.Scope.{Place}

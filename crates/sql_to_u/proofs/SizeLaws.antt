@@ -1,5 +1,5 @@
 -- The sizes of trees as code seeks them.
-use Rattle.std.proofs.Common.{◌≡◌, ℕ, zero, suc, ◌+◌, ◌<◌, ◌≤◌, min, Bool, List, [], ◌∷◌, length, drop, get_or, Option, Some, None, refl, ap, sym, subst, ◌∙◌, arith}
+use Rattle.std.proofs.Common.{◌≡◌, ℕ, zero, suc, ◌+◌, ◌-◌, ◌<◌, ◌≤◌, min, Bool, List, [], ◌∷◌, ◌++◌, length, drop, get_or, Option, Some, None, refl, ap, sym, subst, ◌∙◌, arith}
 use Rattle.sql_model.specs.Syntax.{AggFun, SetOp}
 use Rattle.sql_model.specs.Aggregates.{counts_rows}
 use Rattle.scope_core.specs.Scope.{Place}
@@ -12,9 +12,12 @@ use Rattle.scope_core.specs.declared.tree.RBlock.{roll-RBlock, out-RBlock, roll-
 use Rattle.scope_core.specs.declared.tree.REntry.{REntry}
 use Rattle.scope_core.specs.Syntax.{RVal, RCond, RBlock, RQuery, Grouping}
 use Rattle.scope_core.specs.Width.{width}
+use Rattle.scope_core.specs.Written.{written}
 use Rattle.scope_core.specs.Compute.{everything}
 use Rattle.std.proofs.Math.Seq.{drop-cons}
+use denote.Param.Weighed.{most, most-append}
 use Rattle.std.specs.Prelude.{slice_get}
+use Rattle.std.proofs.lemmas.Option.{same_Some}
 use Rattle.std.proofs.lemmas.List.{drop_all}
 use Rattle.std.proofs.lemmas.Option.{slice_get_within, get_or_from_slice_get}
 use Rattle.sql_to_u.proofs.Places.{none-past}
@@ -267,19 +270,25 @@ module _ (views : List Size) where
     keys-is columns row e = subst (λ x. block_size views x row ≡ keys_size views columns b row) (rolled-as (g.Keys columns) e)
         (keys-rolled columns (out-RBlock b).distinct (out-RBlock b).entries (out-RBlock b).conds (out-RBlock b).having (out-RBlock b).items row)
 
-    -- of a list that code has looked into
-    pub scalar-none : (xs : List RVal) → xs ≡ (out-RBlock b).items → length xs < 1 → scalar_size views b ≡ leaf
-    scalar-none [] is h = subst (λ x. scalar_size views x ≡ leaf) (items-as [] (sym is))
+    without_items : (xs : List RVal) → (out-RBlock b).items ≡ xs → slice_get xs 0 ≡ None → scalar_size views b ≡ leaf
+    without_items [] is none = subst (λ x. scalar_size views x ≡ leaf) (items-as [] is)
         (scalar-empty-rolled (out-RBlock b).grouping (out-RBlock b).distinct (out-RBlock b).entries (out-RBlock b).conds (out-RBlock b).having)
-    scalar-none (x ∷ xs) is h = absurd (omega (arith, h))
+    without_items (x ∷ xs) is none = cc
 
-    pub scalar-some : (xs : List RVal) (e : RVal) → xs ≡ (out-RBlock b).items → 1 ≤ length xs → e ≡ get_or xs 0 e
+    with_items : (xs : List RVal) (e : RVal) → (out-RBlock b).items ≡ xs → slice_get xs 0 ≡ Some e
         → scalar_size views b ≡ value_size views e (group_size views b (joined_size views b))
-    scalar-some [] e is h f = absurd (omega (arith, h))
-    scalar-some (x ∷ xs) e is h f =
-        subst (λ y. scalar_size views y ≡ value_size views x (group_size views b (joined_size views b))) (items-as (x ∷ xs) (sym is))
+    with_items [] e is some = cc
+    with_items (x ∷ xs) e is some =
+        subst (λ y. scalar_size views y ≡ value_size views x (group_size views b (joined_size views b))) (items-as (x ∷ xs) is)
         (scalar-rolled (out-RBlock b).grouping (out-RBlock b).distinct (out-RBlock b).entries (out-RBlock b).conds (out-RBlock b).having x xs)
-        ∙ ap (λ y. value_size views y (group_size views b (joined_size views b))) (sym f)
+        ∙ ap (λ y. value_size views y (group_size views b (joined_size views b))) (same_Some x e some)
+
+    -- where code has looked for a first item
+    pub scalar-none : slice_get (out-RBlock b).items 0 ≡ None → scalar_size views b ≡ leaf
+    scalar-none none = without_items (out-RBlock b).items refl none
+
+    pub scalar-some : (e : RVal) → slice_get (out-RBlock b).items 0 ≡ Some e → scalar_size views b ≡ value_size views e (group_size views b (joined_size views b))
+    scalar-some e some = with_items (out-RBlock b).items e refl some
 
 -- ---- loops
 -- one more of a list whose members each give a factor
@@ -314,6 +323,10 @@ keys-step ks i made made' whole h step invariant = rw step (ap (with_factors mad
 pub keys-end : (ks : List Place) (i : ℕ) (made whole : Product) → length ks ≤ i → with_factors made (key_sizes (drop i ks)) ≡ whole → made ≡ whole
 keys-end ks i made whole h invariant = sym (ap (λ xs. with_factors made (key_sizes xs)) (drop_all i ks h)) ∙ invariant
 
+pub factors-both : (made : Product) (xs ys : List Size) → with_factors made (xs ++ ys) ≡ with_factors (with_factors made xs) ys
+factors-both made [] ys = refl
+factors-both made (x ∷ xs) ys = factors-both (with_factor made x) xs ys
+
 -- ---- items beside a row
 pub leaf-there : (count i : ℕ) → i < count → Some leaf ≡ slice_get (leaves count) i
 leaf-there zero i h = absurd (omega (arith, h))
@@ -330,6 +343,17 @@ one-past s zero h = absurd (omega (arith, h))
 one-past s (suc i) h = refl
 
 pub ruleset in_rows = (leaf-there, leaf-past, one-past)
+
+pub leaves-after : (wide count : ℕ) → leaves (wide - count) ≡ drop count (leaves wide)
+leaves-after wide zero = let e : wide - 0 ≡ wide = omega arith in rw e refl
+leaves-after zero (suc count) = let e : 0 - suc count ≡ 0 = omega arith in rw e refl
+leaves-after (suc wide) (suc count) = let e : suc wide - suc count ≡ wide - count = omega arith in rw e (leaves-after wide count)
+
+pub one-after : (s : Size) (count : ℕ) → 1 ≤ count → leaves 0 ≡ drop count (s ∷ [])
+one-after s zero h = absurd (omega (arith, h))
+one-after s (suc count) h = sym (drop_all count [] (omega arith))
+
+pub ruleset rests = (leaves-after, one-after)
 
 module _ (views : List Size) (members : GroupSize) where
   abbrev pub items_from : List RVal → List Size → ℕ → List Size
@@ -361,6 +385,49 @@ module _ (views : List Size) (members : GroupSize) where
   item-end items row i made whole h invariant =
       let d : drop i items ≡ [] = drop_all i items h in
       sym (ap (with_factors made) (ap (λ es. item_sizes_listed views members es (drop i row)) d ∙ items-nil views members (drop i row))) ∙ invariant
+
+  -- ---- items in parts
+  pub items-both : (xs ys : List RVal) (row : List Size)
+      → item_sizes_listed views members (xs ++ ys) row ≡ item_sizes_listed views members xs row ++ item_sizes_listed views members ys (drop (length xs) row)
+  items-both [] ys row = ap (λ before. before ++ item_sizes_listed views members ys row) (sym (items-nil views members row))
+  items-both (x ∷ xs) ys [] =
+      let d : drop (length (x ∷ xs)) [] ≡ [] = drop_all (length (x ∷ xs)) [] (omega arith) in
+      items-none views members (x ∷ xs ++ ys)
+      ∙ sym ((λ j. items-none views members (x ∷ xs) j ++ item_sizes_listed views members ys (d j)) ∙ items-none views members ys)
+  items-both (x ∷ xs) ys (s ∷ row) =
+      items-cons views members x (xs ++ ys) s row
+      ∙ (ap (λ rest. both (value_size views x members) s ∷ rest) (items-both xs ys row)
+      ∙ ap (λ before. before ++ item_sizes_listed views members ys (drop (length xs) row)) (sym (items-cons views members x xs s row)))
+
+  pub part-step : (parts : List (List RVal)) (i : ℕ) (part last : List RVal) (row row' : List Size) (made made' whole : Product)
+      → i < length parts → part ≡ get_or parts i part → made' ≡ with_factors made (item_sizes_listed views members part row) → row' ≡ drop (length part) row
+      → with_factors made (item_sizes_listed views members (written (drop i parts) last) row) ≡ whole
+      → with_factors made' (item_sizes_listed views members (written (drop (i + 1) parts) last) row') ≡ whole
+  part-step parts i part last row row' made made' whole h is step rest invariant =
+      let after = written (drop (i + 1) parts) last in
+      rw (step, rest) (sym (factors-both made (item_sizes_listed views members part row) (item_sizes_listed views members after (drop (length part) row)))
+      ∙ (ap (with_factors made) (sym (items-both part after row)
+      ∙ ap (λ xs. item_sizes_listed views members (written xs last) row) (sym (drop-head parts i part h is)))
+      ∙ invariant))
+
+  pub part-end : (parts : List (List RVal)) (i : ℕ) (last : List RVal) (row : List Size) (made whole : Product)
+      → length parts ≤ i → with_factors made (item_sizes_listed views members (written (drop i parts) last) row) ≡ whole
+      → with_factors made (item_sizes_listed views members last row) ≡ whole
+  part-end parts i last row made whole h invariant =
+      let d : drop i parts ≡ [] = drop_all i parts h in
+      ap (λ xs. with_factors made (item_sizes_listed views members (written xs last) row)) (sym d) ∙ invariant
+
+-- ---- a part of a row is no deeper than the row
+pub part-most : {X : Type 0} (depth : X → ℕ) (parts : List (List X)) (last : List X) (i : ℕ) (part : List X) → i < length parts → part ≡ get_or parts i part
+    → most depth part ≤ most depth (written parts last)
+part-most depth [] last i part h is = absurd (omega (arith, h))
+part-most depth (x ∷ rest) last zero part h is = let b = most-append depth x (written rest last) in let w = ap (most depth) is in omega (arith, b, w)
+part-most depth (x ∷ rest) last (suc i) part h is =
+    let b = most-append depth x (written rest last) in let r = part-most depth rest last i part (omega (arith, h)) is in omega (arith, b, r)
+
+pub last-most : {X : Type 0} (depth : X → ℕ) (parts : List (List X)) (last : List X) → most depth last ≤ most depth (written parts last)
+last-most depth [] last = omega arith
+last-most depth (part ∷ rest) last = let b = most-append depth part (written rest last) in let r = last-most depth rest last in omega (arith, b, r)
 
 -- ---- values
 module _ (views : List Size) (members : GroupSize) where

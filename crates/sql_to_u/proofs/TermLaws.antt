@@ -1,6 +1,8 @@
 -- The terms of trees as code builds them.
 use Rattle.std.proofs.Common.{◌≡◌, ℕ, suc, ◌+◌, ◌<◌, ◌≤◌, Bool, List, [], ◌∷◌, ◌++◌, length, drop, take, get_or, Option, Some, None, refl, ap, sym, subst, ◌∙◌, arith}
 use Rattle.std.proofs.Math.Seq.{drop-cons}
+use Rattle.std.proofs.lemmas.Option.{same_Some}
+use Rattle.std.specs.Prelude.{slice_get}
 use Rattle.std.proofs.lemmas.List.{drop_all, append-nil, append_assoc}
 use Rattle.sql_model.specs.Syntax.{AggFun, SetOp}
 use Rattle.sql_model.specs.Aggregates.{counts_rows, number_of}
@@ -18,6 +20,7 @@ use Rattle.scope_core.specs.declared.tree.RBlock.{roll-RBlock, out-RBlock, roll-
 use Rattle.scope_core.specs.declared.tree.REntry.{REntry}
 use Rattle.scope_core.specs.Syntax.{RVal, RCond, RBlock, RQuery, Grouping}
 use Rattle.scope_core.specs.Width.{width}
+use Rattle.scope_core.specs.Written.{written}
 use Rattle.scope_core.specs.Compute.{everything}
 use Rattle.scope_core.proofs.Lists.{at-head, at-end, drop-head}
 use Rattle.sql_to_u.specs.Factors.{sum_of, over_names, squash_if, combined_terms, names_from}
@@ -246,19 +249,26 @@ module _ (views : List TermAt) (scope : Scope) where
         ap (λ x. roll-RBlock (record { distinct = (out-RBlock b).distinct; entries = (out-RBlock b).entries; conds = (out-RBlock b).conds; grouping = (out-RBlock b).grouping; having = (out-RBlock b).having; items = x })) (sym e)
         ∙ roll-out-RBlock b
 
-    -- of a list that code has looked into
-    pub scalar-none : (xs : List RVal) (next : ℕ) → xs ≡ (out-RBlock b).items → length xs < 1 → scalar_term views b scope next ≡ w.Lit 0
-    scalar-none [] next is h = subst (λ x. scalar_term views x scope next ≡ w.Lit 0) (items-as [] (sym is))
+    without_items : (xs : List RVal) (next : ℕ) → (out-RBlock b).items ≡ xs → slice_get xs 0 ≡ None → scalar_term views b scope next ≡ w.Lit 0
+    without_items [] next is none = subst (λ x. scalar_term views x scope next ≡ w.Lit 0) (items-as [] is)
         (scalar-empty-rolled (out-RBlock b).grouping (out-RBlock b).distinct (out-RBlock b).entries (out-RBlock b).conds (out-RBlock b).having next)
-    scalar-none (x ∷ xs) next is h = absurd (omega (arith, h))
+    without_items (x ∷ xs) next is none = cc
 
-    pub scalar-some : (xs : List RVal) (e : RVal) (next : ℕ) → xs ≡ (out-RBlock b).items → 1 ≤ length xs → e ≡ get_or xs 0 e
+    with_items : (xs : List RVal) (e : RVal) (next : ℕ) → (out-RBlock b).items ≡ xs → slice_get xs 0 ≡ Some e
         → scalar_term views b scope next ≡ value_term views e (grouped_scope views b [] next scope) next
-    scalar-some [] e next is h f = absurd (omega (arith, h))
-    scalar-some (x ∷ xs) e next is h f =
-        subst (λ y. scalar_term views y scope next ≡ value_term views x (grouped_scope views b [] next scope) next) (items-as (x ∷ xs) (sym is))
+    with_items [] e next is some = cc
+    with_items (x ∷ xs) e next is some =
+        subst (λ y. scalar_term views y scope next ≡ value_term views x (grouped_scope views b [] next scope) next) (items-as (x ∷ xs) is)
         (scalar-rolled (out-RBlock b).grouping (out-RBlock b).distinct (out-RBlock b).entries (out-RBlock b).conds (out-RBlock b).having x xs next)
-        ∙ ap (λ y. value_term views y (grouped_scope views b [] next scope) next) (sym f)
+        ∙ ap (λ y. value_term views y (grouped_scope views b [] next scope) next) (same_Some x e some)
+
+    -- where code has looked for a first item
+    pub scalar-none : (next : ℕ) → slice_get (out-RBlock b).items 0 ≡ None → scalar_term views b scope next ≡ w.Lit 0
+    scalar-none next none = without_items (out-RBlock b).items next refl none
+
+    pub scalar-some : (e : RVal) (next : ℕ) → slice_get (out-RBlock b).items 0 ≡ Some e
+        → scalar_term views b scope next ≡ value_term views e (grouped_scope views b [] next scope) next
+    scalar-some e next some = with_items (out-RBlock b).items e next refl some
 
   pub sources-step : (es : List REntry) (i : ℕ) (e : REntry) (first next : ℕ) (made made' whole : List U) → i < length es → e ≡ get_or es i e
       → made' ≡ made ++ source_term views e.source scope (names_from first e.width) next ∷ [] → made ++ source_terms_listed views scope (drop i es) first next ≡ whole
@@ -300,6 +310,38 @@ module _ (views : List TermAt) (scope : Scope) where
   item-end items row next i made whole h invariant =
       let d : drop i items ≡ [] = drop_all i items h in
       sym (append-nil made) ∙ (ap (λ r. made ++ r) (sym (ap (λ es. item_factors_listed views scope es (drop i row) next) d ∙ items-nil next (drop i row))) ∙ invariant)
+
+  -- ---- items in parts
+  pub items-both : (next : ℕ) (xs ys : List RVal) (row : List Val)
+      → item_factors_listed views scope (xs ++ ys) row next
+      ≡ item_factors_listed views scope xs row next ++ item_factors_listed views scope ys (drop (length xs) row) next
+  items-both next [] ys row = ap (λ before. before ++ item_factors_listed views scope ys row next) (sym (items-nil next row))
+  items-both next (x ∷ xs) ys [] =
+      let d : drop (length (x ∷ xs)) [] ≡ [] = drop_all (length (x ∷ xs)) [] (omega arith) in
+      items-none next (x ∷ xs ++ ys)
+      ∙ sym ((λ j. items-none next (x ∷ xs) j ++ item_factors_listed views scope ys (d j) next) ∙ items-none next ys)
+  items-both next (x ∷ xs) ys (a ∷ row) =
+      items-cons next x (xs ++ ys) a row
+      ∙ (ap (λ rest. u.Eq (value_term views x scope next) a ∷ rest) (items-both next xs ys row)
+      ∙ ap (λ before. before ++ item_factors_listed views scope ys (drop (length xs) row) next) (sym (items-cons next x xs a row)))
+
+  pub part-step : (parts : List (List RVal)) (i : ℕ) (part last : List RVal) (row row' : List Val) (next : ℕ) (made made' whole : List U)
+      → i < length parts → part ≡ get_or parts i part → made' ≡ made ++ item_factors_listed views scope part row next → row' ≡ drop (length part) row
+      → made ++ item_factors_listed views scope (written (drop i parts) last) row next ≡ whole
+      → made' ++ item_factors_listed views scope (written (drop (i + 1) parts) last) row' next ≡ whole
+  part-step parts i part last row row' next made made' whole h is step rest invariant =
+      let after = written (drop (i + 1) parts) last in
+      rw (step, rest) (append_assoc made (item_factors_listed views scope part row next) (item_factors_listed views scope after (drop (length part) row) next)
+      ∙ (ap (λ r. made ++ r) (sym (items-both next part after row)
+      ∙ ap (λ xs. item_factors_listed views scope (written xs last) row next) (sym (drop-head parts i part h is)))
+      ∙ invariant))
+
+  pub part-end : (parts : List (List RVal)) (i : ℕ) (last : List RVal) (row : List Val) (next : ℕ) (made whole : List U)
+      → length parts ≤ i → made ++ item_factors_listed views scope (written (drop i parts) last) row next ≡ whole
+      → made ++ item_factors_listed views scope last row next ≡ whole
+  part-end parts i last row next made whole h invariant =
+      let d : drop i parts ≡ [] = drop_all i parts h in
+      ap (λ xs. made ++ item_factors_listed views scope (written xs last) row next) (sym d) ∙ invariant
 
 pub ruleset queries = (query-Block, query-Set)
 

@@ -1,6 +1,8 @@
 -- How much work the building of a tree's term has left: the weights of the views below, of the node, and of the entries and conditions of the
 -- groups around, added up.
-use Rattle.std.proofs.Common.{◌≡◌, ℕ, zero, suc, ◌+◌, ◌<◌, ◌≤◌, Bool, List, [], ◌∷◌, length, take, get_or, Option, Some, None, refl, ap, sym, subst, ◌∙◌, arith}
+use Rattle.std.proofs.Common.{◌≡◌, ℕ, zero, suc, ◌+◌, ◌<◌, ◌≤◌, Bool, List, [], ◌∷◌, ◌++◌, length, take, get_or, Option, Some, None, refl, ap, sym, ◌∙◌, arith}
+use Rattle.std.specs.Prelude.{slice_get}
+use Rattle.std.proofs.lemmas.Option.{same_Some}
 use Rattle.sql_model.specs.Syntax.{AggFun, SetOp}
 use Rattle.scope_core.specs.Syntax.{Col, Key, Lit, Fun, Agg, Sub, Values, NoValues, ValueThen, MaybeArgument, NoArgument, AnArgument, Eq, Pred, And, Or, Not, Exists, In, Conditions, NoConditions, ConditionThen, MaybeCondition, NoCondition, ACondition, RSource, Table, View, Derived, Entries, NoEntries, EntryThen, Select, OfBlock, Set, RVal, RCond, RBlock, RQuery, Grouping}
 use Rattle.scope_core.specs.declared.tree.RCond.TheBlock as t
@@ -11,6 +13,7 @@ use Rattle.scope_core.specs.declared.tree.RQuery.TheVariants as q
 use Rattle.scope_core.specs.declared.tree.RBlock.{roll-RBlock, out-RBlock, roll-out-RBlock}
 use Rattle.scope_core.specs.declared.tree.REntry.{REntry}
 use Rattle.scope_core.specs.Compute.{everything}
+use Rattle.scope_core.specs.Written.{written}
 use Rattle.sql_to_u.specs.declared.scope.Scope.{Scope as LentScope}
 use Rattle.sql_to_u.specs.declared.scope.Scope.TheVariants as around
 use Rattle.sql_to_u.specs.Answer.{over_earlier}
@@ -183,6 +186,10 @@ module _ (views : List ℕ) where
   unfolding everything query_weight values_left
   values-more e es = refl
 
+  values-none : values_left [] ≡ 0
+  unfolding everything query_weight values_left
+  values-none = refl
+
   pub entry-in : (es : List REntry) (i : ℕ) (e : REntry) → i < length es → e ≡ get_or es i e → source_weight e.source < entries_left es
   entry-in [] i e h is = absurd (omega (arith, h))
   entry-in (x ∷ es) zero e h is = let m = entries-more x es in let w = ap (λ (y : REntry). source_weight y.source) is in omega (arith, m, w)
@@ -198,8 +205,24 @@ module _ (views : List ℕ) where
   value-in (x ∷ es) zero e h is = let m = values-more x es in let w = ap value_weight is in omega (arith, m, w)
   value-in (x ∷ es) (suc i) e h is = let m = values-more x es in let r = value-in es i e (omega (arith, h)) is in omega (arith, m, r)
 
-  pub first-in : (b : RBlock) (es : List RVal) (e : RVal) → es ≡ (out-RBlock b).items → 1 ≤ length es → e ≡ get_or es 0 e → value_weight e < values_left (out-RBlock b).items
-  first-in b es e items some is = subst (λ xs. value_weight e < values_left xs) items (value-in es 0 e (omega (arith, some)) is)
+  values-both : (xs ys : List RVal) → values_left (xs ++ ys) ≡ values_left xs + values_left ys
+  values-both [] ys = let n = values-none in omega (arith, n)
+  values-both (x ∷ xs) ys = let m = values-more x xs in let w = values-more x (xs ++ ys) in let r = values-both xs ys in omega (arith, m, w, r)
+
+  pub last-in : (parts : List (List RVal)) (last : List RVal) → values_left last ≤ values_left (written parts last)
+  last-in [] last = omega arith
+  last-in (part ∷ rest) last = let b = values-both part (written rest last) in let r = last-in rest last in omega (arith, b, r)
+
+  pub part-in : (parts : List (List RVal)) (last : List RVal) (i : ℕ) (part : List RVal) → i < length parts → part ≡ get_or parts i part
+      → values_left part ≤ values_left (written parts last)
+  part-in [] last i part h is = absurd (omega (arith, h))
+  part-in (x ∷ rest) last zero part h is = let b = values-both x (written rest last) in let w = ap values_left is in omega (arith, b, w)
+  part-in (x ∷ rest) last (suc i) part h is =
+      let b = values-both x (written rest last) in let r = part-in rest last i part (omega (arith, h)) is in omega (arith, b, r)
+
+  pub first-in : (es : List RVal) (e : RVal) → slice_get es 0 ≡ Some e → value_weight e < values_left es
+  first-in [] e some = cc
+  first-in (x ∷ es) e some = let m = values-more x es in let w = ap value_weight (same_Some x e some) in omega (arith, m, w)
 
   -- ---- the weights at what code looks into
   pub ruleset queries = (query-Block, query-Set)

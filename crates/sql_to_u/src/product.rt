@@ -1,5 +1,5 @@
 //! The sizes of products, factor by factor.
-ghost use Rattle.std.specs.Prelude.{◌≡◌, slice_get};
+ghost use Rattle.std.specs.Prelude.{◌≡◌, drop, slice_get};
 ghost use Rattle.sql_to_u.specs.Sizes.{finished, no_members, with_factor};
 ghost use Rattle.sql_to_u.specs.Listed.{row_sizes};
 
@@ -108,6 +108,22 @@ impl Row {
                     return Some(size);
                 }
                 None
+            }
+        }
+    }
+
+    /// The values behind the first `count`.
+    #[tactic(auto, using(crate::proofs::SizeLaws::rests))]
+    pub fn after(self, count: usize) -> Row
+        ensures { row_sizes result ≡ drop count (row_sizes self) }
+    {
+        match self {
+            Row::Names(wide) => Row::Names(wide.saturating_sub(count)),
+            Row::One(size) => {
+                if count == 0 {
+                    return Row::One(size);
+                }
+                Row::Names(0)
             }
         }
     }

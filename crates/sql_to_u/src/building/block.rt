@@ -82,7 +82,7 @@ fn plain_term(
         outer: &*scope,
     };
     let mut factors = joined(alloc, &*block, &*scope, next, views)?;
-    let items = block.items.as_slice();
+    let items = &block.items;
     add_items(&mut factors, alloc, items, &rows, row, after, views)?;
     let product = product(alloc, factors)?;
     let term = over_names(alloc, next, count, product)?;
@@ -111,7 +111,7 @@ fn one_term(
     };
     let mut factors = Vec::new(alloc);
     add_having(&mut factors, alloc, &block.having, &inside, next, views)?;
-    let items = block.items.as_slice();
+    let items = &block.items;
     add_items(&mut factors, alloc, items, &inside, row, next, views)?;
     let term = product(alloc, factors)?;
     squash_if(alloc, block.distinct, term)
@@ -145,7 +145,7 @@ fn keys_term(
     let mut factors = Vec::new(alloc);
     factors.push(some)?;
     add_having(&mut factors, alloc, &block.having, &inside, inner, views)?;
-    let items = block.items.as_slice();
+    let items = &block.items;
     add_items(&mut factors, alloc, items, &inside, row, inner, views)?;
     let product = product(alloc, factors)?;
     let groups = over_names(alloc, next, count, product)?;

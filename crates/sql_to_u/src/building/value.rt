@@ -1,5 +1,5 @@
 //! Values and items.
-ghost use Rattle.std.specs.Prelude.{◌≡◌, ◌++◌, IfOk, OnOk};
+ghost use Rattle.std.specs.Prelude.{◌≡◌, ◌++◌, IfOk, OnOk, drop};
 ghost use Rattle.sql_to_u.specs.TermLists.{item_factors_listed, scope_within, terms_of, value_terms_listed};
 ghost use Rattle.sql_to_u.specs.Translation.{scalar_term, value_term};
 
@@ -9,13 +9,50 @@ use crate::factors::{close, squash_if};
 use crate::naming::name_after;
 use crate::scope::{Group, Scope, first_at, key_of};
 use plain_data::List;
-use scope_core::{NoMemory, RBlock, RVal, Resolved};
+use scope_core::items::Parts;
+use scope_core::{Items, NoMemory, RBlock, RVal, Resolved};
 use std::alloc::Global;
 use u_terms::{Boxed, U, Val};
 
 /// Appends the equalities of the items with the values of a row.
 #[cycle(build)]
 pub fn add_items(
+    factors: &mut Vec<U>,
+    alloc: Global,
+    items: &Items<RVal>,
+    scope: &Scope,
+    row: &[Val],
+    next: u32,
+    views: &[Resolved],
+) -> Result<(), NoMemory>
+    ensures { OnOk result (factors.new.items ≡ factors.old.items ++ item_factors_listed (terms_of views.now) (scope_within views.now scope.now) items.now row.now next) }
+{
+    let Parts {
+        before: front,
+        last,
+    } = items.parts();
+    let mut rest = row;
+    for part in front {
+        let values = part.get().as_slice();
+        add_values(factors, alloc, values, scope, rest, next, views)?;
+        rest = after(rest, values.len());
+    }
+    add_values(factors, alloc, last, scope, rest, next, views)
+}
+
+/// The values behind the first `count`.
+fn after(row: &[Val], count: usize) -> &[Val]
+    ensures { result.now ≡ drop count row.now }
+{
+    if count <= row.len() {
+        return &row[count..];
+    }
+    &[]
+}
+
+/// The same of values that stand in one slice.
+#[cycle(build)]
+fn add_values(
     factors: &mut Vec<U>,
     alloc: Global,
     items: &[RVal],
@@ -100,9 +137,9 @@ fn scalar_term(
 ) -> Result<Val, NoMemory>
     ensures { IfOk result (λ t. t ≡ scalar_term (terms_of views.now) block.now (scope_within views.now scope.now) next) }
 {
-    match block.items.as_slice() {
-        [] => Ok(Val::Lit(0)),
-        [item, ..] => {
+    match block.items.first() {
+        None => Ok(Val::Lit(0)),
+        Some(item) => {
             let inside = Scope::Group {
                 group: Group {
                     block: &*block,

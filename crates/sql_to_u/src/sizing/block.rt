@@ -45,8 +45,7 @@ fn plain_size(block: &RBlock, row: Row, views: &[Size]) -> Size
     ensures { result ≡ plain_size views.now block.now (row_sizes row) }
 {
     let joined = joined_size(block, views);
-    let items = block.items.as_slice();
-    let factors = add_items(joined, items, no_group(), row, views);
+    let factors = add_items(joined, &block.items, no_group(), row, views);
     let sums = count_columns(block.entries.as_slice());
     squash_if(block.distinct, over(sums, factors.size()))
 }
@@ -57,7 +56,7 @@ fn one_size(block: &RBlock, row: Row, views: &[Size]) -> Size
 {
     let group = group_size(block, joined_size(block, views));
     let having = add_having(Product::Empty, &block.having, group, views);
-    let factors = add_items(having, block.items.as_slice(), group, row, views);
+    let factors = add_items(having, &block.items, group, row, views);
     squash_if(block.distinct, factors.size())
 }
 
@@ -69,7 +68,7 @@ fn keys_size(block: &RBlock, key: &[(u32, u32)], row: Row, views: &[Size]) -> Si
     let group = group_size(block, members);
     let some = under(over(group.columns, group.factors.size()));
     let having = add_having(Product::Empty.with(some), &block.having, group, views);
-    let factors = add_items(having, block.items.as_slice(), group, row, views);
+    let factors = add_items(having, &block.items, group, row, views);
     squash_if(block.distinct, over(key.len() as u64, factors.size()))
 }
 

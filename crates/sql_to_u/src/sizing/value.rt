@@ -8,11 +8,37 @@ use crate::product::{GroupSize, Product, Row, no_group};
 use crate::size::{Size, beside, both, leaf, nothing, over, squash_if, under};
 use crate::sizing::block::{group_size, joined_size};
 use plain_data::Boxed;
-use scope_core::{RBlock, RVal};
+use scope_core::items::Parts;
+use scope_core::{Items, RBlock, RVal};
 
 /// The equalities of the items with the values of a row.
 #[cycle(sizes)]
 pub fn add_items(
+    before: Product,
+    items: &Items<RVal>,
+    group: GroupSize,
+    row: Row,
+    views: &[Size],
+) -> Product
+    ensures { result ≡ with_factors before (item_sizes_listed views.now group items.now (row_sizes row)) }
+{
+    let Parts {
+        before: front,
+        last,
+    } = items.parts();
+    let mut factors = before;
+    let mut rest = row;
+    for part in front {
+        let values = part.get().as_slice();
+        factors = add_values(factors, values, group, rest, views);
+        rest = rest.after(values.len());
+    }
+    add_values(factors, last, group, rest, views)
+}
+
+/// The same of values that stand in one slice.
+#[cycle(sizes)]
+fn add_values(
     before: Product,
     items: &[RVal],
     group: GroupSize,
@@ -83,8 +109,8 @@ pub fn values_size(before: Size, values: &[RVal], group: GroupSize, views: &[Siz
 fn scalar_size(block: &RBlock, views: &[Size]) -> Size
     ensures { result ≡ scalar_size views.now block.now }
 {
-    match block.items.as_slice() {
-        [] => leaf(),
-        [item, ..] => value_size(item, group_size(block, joined_size(block, views)), views),
+    match block.items.first() {
+        None => leaf(),
+        Some(item) => value_size(item, group_size(block, joined_size(block, views)), views),
     }
 }

@@ -1,4 +1,4 @@
-use Rattle.std.proofs.Common.{rules, ◌≡◌, ◌++◌, ◌∷◌, ◌+◌, ◌≤◌, ℕ, suc, List, [], None, map, drop, take, length, refl, ap, sym, subst, vec_len, arith, ◌∙◌}
+use Rattle.std.proofs.Common.{rules, ◌≡◌, ◌++◌, ◌∷◌, ◌+◌, ◌≤◌, ℕ, suc, List, [], None, map, drop, take, length, refl, ap, sym, subst, arith, ◌∙◌}
 use Rattle.std.specs.Option.{option_or}
 use Rattle.std.proofs.lemmas.List.{append_assoc, map-append, length-append}
 use Rattle.sql_model.specs.Headings.{item_columns, source_columns}
@@ -227,7 +227,7 @@ resolve_items-returns-in_err-add_item-clause-err t c =
     let xs = c.args.items.now in
     let i = c.loop-item.item-index in
     let item = c.item-item.result in
-    let count = length c.loop-item.values.items in
+    let count = length c.loop-item.values in
     let eq = at-head (items_fault K L count) xs i item c.loop-item-test.true c.item-item.is ∙ items_fault-cons K L count item (drop (i + 1) xs) in
     handed_on c.from_residual-in_err-add_item.result c.in_err-add_item.field-0.0 (λ f. IsCause f (items_fault K L 0 xs)) c.from_residual-in_err-add_item.ensures.1
     (cause-first c.in_err-add_item.field-0.0 (items_fault K L 0 xs) _ _ (sym c.loop-item.invariant.0 ∙ eq) c.in_err-add_item.ensures.err)
@@ -239,18 +239,17 @@ resolve_items-returns-in_err-check_outputs-clause-err t c =
     let xs = c.args.items.now in
     let i = c.loop-item.item-index in
     let item = c.item-item.result in
-    let count = length c.loop-item.values.items in
+    let count = length c.loop-item.values in
     let eq = at-head (items_fault K L count) xs i item c.loop-item-test.true c.item-item.is ∙ items_fault-cons K L count item (drop (i + 1) xs) in
-    let values = c.loop-item.values.items in
-    let counted : vec_len c.add_item.new.values ≡ length c.add_item.new.values.items = grind (arith, c.add_item.new.values.ok) in
-    let longer : length c.add_item.new.values.items ≡ count + length (item_columns item (headings_here L)) =
+    let values = c.loop-item.values in
+    let longer : length c.add_item.new.values ≡ count + length (item_columns item (headings_here L)) =
     ap (λ vs. length vs) c.in_ok-add_item.ensures.value
     ∙ (length-append values (resolved_item item K L) ∙ ap (λ m. count + m) (length-resolved_item item K L)) in
     let f = c.in_err-check_outputs.field-0.0 in
     let P : ℕ → Type 0 = λ m. IsCause f (fault_at (Outputs m)) in
     handed_on c.from_residual-in_err-check_outputs.result f (λ g. IsCause g (items_fault K L 0 xs)) c.from_residual-in_err-check_outputs.ensures.1
     (cause-second f (items_fault K L 0 xs) _ _ (sym c.loop-item.invariant.0 ∙ eq) c.in_ok-add_item.ensures.fine
-    (cause-first f _ _ _ refl (subst P (c.len.ensures ∙ (counted ∙ longer)) c.in_err-check_outputs.ensures.err)))
+    (cause-first f _ _ _ refl (subst P (c.len.ensures ∙ longer) c.in_err-check_outputs.ensures.err)))
 
 pub resolve_items-loop-item-preserved : goal.resolve_items-loop-item-preserved
 resolve_items-loop-item-preserved t c =
@@ -259,17 +258,16 @@ resolve_items-loop-item-preserved t c =
     let xs = c.args.items.now in
     let i = c.loop-item.item-index in
     let item = c.item-item.result in
-    let count = length c.loop-item.values.items in
+    let count = length c.loop-item.values in
     let eq = at-head (items_fault K L count) xs i item c.loop-item-test.true c.item-item.is ∙ items_fault-cons K L count item (drop (i + 1) xs) in
-    let values = c.loop-item.values.items in
-    let counted : vec_len c.add_item.new.values ≡ length c.add_item.new.values.items = grind (arith, c.add_item.new.values.ok) in
-    let longer : length c.add_item.new.values.items ≡ count + length (item_columns item (headings_here L)) =
+    let values = c.loop-item.values in
+    let longer : length c.add_item.new.values ≡ count + length (item_columns item (headings_here L)) =
     ap (λ vs. length vs) c.in_ok-add_item.ensures.value
     ∙ (length-append values (resolved_item item K L) ∙ ap (λ m. count + m) (length-resolved_item item K L)) in
     let with = count + length (item_columns item (headings_here L)) in
     let rest = items_fault K L with (drop (i + 1) xs) in
     let P : ℕ → Type 0 = λ m. fault_at (Outputs m) ≡ None in
-    let within = subst P (c.len.ensures ∙ (counted ∙ longer)) c.in_ok-check_outputs.ensures.fine in (
+    let within = subst P (c.len.ensures ∙ longer) c.in_ok-check_outputs.ensures.fine in (
       ap (λ m. items_fault K L m (drop (i + 1) xs)) longer
           ∙ (sym (eq ∙ (ap (λ o. option_or o (option_or (fault_at (Outputs with)) rest)) c.in_ok-add_item.ensures.fine ∙ ap (λ o. option_or o rest) within))
           ∙ c.loop-item.invariant.0),
@@ -281,7 +279,7 @@ pub resolve_items-returns-clause-fine : goal.resolve_items-returns-clause-fine
 resolve_items-returns-clause-fine t c =
     let K = relations_of c.args.known.now in
     let L = levels_of c.args.levels.now in
-    let count = length c.loop-item.values.items in
+    let count = length c.loop-item.values in
     sym c.loop-item.invariant.0
     ∙ (at-end (items_fault K L count) c.args.items.now c.loop-item.item-index c.loop-item-test.false ∙ items_fault-nil K L count)
 
@@ -289,8 +287,7 @@ pub resolve_items-returns-clause-value : goal.resolve_items-returns-clause-value
 resolve_items-returns-clause-value t c =
     let K = relations_of c.args.known.now in
     let L = levels_of c.args.levels.now in
-    c.from_vec.ensures
-    ∙ walk-end (items_listed K L) c.args.items.now c.loop-item.item-index _ _ c.loop-item-test.false (items_listed-nil K L tt) c.loop-item.invariant.1
+    walk-end (items_listed K L) c.args.items.now c.loop-item.item-index _ _ c.loop-item-test.false (items_listed-nil K L tt) c.loop-item.invariant.1
 
 pub add_on_conditions-returns-clause-fine : goal.add_on_conditions-returns-clause-fine
 add_on_conditions-returns-clause-fine t c =

@@ -34,5 +34,5 @@ invariant-add_on_conditions-loop-index l =
 
 abbrev pub invariant-resolve_items-loop-item : goal.invariant-resolve_items-loop-item
 invariant-resolve_items-loop-item l =
-    (items_fault (relations_of l.known) (levels_of l.levels) (length l.values.items) (drop l.item-index l.items) ≡ items_fault (relations_of l.known) (levels_of l.levels) 0 l.items)
-    × (l.values.items ++ items_listed (relations_of l.known) (levels_of l.levels) (drop l.item-index l.items) ≡ items_listed (relations_of l.known) (levels_of l.levels) l.items)
+    (items_fault (relations_of l.known) (levels_of l.levels) (length l.values) (drop l.item-index l.items) ≡ items_fault (relations_of l.known) (levels_of l.levels) 0 l.items)
+    × (l.values ++ items_listed (relations_of l.known) (levels_of l.levels) (drop l.item-index l.items) ≡ items_listed (relations_of l.known) (levels_of l.levels) l.items)

@@ -3,4 +3,4 @@ use Rattle.scope_core.specs.Resolving.{star}
 use Rattle.scope_core.proofs.star.add_all.Given as goal
 
 abbrev pub invariant-loop-entry : goal.invariant-loop-entry
-invariant-loop-entry l = l.values.items ++ star l.entry (drop l.entry l.headings) ≡ l.initial.values.items ++ star 0 l.headings
+invariant-loop-entry l = l.items ++ star l.entry (drop l.entry l.headings) ≡ l.initial.items ++ star 0 l.headings

@@ -1,13 +1,15 @@
-use Rattle.std.proofs.Common.{◌≡◌, ◌++◌, ◌∷◌, ◌+◌, [], drop, get_or, ap, sym, subst, arith, ◌∙◌}
-use Rattle.std.specs.Prelude.{IfOk}
+use Rattle.std.proofs.Common.{◌≡◌, ◌++◌, ◌∷◌, ◌+◌, [], drop, length, get_or, ap, sym, subst, arith, ◌∙◌}
+use Rattle.std.specs.Prelude.{IfOk, OnOk}
 use Rattle.u_terms.specs.declared.term.U.TheVariants as u
+use Rattle.std.specs.Option.{option_copied}
+use Rattle.scope_core.specs.declared.tree.RBlock.{out-RBlock}
 use Rattle.scope_core.proofs.Lists.{walk-step, walk-end}
-use Rattle.sql_to_u.specs.TermLists.{condition_terms_listed, scope_within, source_terms_listed, terms_of, value_terms_listed}
+use Rattle.sql_to_u.specs.TermLists.{condition_terms_listed, item_factors_listed, scope_within, source_terms_listed, terms_of, value_terms_listed}
 use Rattle.sql_to_u.specs.Translation.{condition_term, source_term, value_term}
-use Rattle.sql_to_u.proofs.TermLaws.{sources-step, sources-end, conditions-cons, conditions-nil, values-cons, values-nil, items_from, item-step, item-skip, item-end, view-there, view-past}
-use Rattle.sql_to_u.proofs.Weights.{condition-in, entry-in, value-in, first-in, view-weight, weights_of, block-is}
+use Rattle.sql_to_u.proofs.TermLaws.{sources-step, sources-end, conditions-cons, conditions-nil, values-cons, values-nil, items_from, item-step, item-skip, item-end, part-step, part-end, view-there, view-past}
+use Rattle.sql_to_u.proofs.Weights.{condition-in, entry-in, value-in, first-in, part-in, last-in, values_left, view-weight, weights_of, block-is}
 use Rattle.sql_to_u.proofs.building.+build.Goals as goal
-use Rattle.sql_to_u.proofs.building.+build.Goals.{value::add_items-then-index-row+in_ok-left+in_ok-right+in_ok-push, value::add_items-else-index-row}
+use Rattle.sql_to_u.proofs.building.+build.Goals.{value::add_values-then-index-row+in_ok-left+in_ok-right+in_ok-push, value::add_values-else-index-row}
 
 pub condition::add_conditions-loop-condition-preserved : goal.condition::add_conditions-loop-condition-preserved
 condition::add_conditions-loop-condition-preserved t c =
@@ -62,8 +64,8 @@ source::add_sources-returns t c =
     let S = scope_within c.args.views.now c.args.scope.now in
     sources-end V S c.args.entries.now c.loop-entry.entry-index c.loop-entry.name c.args.next _ _ c.loop-entry-test.false c.loop-entry.invariant
 
-pub value::add_items-loop-index-preserved : goal.value::add_items-loop-index-preserved
-value::add_items-loop-index-preserved t c =
+pub value::add_values-loop-index-preserved : goal.value::add_values-loop-index-preserved
+value::add_values-loop-index-preserved t c =
     let V = terms_of c.args.views.now in
     let S = scope_within c.args.views.now c.args.scope.now in
     let next = c.args.next in
@@ -72,19 +74,38 @@ value::add_items-loop-index-preserved t c =
     let i = c.loop-index.index in
     let x = c.index-items-index.result in
     elim c.if-index-row.branch [
-      | value::add_items-then-index-row+in_ok-left+in_ok-right+in_ok-push w ↦
+      | value::add_values-then-index-row+in_ok-left+in_ok-right+in_ok-push w ↦
           let right = w.in_ok-right.ensures ∙ w.index-row-index.is in
           ap (λ v. v.items ++ items_from V S xs row next (i + 1)) w.factors-is
           ∙ item-step V S xs row next i x w.index-row-index.result c.loop-index.factors.items _ _ c.loop-index-test.true c.index-items-index.is w.if-index-row.true
           (w.in_ok-push.ensures.items ∙ (λ j. c.loop-index.factors.items ++ u.Eq (w.in_ok-left.ensures j) (right j) ∷ [])) c.loop-index.invariant
-      | value::add_items-else-index-row w ↦
+      | value::add_values-else-index-row w ↦
           ap (λ v. v.items ++ items_from V S xs row next (i + 1)) w.factors-is
           ∙ item-skip V S xs row next i c.loop-index.factors.items _ w.if-index-row.false c.loop-index.invariant
     ]
 
+pub value::add_values-returns : goal.value::add_values-returns
+value::add_values-returns t c =
+    item-end (terms_of c.args.views.now) (scope_within c.args.views.now c.args.scope.now) c.args.items.now c.args.row.now c.args.next c.loop-index.index _ _ c.loop-index-test.false c.loop-index.invariant
+
+pub value::add_items-loop-part-preserved : goal.value::add_items-loop-part-preserved
+value::add_items-loop-part-preserved t c =
+    let V = terms_of c.args.views.now in
+    let S = scope_within c.args.views.now c.args.scope.now in
+    let next = c.args.next in
+    let row = c.loop-part.rest.now in
+    let made = c.loop-part.factors.items in
+    let values = c.as_slice-values.ensures ∙ c.get.ensures in
+    part-step V S c.parts.result.before.now c.loop-part.part-index c.part-item.result c.parts.result.last.now row _ next made _ _ c.loop-part-test.true c.part-item.is
+    (c.in_ok-add_values.ensures ∙ ap (λ xs. made ++ item_factors_listed V S xs row next) values)
+    (c.after-rest.ensures ∙ ap (λ xs. drop (length xs) row) values) c.loop-part.invariant
+
 pub value::add_items-returns : goal.value::add_items-returns
 value::add_items-returns t c =
-    item-end (terms_of c.args.views.now) (scope_within c.args.views.now c.args.scope.now) c.args.items.now c.args.row.now c.args.next c.loop-index.index _ _ c.loop-index-test.false c.loop-index.invariant
+    let V = terms_of c.args.views.now in
+    let S = scope_within c.args.views.now c.args.scope.now in
+    let end = part-end V S c.parts.result.before.now c.loop-part.part-index c.parts.result.last.now c.loop-part.rest.now c.args.next c.loop-part.factors.items _ c.loop-part-test.false c.loop-part.invariant in
+    subst (λ factors. OnOk c.add_values-2.result (c.add_values-2.new.factors.items ≡ factors)) end c.add_values-2.ensures
 
 -- ---- less work is left
 pub condition::add_conditions-condition_term-requires : goal.condition::add_conditions-condition_term-requires
@@ -102,15 +123,30 @@ value::value_terms-value_term-requires t c =
     let h = value-in (weights_of c.args.views.now) c.args.values.now c.loop-value.value-index c.value-item.result c.loop-value-test.true c.value-item.is in
     omega (arith, h, c.decreases)
 
-pub value::add_items-value_term-requires : goal.value::add_items-value_term-requires
-value::add_items-value_term-requires t c =
+pub value::add_values-value_term-requires : goal.value::add_values-value_term-requires
+value::add_values-value_term-requires t c =
     let h = value-in (weights_of c.args.views.now) c.args.items.now c.loop-index.index c.index-items-index.result c.loop-index-test.true c.index-items-index.is in
     omega (arith, h, c.decreases)
+
+pub value::add_items-add_values-requires : goal.value::add_items-add_values-requires
+value::add_items-add_values-requires t c =
+    let W = weights_of c.args.views.now in
+    let within = part-in W c.parts.result.before.now c.parts.result.last.now c.loop-part.part-index c.part-item.result c.loop-part-test.true c.part-item.is in
+    let values = ap (values_left W) (c.as_slice-values.ensures ∙ c.get.ensures) in
+    let whole = ap (values_left W) c.parts.ensures in
+    (omega (arith, within, values, whole, c.decreases), tt)
+
+pub value::add_items-add_values-requires-2 : goal.value::add_items-add_values-requires-2
+value::add_items-add_values-requires-2 t c =
+    let W = weights_of c.args.views.now in
+    let within = last-in W c.parts.result.before.now c.parts.result.last.now in
+    let whole = ap (values_left W) c.parts.ensures in
+    (omega (arith, within, whole, c.decreases), tt)
 
 pub value::scalar_term-value_term-requires : goal.value::scalar_term-value_term-requires
 value::scalar_term-value_term-requires t c =
     let W = weights_of c.args.views.now in
-    let h = first-in W c.args.block.now c.as_slice.result.now c.item-item.result c.as_slice.ensures c.in-len1-up.len_at_least c.item-item.is in
+    let h = first-in W (out-RBlock c.args.block.now).items c.in-Some.item.now (sym c.first.ensures ∙ ap option_copied c.in-Some.is) in
     let b = block-is W c.args.block.now in
     omega (arith, h, b, c.decreases)
 

@@ -1,5 +1,6 @@
 -- The walk ends: each call has less work left.
 use Rattle.std.proofs.Common.{◌≡◌, ◌+◌, ◌++◌, drop, get_or}
+use Rattle.scope_core.specs.Written.{written}
 use Rattle.sql_to_u.specs.TermLists.{condition_terms_listed, item_factors_listed, scope_within, source_terms_listed, terms_of, value_terms_listed}
 use Rattle.sql_to_u.proofs.Weights.{argument_left, block_weight, condition_weight, conditions_left, entries_left, groups_left, having_left, joined_left, parts_left, query_weight, source_weight, value_weight, values_left, weights_of}
 use Rattle.sql_to_u.proofs.building.+build.Given as goal
@@ -52,8 +53,11 @@ decreases-condition::add_having l = 1 + having_left (weights_of l.views.now) l.h
 abbrev pub decreases-condition::add_condition : goal.decreases-condition::add_condition
 decreases-condition::add_condition l = 1 + condition_weight (weights_of l.views.now) l.condition.now + groups_left (weights_of l.views.now) l.scope.now
 
+abbrev pub decreases-value::add_values : goal.decreases-value::add_values
+decreases-value::add_values l = 1 + values_left (weights_of l.views.now) l.items.now + groups_left (weights_of l.views.now) l.scope.now
+
 abbrev pub decreases-value::add_items : goal.decreases-value::add_items
-decreases-value::add_items l = 1 + values_left (weights_of l.views.now) l.items.now + groups_left (weights_of l.views.now) l.scope.now
+decreases-value::add_items l = 2 + values_left (weights_of l.views.now) l.items.now + groups_left (weights_of l.views.now) l.scope.now
 
 abbrev pub decreases-value::value_term : goal.decreases-value::value_term
 decreases-value::value_term l = value_weight (weights_of l.views.now) l.value.now + groups_left (weights_of l.views.now) l.scope.now
@@ -87,9 +91,14 @@ invariant-condition::add_conditions-loop-condition l =
     l.factors.items ++ condition_terms_listed (terms_of l.views) (scope_within l.views l.scope) (drop l.condition-index l.conditions) l.next
     ≡ l.initial.factors.items ++ condition_terms_listed (terms_of l.views) (scope_within l.views l.scope) l.conditions l.next
 
-abbrev pub invariant-value::add_items-loop-index : goal.invariant-value::add_items-loop-index
-invariant-value::add_items-loop-index l =
+abbrev pub invariant-value::add_values-loop-index : goal.invariant-value::add_values-loop-index
+invariant-value::add_values-loop-index l =
     l.factors.items ++ item_factors_listed (terms_of l.views) (scope_within l.views l.scope) (drop l.index l.items) (drop l.index l.row) l.next
+    ≡ l.initial.factors.items ++ item_factors_listed (terms_of l.views) (scope_within l.views l.scope) l.items l.row l.next
+
+abbrev pub invariant-value::add_items-loop-part : goal.invariant-value::add_items-loop-part
+invariant-value::add_items-loop-part l =
+    l.factors.items ++ item_factors_listed (terms_of l.views) (scope_within l.views l.scope) (written (drop l.part-index l.front) l.last) l.rest l.next
     ≡ l.initial.factors.items ++ item_factors_listed (terms_of l.views) (scope_within l.views l.scope) l.items l.row l.next
 
 abbrev pub invariant-value::value_terms-loop-value : goal.invariant-value::value_terms-loop-value

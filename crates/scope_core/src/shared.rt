@@ -1,0 +1,50 @@
+//! Values with several owners.
+ghost use Rattle.std.specs.Prelude.{◌≡◌, IfOk};
+
+use crate::NoMemory;
+use std::alloc::Global;
+use std::marker::Model;
+use std::rc::Rc;
+
+/// A value with several owners, which contracts see as that value.
+#[derive(Debug, Drop)]
+pub struct Shared<T> {
+    inner: Rc<T>,
+}
+
+impl<T> Model for Shared<T> {
+    ghost Value = { T };
+
+    ghost coded = { T.code };
+
+    ghost view = { λ shared. shared.inner.value };
+}
+
+impl<T> Shared<T> {
+    /// The value, lent.
+    pub fn get(&self) -> &T
+        ensures { result.now ≡ self.now }
+    {
+        &self.inner
+    }
+}
+
+impl<T: Drop> Shared<T> {
+    /// A value with one owner. Where memory runs out the value is dropped.
+    pub fn new(alloc: Global, value: T) -> Result<Shared<T>, NoMemory>
+        ensures { IfOk result (λ shared. shared ≡ value) }
+    {
+        Ok(Shared {
+            inner: Rc::new(alloc, value)?,
+        })
+    }
+
+    /// The same value for one owner more.
+    pub fn share(&self) -> Result<Shared<T>, NoMemory>
+        ensures { IfOk result (λ shared. shared ≡ self.now) }
+    {
+        Ok(Shared {
+            inner: self.inner.clone()?,
+        })
+    }
+}
