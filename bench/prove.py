@@ -55,6 +55,24 @@ def a_union_in_from(count):
     return left, union(shuffled(blocks, 4))
 
 
+def block_of_three(number, entries, comparison="<"):
+    return f"SELECT x.a, z.b FROM {entries} WHERE x.b = y.a AND y.b {comparison} z.a AND x.c = {number}"
+
+
+def entries_in_another_order(count):
+    """All entries are of one table. They come backwards in the right union, and so do the blocks."""
+    left = [block_of_three(number, "r x, r y, r z") for number in range(count)]
+    right = [block_of_three(number, "r z, r y, r x") for number in reversed(range(count))]
+    return union(left), union(right)
+
+
+def entries_not_alike(count):
+    """The last block of the left union has none that is alike, after all others have been paired."""
+    left, right = entries_in_another_order(count - 1)
+    last, other = count - 1, "r z, r y, r x"
+    return union([left, block_of_three(last, "r x, r y, r z", "<=")]), union([block_of_three(last, other), right])
+
+
 def alternatives(count):
     """Each OR doubles the sums under one squash: with so many the normal form is too large."""
     both = [f"(a = {number} OR b = {number})" for number in range(count)]
@@ -69,6 +87,8 @@ ROWS = [
     ("conditions in another order", conditions_in_another_order, MOST_BLOCKS, FOUND),
     ("tables derived", tables_derived, MOST_BLOCKS, FOUND),
     ("a union in FROM", a_union_in_from, MOST_BLOCKS // 2, FOUND),
+    ("entries in another order", entries_in_another_order, MOST_BLOCKS, FOUND),
+    ("entries not alike", entries_not_alike, MOST_BLOCKS, UNKNOWN),
     ("6 alternatives", alternatives, 6, FOUND),
     ("20 alternatives", alternatives, 20, UNKNOWN),
 ]
