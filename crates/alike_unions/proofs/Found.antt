@@ -1,6 +1,7 @@
 -- The terms of alike unions have the shapes of their blocks, and no search passes a budget for all lists of a block's entries.
-use Rattle.std.proofs.Common.{◌≡◌, ℕ, zero, suc, ◌+◌, ◌*◌, ◌<◌, ◌≤◌, Bool, false, List, [], ◌∷◌, length, get_or, refl, sym, subst, inl, inr, arith}
+use Rattle.std.proofs.Common.{◌≡◌, ℕ, zero, suc, ◌+◌, ◌*◌, ◌<◌, ◌≤◌, Bool, false, List, [], ◌∷◌, length, get_or, sym, ◌∙◌, subst, inl, inr, arith}
 use Rattle.std.specs.Prelude.{Contains}
+use Rattle.std.proofs.lemmas.Option.{same_Some}
 use Rattle.std.proofs.Math.Nat.{mul-le-mul_left, mul-le-mul_right}
 use Rattle.block_shapes.specs.Classes.{Alike, Small}
 use Rattle.block_terms.proofs.Queries.{union-shape}
@@ -55,8 +56,9 @@ each-small most ss small s h = at ss small h.0 h.1 h.2
     at (x ∷ xs) small zero less is = subst (SmallBlock most) is small.0
     at (x ∷ xs) small (suc k) less is = at xs small.1 k (omega (arith, less)) is
 
-pub small-columns : (left right : RQuery) (h : Small left right) → HaveFewColumns h.of_left.shapes
-small-columns left right h s i = let small = each-small most_entries h.of_left.shapes h.sizes.0.each s i in omega (arith, small.few_columns)
+-- a union has one list of shapes
+small-blocks : (left right : RQuery) (h : Alike left right) → Small left right → AllSmall most_entries h.of_left.shapes
+small-blocks left right h small = subst (AllSmall most_entries) (same_Some small.of_left.shapes h.of_left.shapes (sym small.of_left.are ∙ h.of_left.are)) small.sizes.0.each
 
 tries-grow : (m n : ℕ) → m ≤ n → tries m ≤ tries n
 tries-grow zero n le = omega (arith)
@@ -67,8 +69,18 @@ tries-grow (suc m) (suc n) le =
     let longer : suc m * (1 + tries n) ≤ suc n * (1 + tries n) = mul-le-mul_right (1 + tries n) le in
     omega (arith, wider, longer)
 
-pub small-lists : (left right : RQuery) (h : Small left right) (s : Shape) → Contains h.of_left.shapes s → tries (length s.entries) ≤ 986409
-small-lists left right h s i =
-    let small = each-small most_entries h.of_left.shapes h.sizes.0.each s i in
-    let all : tries 9 ≡ 986409 = refl in
-    omega (arith, all, tries-grow (length s.entries) 9 small.few_entries)
+pub small-limits : (views : List RQuery) (left right : RQuery) → Alike left right → Small left right → IsSoundAlone left → IsSoundAlone right
+    → width left ≡ width right → (budget : ℕ) → tries most_entries ≤ budget
+    → (F : Facts) (spent : Bool) → IsUnknown F (width left) (translation views left) (translation views right) budget spent
+    → (spent ≡ false) × PassesLimits F (width left) (translation views left) (translation views right)
+small-limits views left right h small sound_left sound_right same budget enough =
+    only-limits views left right h sound_left sound_right same few budget lists
+  where
+    block : (s : Shape) → Contains h.of_left.shapes s → SmallBlock most_entries s
+    block = each-small most_entries h.of_left.shapes (small-blocks left right h small)
+
+    few : HaveFewColumns h.of_left.shapes
+    few s i = omega (arith, (block s i).few_columns)
+
+    lists : (s : Shape) → Contains h.of_left.shapes s → tries (length s.entries) ≤ budget
+    lists s i = omega (arith, enough, tries-grow (length s.entries) most_entries (block s i).few_entries)

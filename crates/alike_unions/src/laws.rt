@@ -5,6 +5,7 @@ ghost use Rattle.scope_core.specs.Sound.{IsSoundAlone};
 ghost use Rattle.scope_core.specs.Syntax.{RQuery};
 ghost use Rattle.scope_core.specs.Width.{width};
 ghost use Rattle.shapes.specs.Shapes.{Shape};
+ghost use Rattle.shapes.specs.Small.{most_entries};
 ghost use Rattle.shapes.specs.Tried.{tries};
 ghost use Rattle.sql_to_u.specs.Answer.{translation};
 ghost use Rattle.u_prover.specs.Proving.{AreAlikeSums, HaveFewColumns, IsUnknown, PassesLimits};
@@ -21,8 +22,10 @@ pub fn alike_unions_are_found()
         (spent ≡ false) × PassesLimits F (width left) (translation views left) (translation views right) }
 {}
 
-/// Small unions have few columns, and a budget of 986,409 lists is enough for each of their blocks.
-pub fn small_unions_are_within_the_budget()
-    ensures columns { (left right : RQuery) (h : Small left right) → HaveFewColumns h.of_left.shapes }
-    ensures lists { (left right : RQuery) (h : Small left right) (s : Shape) → Contains h.of_left.shapes s → tries (length s.entries) ≤ 986409 }
+/// Small unions have few columns, and at most nine entries a block: so a budget of 986,409 lists is enough.
+pub fn small_alike_unions_are_found()
+    ensures { (views : List RQuery) (left right : RQuery) → Alike left right → Small left right → IsSoundAlone left → IsSoundAlone right →
+        width left ≡ width right → (budget : ℕ) → tries most_entries ≤ budget →
+        (F : Facts) (spent : Bool) → IsUnknown F (width left) (translation views left) (translation views right) budget spent →
+        (spent ≡ false) × PassesLimits F (width left) (translation views left) (translation views right) }
 {}
