@@ -1,0 +1,4 @@
+pub mod Blocks
+pub mod Greatest
+pub mod Totals
+pub mod Permuted
