@@ -15,7 +15,8 @@ use Rattle.term_shapes.specs.Factors.{Factor, atom, equality, difference, truth,
 use Rattle.term_shapes.specs.TermShape.{folded, Points, pointed, value_point, value_points, Said, nothing_said, with_equality, with_mark, with_outputs, said_output, said_equality, said_difference, said_mark, with_factor, all_points}
 use Rattle.shape_entails.specs.Values.{value_in, mark_term, mark_in}
 use Rattle.shape_entails.proofs.Leaves.{term_of, IsKnown, AreKnown}
-use Rattle.shape_entails.proofs.Walks.{map-some, then-some, both-some, folded-keeps, set-cases, set-same, set-other, none-there, pointed-written}
+use Rattle.term_shapes.proofs.Walked.{map-some, then-some, both-some, pointed-written}
+use Rattle.shape_entails.proofs.Walks.{folded-keeps, set-cases, set-same, set-other, none-there}
 
 -- ---- equalities and marks, one more at the end
 given-more : (es more : List (Point × Point)) (p q : Point) → Given es p q → Given (es ++ more) p q

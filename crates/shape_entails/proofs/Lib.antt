@@ -2,7 +2,6 @@ pub mod Leaves
 pub mod Walks
 pub mod Heard
 pub mod Shaped
-pub mod Columns
 pub mod Putting
 pub mod Bijections
 pub mod Matching

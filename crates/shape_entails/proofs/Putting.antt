@@ -85,7 +85,7 @@ module _ (f g : ℕ → ℕ → Val) where
   under-mapped k (Eq a b) = deeper k (k + 0) (Eq a b) (omega arith)
   under-mapped k (Pred symbol shape arguments) = deeper k (k + 0) (Pred symbol shape arguments) (omega arith)
 
-  leaves-mapped : (k : ℕ) (w : U) → mul_leaves (mapped f g k w) ≡ map (mapped f g k) (mul_leaves w)
+  pub leaves-mapped : (k : ℕ) (w : U) → mul_leaves (mapped f g k w) ≡ map (mapped f g k) (mul_leaves w)
   unfolding mapped mul_leaves
   leaves-mapped k Zero = refl
   leaves-mapped k One = refl
@@ -101,7 +101,7 @@ module _ (f g : ℕ → ℕ → Val) where
   leaves-mapped k (Pred symbol shape arguments) = refl
 
   -- ---- atoms
-  atom-mapped : (k : ℕ) (x : U) → is_atom (mapped f g k x) ≡ is_atom x
+  pub atom-mapped : (k : ℕ) (x : U) → is_atom (mapped f g k x) ≡ is_atom x
   unfolding mapped is_atom
   atom-mapped k Zero = refl
   atom-mapped k One = refl

@@ -1,6 +1,6 @@
 -- The product under the sums of a term is that of the term's shape.
-use Rattle.std.proofs.Common.{◌≡◌, ℕ, zero, suc, ◌<◌, inl, inr, Bool, true, false, cond, List, [], ◌∷◌, length, map, get_or, Option, Some, None, refl, ap, sym, ◌∙◌, subst, arith}
-use Rattle.std.specs.Prelude.{◌⊎◌, if◌then◌else◌, slice_get, option_map}
+use Rattle.std.proofs.Common.{◌≡◌, ℕ, zero, suc, ◌<◌, inl, inr, Bool, true, false, cond, List, [], ◌∷◌, length, map, get_or, Some, None, refl, ap, sym, ◌∙◌, subst, arith}
+use Rattle.std.specs.Prelude.{◌⊎◌, slice_get}
 use Rattle.std.specs.List.{filter, list_all}
 use Rattle.std.proofs.lemmas.List.{length-map}
 use Rattle.std.proofs.lemmas.Option.{same_Some, none-some, slice_get_within, slice_get-get_or}
@@ -13,13 +13,14 @@ use Rattle.shapes.specs.Shapes.{Entry, Point, column, literal, Mark, Shape, entr
 use Rattle.shapes.proofs.Found.{and-both}
 use Rattle.shapes.specs.Alike.{Given}
 use Rattle.term_shapes.specs.Factors.{factors, sum_count, under_sums}
-use Rattle.term_shapes.specs.TermShape.{Atoms, Points, Said, folded, with_atom, no_atoms, with_factor, nothing_said, all_points, has_point, shape_said, shape_of_atoms, value_point, term_shape, HasShape}
+use Rattle.term_shapes.specs.TermShape.{Atoms, Points, Said, folded, with_atom, no_atoms, with_factor, nothing_said, all_points, has_point, shape_said, value_point, HasShape}
 use Rattle.term_shapes.proofs.WholeShapes.{shapes-whole}
 use Rattle.shape_entails.specs.Values.{is_atom, row_of_atom, atoms, rows, value_in, point_value, mark_in}
 use Rattle.shape_entails.specs.ProductOf.{IsSaid, atom, equality, output, turned_output, mark, entry_of_atom, atom_of, IsProductOf}
 use Rattle.shape_entails.specs.Places.{HasAtoms, IsPlace, ArePlaces}
 use Rattle.shape_entails.proofs.Leaves.{term_of, AreKnown, leaves-are, atom-yes, atom-is, rows_among}
-use Rattle.shape_entails.proofs.Walks.{then-some, map-some, AtRow, At, at-value, IsPlaced, AtomsDone, atoms-done, value-is}
+use Rattle.term_shapes.proofs.Walked.{read-of}
+use Rattle.shape_entails.proofs.Walks.{AtRow, At, at-value, IsPlaced, AtomsDone, atoms-done, value-is}
 use Rattle.shape_entails.proofs.Heard.{IsHeard, an_atom, an_equality, an_output, a_turned, a_mark, SaidDone, all-said, outputs-given, outputs-kept}
 
 -- ---- atoms by their numbers
@@ -125,39 +126,11 @@ product-of-list s product whole h = record {
     so x (in_mark m g) = mark m g
 
 -- ---- terms that have shapes
-if-some : {X : Type 0} (b : Bool) (o : Option X) (x : X) → (if b then o else None) ≡ Some x → o ≡ Some x
-if-some true o x h = h
-if-some false o x h = absurd (none-some x h)
-
-if-true : {X : Type 0} (b : Bool) (o : Option X) (x : X) → (if b then o else None) ≡ Some x → b ≡ true
-if-true true o x h = refl
-if-true false o x h = absurd (none-some x h)
-
--- both walks over the factors
-pub record IsRead (outs : ℕ) (w : U) (s : Shape) : Type 0 where
-  pub atoms : Atoms
-  pub said : Said
-  pub outputs : List Point
-  pub full : list_all has_point atoms.points ≡ true
-  pub placed : folded with_atom (no_atoms (sum_count w)) (factors (under_sums w)) ≡ Some atoms
-  pub told : folded (with_factor atoms.points) (nothing_said outs) (factors (under_sums w)) ≡ Some said
-  pub all : all_points said.outputs ≡ Some outputs
-  pub is : shape_said atoms.entries said outputs ≡ s
-
-pub read-of : (outs : ℕ) (w : U) (s : Shape) → HasShape outs w s → IsRead outs w s
-unfolding term_shape
-read-of outs w s h =
-    let one = then-some (shape_of_atoms outs (factors (under_sums w))) (folded with_atom (no_atoms (sum_count w)) (factors (under_sums w))) s h in
-    let two = then-some (λ (said : Said). option_map (shape_said one.x.entries said) (all_points said.outputs)) (folded (with_factor one.x.points) (nothing_said outs) (factors (under_sums w))) s
-    (if-some (list_all has_point one.x.points) _ s one.is) in
-    let three = map-some (shape_said one.x.entries two.x) (all_points two.x.outputs) s two.is in
-    record { atoms = one.x; said = two.x; outputs = three.x; full = if-true (list_all has_point one.x.points) _ s one.is; placed = one.from; told = two.from; all = three.from; is = three.is }
-
 read-values : (w : U) (a : Atoms) → folded with_atom (no_atoms (sum_count w)) (factors (under_sums w)) ≡ Some a
     → (x : Val) (p : Point) → value_point a.points x ≡ Some p → value_in (rows_among (map term_of (factors (under_sums w)))) p ≡ x
 read-values w a h = value-is (rows_among (map term_of (factors (under_sums w)))) a.points (atoms-done (sum_count w) (factors (under_sums w)) a h).points
 
-read-said : (outs : ℕ) (w : U) (a : Atoms) (said : Said) → folded with_atom (no_atoms (sum_count w)) (factors (under_sums w)) ≡ Some a
+pub read-said : (outs : ℕ) (w : U) (a : Atoms) (said : Said) → folded with_atom (no_atoms (sum_count w)) (factors (under_sums w)) ≡ Some a
     → folded (with_factor a.points) (nothing_said outs) (factors (under_sums w)) ≡ Some said
     → AreKnown (factors (under_sums w)) × SaidDone (rows_among (map term_of (factors (under_sums w)))) (map term_of (factors (under_sums w))) said
 read-said outs w a said h g = all-said (rows_among (map term_of (factors (under_sums w)))) a.points (read-values w a h) outs (factors (under_sums w)) said g

@@ -1,45 +1,19 @@
 -- What the two walks over a product's factors have found, as facts of the factors as terms.
 use Rattle.std.proofs.Common.{◌≡◌, ℕ, zero, suc, ◌+◌, ◌⊎◌, inl, inr, false, List, [], ◌∷◌, ◌++◌, length, map, get_or, Option, Some, None, refl, ap, sym, ◌∙◌, subst, append_assoc, arith}
-use Rattle.std.specs.Prelude.{slice_get, slice_set, replicate, option_map, option_and_then}
+use Rattle.std.specs.Prelude.{slice_get, slice_set, replicate}
 use Rattle.std.specs.List.{filter}
 use Rattle.std.proofs.lemmas.List.{append-nil, map-append, length-replicate}
 use Rattle.std.proofs.lemmas.Option.{same_Some, none-some, get_or_from_slice_get}
 use Rattle.u_terms.specs.Syntax.{U, Val, Bound, Free, Lit, Fun, Agg}
 use Rattle.u_terms.specs.declared.term.Val.TheVariants as v
 use Rattle.u_rules.specs.Terms.{◌≐◌, O, P, R, neg}
-use Rattle.shapes.specs.Options.{both_of}
 use Rattle.shapes.specs.Shapes.{Entry, Point, column, literal}
 use Rattle.term_shapes.specs.Factors.{Factor, atom, equality, difference, truth, falsehood, other}
 use Rattle.term_shapes.specs.TermShape.{folded, Points, pointed, placed, Atoms, entry_with, with_entry, with_atom, no_atoms, at_place, value_point}
+use Rattle.term_shapes.proofs.Walked.{then-some, map-some, pointed-written}
 use Rattle.shape_entails.specs.Values.{is_atom, table_of, row_of_atom, value_in}
 use Rattle.shape_entails.specs.ProductOf.{entry_of_atom}
 use Rattle.shape_entails.proofs.Leaves.{term_of, atom-Eq, atom-Not, atom-Pred, table-atom, atom-Zero, row-atom, rows_among, atoms-more, atoms-other, rows-more}
-
--- ---- values that are there
-pub record Both {X Y Z : Type 0} (f : X → Y → Z) (a : Option X) (b : Option Y) (z : Z) : Type 0 where
-  pub x : X
-  pub y : Y
-  pub left : a ≡ Some x
-  pub right : b ≡ Some y
-  pub is : f x y ≡ z
-
-pub both-some : {X Y Z : Type 0} (f : X → Y → Z) (a : Option X) (b : Option Y) (z : Z) → both_of f a b ≡ Some z → Both f a b z
-both-some f (Some x) (Some y) z e = record { x = x; y = y; left = refl; right = refl; is = same_Some (f x y) z e }
-both-some f None b z e = absurd (none-some z e)
-both-some f (Some x) None z e = absurd (none-some z e)
-
-pub record From {X Z : Type 0} (f : X → Z) (a : Option X) (z : Z) : Type 0 where
-  pub x : X
-  pub from : a ≡ Some x
-  pub is : f x ≡ z
-
-pub map-some : {X Z : Type 0} (f : X → Z) (a : Option X) (z : Z) → option_map f a ≡ Some z → From f a z
-map-some f (Some x) z e = record { x = x; from = refl; is = same_Some (f x) z e }
-map-some f None z e = absurd (none-some z e)
-
-pub then-some : {X Z : Type 0} (f : X → Option Z) (a : Option X) (z : Z) → option_and_then f a ≡ Some z → From f a (Some z)
-then-some f (Some x) z e = record { x = x; from = refl; is = e }
-then-some f None z e = absurd (none-some z e)
 
 -- what each step keeps of what was walked over, the whole walk keeps
 pub folded-keeps : {S X : Type 0} (step : S → X → Option S) (P : List X → S → Type 0) → ((done : List X) (s t : S) (x : X) → step s x ≡ Some t → P done s → P (done ++ x ∷ []) t)
@@ -84,20 +58,6 @@ pub none-there : (n k : ℕ) (p : Point) → slice_get (replicate n None) k ≡ 
 none-there zero k p h = none-some (Some p) h
 none-there (suc n) zero p h = none-some p (same_Some None (Some p) h)
 none-there (suc n) (suc k) p h = none-there n k p h
-
--- a place that got its point had none
-pub record Written (points after : Points) (place : ℕ) (p : Point) : Type 0 where
-  pub had : slice_get points place ≡ Some None
-  pub is : slice_set points place (Some p) ≡ after
-
-pub pointed-written : (points after : Points) (place : ℕ) (p : Point) → pointed points place p ≡ Some after → Written points after place p
-pointed-written points after place p h = at (slice_get points place) refl h
-  where
-    at : (o : Option (Option Point)) → slice_get points place ≡ o → (elim o as (λ _. Option Points) [ None ↦ None | Some (Some q) ↦ None | Some None ↦ Some (slice_set points place (Some p)) ]) ≡ Some after
-        → Written points after place p
-    at None e g = absurd (none-some after g)
-    at (Some (Some q)) e g = absurd (none-some after g)
-    at (Some None) e g = record { had = e; is = same_Some (slice_set points place (Some p)) after g }
 
 -- ---- places of values in rows
 pub record AtRow (rows : List (List Val)) (e c : ℕ) (x : Val) : Type 0 where

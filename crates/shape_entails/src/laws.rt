@@ -94,7 +94,7 @@ pub fn each_entails_what_the_other_has_beside()
 {}
 
 /// A term that has a shape has as many sums as the shape's entries have columns.
-#[tactic(auto, using(crate::proofs::Columns::laws))]
+#[tactic(auto, using(term_shapes::proofs::Columns::laws))]
 pub fn sums_are_columns()
     ensures { (outs : ℕ) (u : U) (s : Shape) → HasShape outs u s → sum_count u ≡ columns_of s.entries }
 {}

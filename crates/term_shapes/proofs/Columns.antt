@@ -1,6 +1,6 @@
 -- A term has as many sums as its shape's entries have columns: each column of an atom gives a point to one place that had none, and at the
 -- end each place has one.
-use Rattle.std.proofs.Common.{◌≡◌, ℕ, zero, suc, ◌+◌, Bool, true, false, List, [], ◌∷◌, ◌++◌, length, Option, Some, None, refl, ap, sym, ◌∙◌, arith}
+use Rattle.std.proofs.Common.{◌≡◌, ℕ, zero, suc, ◌+◌, true, List, [], ◌∷◌, ◌++◌, length, Some, None, refl, ap, sym, ◌∙◌, arith}
 use Rattle.std.specs.Prelude.{slice_get, slice_set, replicate}
 use Rattle.std.specs.List.{list_all}
 use Rattle.std.proofs.lemmas.Option.{same_Some, none-some}
@@ -9,8 +9,8 @@ use Rattle.shapes.specs.Shapes.{Entry, Point, column, Shape}
 use Rattle.shapes.specs.Small.{columns_of}
 use Rattle.term_shapes.specs.Factors.{Factor, atom, equality, difference, truth, falsehood, other, factors, sum_count, under_sums}
 use Rattle.term_shapes.specs.TermShape.{folded, Points, pointed, placed, Atoms, entry_with, with_entry, with_atom, no_atoms, has_point, HasShape}
-use Rattle.shape_entails.proofs.Walks.{map-some, then-some, pointed-written}
-use Rattle.shape_entails.proofs.Shaped.{read-of}
+use Rattle.term_shapes.proofs.Walked.{map-some, then-some, pointed-written}
+use Rattle.term_shapes.proofs.Walked.{read-of}
 
 -- the places without a point
 abbrev unplaced : Points → ℕ
@@ -36,7 +36,7 @@ values-placed e c (Lit a ∷ values) points after h = absurd (none-some after h)
 values-placed e c (Fun symbol s args ∷ values) points after h = absurd (none-some after h)
 values-placed e c (Agg aggregate body ∷ values) points after h = absurd (none-some after h)
 
-columns-more : (entries : List Entry) (entry : Entry) → columns_of (entries ++ entry ∷ []) ≡ columns_of entries + entry.columns
+pub columns-more : (entries : List Entry) (entry : Entry) → columns_of (entries ++ entry ∷ []) ≡ columns_of entries + entry.columns
 columns-more [] entry = omega arith
 columns-more (first ∷ entries) entry = omega (arith, columns-more entries entry)
 
