@@ -7,3 +7,4 @@ pub mod Items
 pub mod NoAtoms
 pub mod Whole
 pub mod Queries
+pub mod FewOnes
