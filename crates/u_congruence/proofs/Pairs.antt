@@ -1,14 +1,19 @@
 -- A sum or a product whose parts lead to others, and a term with one part.
-use Rattle.std.proofs.Common.{◌≡◌, ℕ, List, [], ◌∷◌, refl, sym, subst, ◌∙◌}
+use Rattle.std.proofs.Common.{◌≡◌, ℕ, ◌+◌, List, [], ◌∷◌, ◌++◌, length, refl, ap, sym, subst, ◌∙◌, arith}
+use Rattle.std.specs.Prelude.{max}
 use Rattle.u_terms.specs.declared.facts.Facts.{Facts}
 use Rattle.u_terms.specs.Syntax.{U}
+use Rattle.u_terms.specs.Size.{nodes, depth}
 use Rattle.u_terms.specs.Places.{IsClosed}
 use Rattle.u_deriv.specs.declared.run.Run.{Run}
 use Rattle.u_deriv.specs.declared.run.Run.TheVariants.{Left, Right, Inside}
+use Rattle.u_deriv.specs.declared.step.Step.{Step}
 use Rattle.u_deriv.specs.Steps.{Replaced}
-use Rattle.u_moves.specs.Derivations.{Derivation, IsKnown, IsSound}
-use Rattle.u_moves.specs.Lifting.{IsPart, IsMadeIn}
-use Rattle.u_congruence.specs.Congruence.{IsFromTo, IsBy}
+use Rattle.u_deriv.specs.Turns.{turns}
+use Rattle.u_moves.specs.Derivations.{Derivation, IsKnown, IsSound, IsStill}
+use Rattle.u_moves.specs.Lifting.{IsPart, IsMadeIn, lifted}
+use Rattle.u_moves.proofs.Sound.{first-within, last-within}
+use Rattle.u_congruence.specs.Congruence.{AreBeside, IsBy, IsFromTo, IsOneDown}
 use Rattle.u_congruence.proofs.Turned.{from-known}
 
 -- the part's derivation, made in a term that is told
@@ -53,6 +58,20 @@ module _ (op : U → U → U)
         to = made_right outs l.to r.from r.to x.to (replaced-at (Right 1 ∷ []) e.outs outs e.to (op l.to r.from) r.from r.from r.to x.to after-left refl (made.outs ∙ none.outs) last.replaced);
       }
 
+      pub pair-costs : ((a b : U) → nodes (op a b) ≡ 1 + nodes a + nodes b) → ((a b : U) → depth (op a b) ≡ 1 + max (depth a) (depth b)) → IsSound l → IsSound r → IsStill F outs w d
+          → (x : Derivation) → IsMadeIn (Right 1 ∷ []) e r x → AreBeside l r x
+      pair-costs many deep sound_left sound_right still x last =
+          let first = first-within l sound_left in
+          let end = last-within l sound_left in
+          let other = first-within r sound_right in
+          let left : length (turns (Left 1 ∷ [])) ≡ 1 = refl in
+          let right : length (turns (Right 1 ∷ [])) ≡ 1 = refl in
+          record {
+            steps = last.steps ∙ ap (λ (s : List Step). s ++ lifted (Right 1 ∷ []) r.steps) (made.steps ∙ ap (λ (s : List Step). s ++ lifted (Left 1 ∷ []) l.steps) still.steps);
+            nodes = omega (arith, last.nodes, made.nodes, still.nodes, ap nodes still.to, ap nodes is, ap nodes after-left, many l.from r.from, many l.to r.from, first.few, end.few, other.few);
+            depth = omega (arith, last.depth, made.depth, still.depth, ap depth is, left, right, deep l.from r.from, first.shallow, other.shallow);
+          }
+
 module _ (op : U → U) (F : Facts) (outs inner : ℕ) (l : Derivation) (by : IsBy F inner l)
     (known : (a : U) → IsKnown 0 inner a → IsKnown 0 outs (op a))
     (part_in : (a : U) → IsClosed 0 a → IsPart outs (Inside 1 ∷ []) (op a) inner a)
@@ -74,3 +93,13 @@ module _ (op : U → U) (F : Facts) (outs inner : ℕ) (l : Derivation) (by : Is
       from = made.from ∙ none.from ∙ is;
       to = made_in l.from l.to x.to (replaced-at (Inside 1 ∷ []) d.outs outs d.to (op l.from) l.from l.from l.to x.to (none.to ∙ is) refl none.outs made.replaced);
     }
+
+    pub one-costs : ((a : U) → nodes (op a) ≡ 1 + nodes a) → ((a : U) → depth (op a) ≡ 1 + depth a) → IsSound l → IsStill F outs w d → (x : Derivation) → IsMadeIn (Inside 1 ∷ []) d l x → IsOneDown l x
+    one-costs many deep sound still x made =
+        let first = first-within l sound in
+        let once : length (turns (Inside 1 ∷ [])) ≡ 1 = refl in
+        record {
+          steps = made.steps ∙ ap (λ (s : List Step). s ++ lifted (Inside 1 ∷ []) l.steps) still.steps;
+          nodes = omega (arith, made.nodes, still.nodes, ap nodes still.to, ap nodes is, many l.from, first.few);
+          depth = omega (arith, made.depth, still.depth, ap depth is, once, deep l.from, first.shallow);
+        }

@@ -2,7 +2,7 @@
 ghost use Rattle.std.specs.Prelude.{◌≡◌, ◌+◌, IfOk};
 ghost use Rattle.u_terms.specs.Binding.{closed_at};
 ghost use Rattle.u_rules.specs.Terms.{◌⊗◌, ◌⊕◌, S, neg, sq};
-ghost use Rattle.u_congruence.specs.Congruence.{IsBy, IsFromTo};
+ghost use Rattle.u_congruence.specs.Congruence.{AreBeside, IsBy, IsFromTo, IsOneDown};
 
 use crate::NoMemory;
 use crate::whole::{Derived, closed, copied, made_in_turn, still};
@@ -18,7 +18,8 @@ pub fn added<'f>(
 ) -> Result<Derived<'f>, NoMemory>
     requires left { IsBy moves.facts.now moves.outs left }
     requires right { IsBy moves.facts.now moves.outs right }
-    ensures { IfOk result (IsFromTo moves.entry.facts.now moves.entry.outs (left.entry.from ⊕ right.entry.from) (left.entry.to ⊕ right.entry.to)) }
+    ensures ends { IfOk result (IsFromTo moves.entry.facts.now moves.entry.outs (left.entry.from ⊕ right.entry.from) (left.entry.to ⊕ right.entry.to)) }
+    ensures costs { IfOk result (AreBeside left.entry right.entry) }
 {
     let a = copied(moves.alloc, left.get().from())?;
     let b = copied(moves.alloc, right.get().from())?;
@@ -35,7 +36,8 @@ pub fn multiplied<'f>(
 ) -> Result<Derived<'f>, NoMemory>
     requires left { IsBy moves.facts.now moves.outs left }
     requires right { IsBy moves.facts.now moves.outs right }
-    ensures { IfOk result (IsFromTo moves.entry.facts.now moves.entry.outs (left.entry.from ⊗ right.entry.from) (left.entry.to ⊗ right.entry.to)) }
+    ensures ends { IfOk result (IsFromTo moves.entry.facts.now moves.entry.outs (left.entry.from ⊗ right.entry.from) (left.entry.to ⊗ right.entry.to)) }
+    ensures costs { IfOk result (AreBeside left.entry right.entry) }
 {
     let a = copied(moves.alloc, left.get().from())?;
     let b = copied(moves.alloc, right.get().from())?;
@@ -47,7 +49,8 @@ pub fn multiplied<'f>(
 /// From a squash to the squash of what its part leads to.
 pub fn squashed<'f>(moves: Moves<'f>, part: Derived<'f>) -> Result<Derived<'f>, NoMemory>
     requires { IsBy moves.facts.now moves.outs part }
-    ensures { IfOk result (IsFromTo moves.entry.facts.now moves.entry.outs (sq part.entry.from) (sq part.entry.to)) }
+    ensures ends { IfOk result (IsFromTo moves.entry.facts.now moves.entry.outs (sq part.entry.from) (sq part.entry.to)) }
+    ensures costs { IfOk result (IsOneDown part.entry) }
 {
     let a = copied(moves.alloc, part.get().from())?;
     let d = still(moves, Boxed::new(moves.alloc, U::Squash(a))?)?;
@@ -57,7 +60,8 @@ pub fn squashed<'f>(moves: Moves<'f>, part: Derived<'f>) -> Result<Derived<'f>, 
 /// From a negation to the negation of what its part leads to.
 pub fn negated<'f>(moves: Moves<'f>, part: Derived<'f>) -> Result<Derived<'f>, NoMemory>
     requires { IsBy moves.facts.now moves.outs part }
-    ensures { IfOk result (IsFromTo moves.entry.facts.now moves.entry.outs (neg part.entry.from) (neg part.entry.to)) }
+    ensures ends { IfOk result (IsFromTo moves.entry.facts.now moves.entry.outs (neg part.entry.from) (neg part.entry.to)) }
+    ensures costs { IfOk result (IsOneDown part.entry) }
 {
     let a = copied(moves.alloc, part.get().from())?;
     let d = still(moves, Boxed::new(moves.alloc, U::Not(a))?)?;
@@ -67,7 +71,8 @@ pub fn negated<'f>(moves: Moves<'f>, part: Derived<'f>) -> Result<Derived<'f>, N
 /// From a sum over all values to the sum over what its body leads to, where the name `outs` stands for the value.
 pub fn summed<'f>(moves: Moves<'f>, part: Derived<'f>) -> Result<Derived<'f>, NoMemory>
     requires { IsBy moves.facts.now (moves.outs + 1) part }
-    ensures { IfOk result (IsFromTo moves.entry.facts.now moves.entry.outs (S (closed_at part.entry.from moves.entry.outs)) (S (closed_at part.entry.to moves.entry.outs))) }
+    ensures ends { IfOk result (IsFromTo moves.entry.facts.now moves.entry.outs (S (closed_at part.entry.from moves.entry.outs)) (S (closed_at part.entry.to moves.entry.outs))) }
+    ensures costs { IfOk result (IsOneDown part.entry) }
 {
     let body = closed(moves.alloc, part.get().from(), moves.outs)?;
     let d = still(moves, Boxed::new(moves.alloc, U::Sum(body))?)?;

@@ -4,7 +4,7 @@ ghost use Rattle.u_terms.specs.Binding as binding;
 ghost use Rattle.u_deriv.specs.Normal.{IsCounted};
 ghost use Rattle.u_moves.specs.Derivations.{IsKnown, IsStill};
 ghost use Rattle.u_moves.specs.Lifting.{IsMadeIn, IsPart};
-ghost use Rattle.u_congruence.specs.Congruence.{IsFromTo};
+ghost use Rattle.u_congruence.specs.Congruence.{IsFromTo, IsSequence};
 
 use crate::NoMemory;
 use std::alloc::{AllocError, Global};
@@ -22,7 +22,8 @@ pub type Derived<'f> = Boxed<Deriv<'f>>;
 /// No step. There is no memory for terms without room for names.
 pub fn still<'f>(moves: Moves<'f>, u: Boxed<U>) -> Result<Derived<'f>, NoMemory>
     requires { IsKnown 0 moves.outs u }
-    ensures { IfOk result (IsFromTo moves.entry.facts.now moves.entry.outs u u) }
+    ensures ends { IfOk result (IsFromTo moves.entry.facts.now moves.entry.outs u u) }
+    ensures costs { IfOk result (IsStill moves.entry.facts.now moves.entry.outs u) }
 {
     unmoved(moves, u.get())
 }
@@ -112,7 +113,8 @@ pub fn joined<'f>(
     requires joins { first.to ≡ rest.from }
     requires facts { first.facts ≡ rest.facts }
     requires outs { first.outs ≡ rest.outs }
-    ensures { IfOk result (IsFromTo first.entry.facts first.entry.outs first.entry.from rest.entry.to) }
+    ensures ends { IfOk result (IsFromTo first.entry.facts first.entry.outs first.entry.from rest.entry.to) }
+    ensures costs { IfOk result (IsSequence first.entry rest.entry) }
 {
     let first = first.into_inner();
     Boxed::new(alloc, first.then(alloc, rest.into_inner())?)

@@ -4,3 +4,4 @@ pub mod Rows
 pub mod BodiesLed
 pub mod StandingBodies
 pub mod Sides
+pub mod OnePlainStep

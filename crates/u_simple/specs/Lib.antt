@@ -3,3 +3,4 @@ pub mod Order
 pub mod Passes
 pub mod Points
 pub mod Sums
+pub mod Steps

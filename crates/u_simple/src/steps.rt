@@ -4,6 +4,7 @@ ghost use Rattle.u_rules.specs.Terms.{◌≐◌, I, add_leaves, mul_leaves};
 ghost use Rattle.u_congruence.specs.Congruence.{IsFromTo};
 ghost use Rattle.u_moves.specs.Derivations.{IsKnown};
 ghost use Rattle.u_moves.specs.Moving.{IsKnownValue};
+ghost use Rattle.u_simple.specs.Steps.{IsOnePlainStep};
 
 use crate::NoMemory;
 use std::alloc::Global;
@@ -16,7 +17,8 @@ pub fn sums_rearranged<'f>(moves: Moves<'f>, left: &U, right: &U) -> Result<Deri
     requires left { IsKnown 0 moves.outs left.now }
     requires right { IsKnown 0 moves.outs right.now }
     requires leaves { IsPermutation (add_leaves left.now) (add_leaves right.now) }
-    ensures { IfOk result (IsFromTo moves.entry.facts.now moves.entry.outs left.now right.now) }
+    ensures ends { IfOk result (IsFromTo moves.entry.facts.now moves.entry.outs left.now right.now) }
+    ensures step { IfOk result (IsOnePlainStep left.now right.now) }
 {
     let x = left.copy(moves.alloc)?;
     let y = right.copy(moves.alloc)?;
@@ -33,7 +35,8 @@ pub fn products_rearranged<'f>(
     requires left { IsKnown 0 moves.outs left.now }
     requires right { IsKnown 0 moves.outs right.now }
     requires leaves { IsPermutation (mul_leaves left.now) (mul_leaves right.now) }
-    ensures { IfOk result (IsFromTo moves.entry.facts.now moves.entry.outs left.now right.now) }
+    ensures ends { IfOk result (IsFromTo moves.entry.facts.now moves.entry.outs left.now right.now) }
+    ensures step { IfOk result (IsOnePlainStep left.now right.now) }
 {
     let x = left.copy(moves.alloc)?;
     let y = right.copy(moves.alloc)?;

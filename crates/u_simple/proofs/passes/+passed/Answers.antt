@@ -155,6 +155,6 @@ passed_opened-passed-requires t c =
 pub passed_body-returns : goal.passed_body-returns
 passed_body-returns t c =
     let whole : c.in_ok-sum.sum.from ≡ S c.args.f.now =
-    (c.in_ok-sum.ensures {u = tt}).from ∙ ap (λ (u : U). S (closed_at u c.args.moves.outs)) (c.in_ok-part.ensures {u = tt}).from ∙ ap (λ (u : U). S u) (body-again c.args.moves.outs c.args.f.now c.requires) in
+    (c.in_ok-sum.ensures.ends).from ∙ ap (λ (u : U). S (closed_at u c.args.moves.outs)) (c.in_ok-part.ensures {u = tt}).from ∙ ap (λ (u : U). S u) (body-again c.args.moves.outs c.args.f.now c.requires) in
     if-ok (IsFrom c.args.moves.facts.now c.args.moves.outs c.in_ok-sum.sum.from) (IsFrom c.args.moves.facts.now c.args.moves.outs (S c.args.f.now))
     (λ d h. record { facts = h.facts; outs = h.outs; from = h.from ∙ whole }) c.then_over_values.result c.then_over_values.ensures

@@ -34,7 +34,7 @@ in_body-returns-in-Some t c =
     let e : c.get.result.now ≡ opened c.args.f.now outs = c.get.ensures ∙ c.in_ok-body.ensures {u = tt} ∙ c.in_ok-opened.ensures {u = tt} in
     let part : IsFrom c.in_ok-inner.inner.facts.now c.in_ok-inner.inner.outs c.get.result.now c.in-Some.part =
     subst (λ o. IfSome o (IsFrom c.in_ok-inner.inner.facts.now c.in_ok-inner.inner.outs c.get.result.now)) c.in-Some.is (c.in_ok-part.ensures {u = tt}) in
-    let sum = c.in_ok-summed-in-Some.ensures {u = tt} in
+    let sum = c.in_ok-summed-in-Some.ensures.ends in
     record {
       facts = sum.facts;
       outs = sum.outs;

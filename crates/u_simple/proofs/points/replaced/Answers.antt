@@ -19,14 +19,14 @@ then_put-requires-clause-rest c =
 pub then_put-requires-clause-to : goal.then_put-requires-clause-to
 then_put-requires-clause-to c =
     let front = c.in_ok-front.ensures {u = tt} in
-    let sum = c.in_ok-sum.ensures {u = tt} in
+    let sum = c.in_ok-sum.ensures.ends in
     sum.to ∙ ap (λ (u : U). S (closed_at u c.args.moves.outs)) front.to
     ∙ ap (λ (u : U). S u) (closed-point c.args.moves.outs c.args.point.now.value c.args.point.now.rest c.requires.point.apart)
 
 pub returns : goal.returns
 returns c =
     let front = c.in_ok-front.ensures {u = tt} in
-    let sum = c.in_ok-sum.ensures {u = tt} in
+    let sum = c.in_ok-sum.ensures.ends in
     let whole : c.in_ok-sum.sum.from ≡ S c.args.f.now =
     sum.from ∙ ap (λ (u : U). S (closed_at u c.args.moves.outs)) front.from ∙ ap (λ (u : U). S u) (body-again c.args.moves.outs c.args.f.now c.requires.known) in
     if-ok (IsFrom c.args.moves.facts.now c.args.moves.outs c.in_ok-sum.sum.from) (IsFrom c.args.moves.facts.now c.args.moves.outs (S c.args.f.now))
