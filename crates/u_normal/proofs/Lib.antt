@@ -14,6 +14,9 @@ pub mod ValuesLed
 pub mod SaidAgain
 pub mod TidiedBlocks
 pub mod ShapedSums
+pub mod Levels
+pub mod FewOnes
+pub mod NormalCosts
 pub mod ShortSteps
 pub mod ShapedEnds
 pub mod OneMore

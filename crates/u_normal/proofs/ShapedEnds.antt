@@ -1,14 +1,12 @@
 -- What the derivations of blocks that have shapes end in.
-use Rattle.std.proofs.Common.{◌≡◌, ℕ, ◌+◌, ◌≤◌, List, [], ◌∷◌, length, refl, ap, sym, subst, ◌∙◌, lit≤, arith}
-use Rattle.std.specs.List.{sum_by}
+use Rattle.std.proofs.Common.{◌≡◌, ℕ, ◌+◌, ◌≤◌, [], ◌∷◌, length, refl, ap, sym, subst, ◌∙◌, lit≤, arith}
 use Rattle.u_terms.specs.declared.facts.Facts.{Facts}
 use Rattle.u_terms.specs.declared.term.U.TheVariants as u
 use Rattle.u_terms.specs.Syntax.{U, constructors}
 use Rattle.u_terms.specs.Size.{nodes}
-use Rattle.u_terms.specs.Products.{product_of}
 use Rattle.u_terms.specs.Binding.{closed_at, opened}
 use Rattle.u_terms.proofs.Parts.{parts-Squash}
-use Rattle.u_rules.specs.Terms.{S, add_leaves, mul_leaves, sq}
+use Rattle.u_rules.specs.Terms.{S, add_leaves, sq}
 use Rattle.u_terms.specs.Places.{IsClosed}
 use Rattle.u_deriv.specs.declared.run.Run.TheVariants.{Inside}
 use Rattle.u_deriv.proofs.Arguments.{nodes-positive}
@@ -16,33 +14,20 @@ use Rattle.u_moves.specs.declared.moves.Moves.{Moves}
 use Rattle.u_moves.specs.Derivations.{Derivation, IsKnown}
 use Rattle.u_moves.specs.Lifting.{IsPart}
 use Rattle.u_congruence.proofs.Turned.{part-sum, part-squash}
-use Rattle.normal_form.specs.Kinds.{ordered}
 use Rattle.normal_form.specs.NormalTerms.{sum_of, IsNormal, IsBlock, product_of_factors, no_factor, factor_then, squash}
-use Rattle.normal_form.proofs.Leaves.{leaves-in_order}
 use Rattle.term_shapes.specs.TermShape.{HasShape}
 use Rattle.term_shapes.specs.BlockTerms.{HaveShapes}
 use Rattle.u_congruence.specs.Congruence.{IsBy, IsFromTo}
 use Rattle.u_normal.specs.Leading.{IsOneMore}
-use Rattle.u_normal.specs.Merging.{HasKinds}
-use Rattle.u_normal.specs.Taking.{load}
-use Rattle.u_normal.specs.Shaped.{tidied, all_tidied, block_count, AreShaped, HasSomeShape, IsBrief, IsMadeAt, IsShort, IsShapedEnd}
-use Rattle.u_normal.proofs.Loads.{load-permuted, load-small}
-use Rattle.u_normal.proofs.Finishes.{in_order-leaves}
+use Rattle.u_normal.specs.Shaped.{tidied, all_tidied, block_count, AreShaped, HasSomeShape, HasSmallBlocks, IsBrief, IsBriefSum, IsMadeAt, IsShort, IsShapedEnd}
 use Rattle.u_normal.proofs.Blocks.{one-block}
 use Rattle.u_normal.proofs.KnownParts.{again-at, body-again, known-opened}
 use Rattle.u_normal.proofs.TidiedBlocks.{tidied-shape, tidied-block, tidied-Sum, tidied-closed}
-use Rattle.u_normal.proofs.ShapedSums.{squash-unshaped, row-shaped, row-normal, count-blocks, product-small, in_row-small}
+use Rattle.u_normal.proofs.Levels.{sum-level}
+use Rattle.u_normal.proofs.ShapedSums.{squash-unshaped, row-shaped, row-normal, count-blocks, in_row-small}
 use Rattle.u_normal.proofs.ShortSteps.{brief-part, brief-squash, brief-sum, more-short}
 
 -- ---- with the factors in order
-ordered-weight : (t : U) → HasKinds t → sum_by (λ x. nodes x + 1) (ordered (mul_leaves t)) ≡ load t
-unfolding load
-ordered-weight t h =
-    sym (ap (λ (us : List U). sum_by (λ x. nodes x + 1) us) (leaves-in_order t)) ∙ load-permuted t (product_of (ordered (mul_leaves t))) (in_order-leaves t h)
-
-pub ordered-small : (t : U) → HasKinds t → nodes (product_of (ordered (mul_leaves t))) ≤ nodes t
-ordered-small t h = product-small (ordered (mul_leaves t)) (nodes t) (nodes-positive t) (omega (arith, ordered-weight t h, load-small t))
-
 pub brief-to : (F : Facts) (outs : ℕ) (first last other : U) (most n : ℕ) (d : Derivation) → last ≡ other → most ≤ n → IsBrief F outs first last most d → IsBrief F outs first other n d
 brief-to F outs first last other most n d e le h = record {
   ends = record { facts = h.ends.facts; outs = h.ends.outs; from = h.ends.from; to = h.ends.to ∙ e };
@@ -84,9 +69,10 @@ squash-brief moves t a l et brief x made =
     (brief-part moves.facts.now moves.outs a (tidied a) 1 l brief)
 
 -- ---- the whole
-pub sum-end : (F : Facts) (outs : ℕ) (t : U) (blocks d : Derivation) → ((a : U) → t ≡ sq a → ⊥) → AreShaped outs t → IsBrief F outs t (all_tidied t) (block_count t) blocks
+pub sum-end : (F : Facts) (outs : ℕ) (t : U) (blocks d : Derivation) → ((a : U) → t ≡ sq a → ⊥) → AreShaped outs t → IsBriefSum F outs t blocks
     → IsFromTo F outs blocks.from (sum_of (add_leaves blocks.to)) d → IsOneMore blocks d → IsShapedEnd F outs t d
-sum-end F outs t blocks d other shaped brief ends more =
+sum-end F outs t blocks d other shaped each ends more =
+    let brief = each.brief in
     let last : d.to ≡ sum_of (add_leaves (all_tidied t)) = ends.to ∙ ap (λ (x : U). sum_of (add_leaves x)) brief.ends.to in
     let short : IsShort (block_count t + 1) d =
     more-short blocks d (block_count t) more brief.short (omega (arith, ap nodes brief.ends.to, ap nodes brief.ends.from, brief.fewer))
@@ -97,6 +83,7 @@ sum-end F outs t blocks d other shaped brief ends more =
         sum = λ ss h. record {
           shapes = subst (λ (x : U). HaveShapes outs x ss) (sym last) (row-shaped outs t ss h);
           short = subst (λ (n : ℕ). IsShort (n + 1) d) (count-blocks outs t ss h) short;
+          level = λ most small. sum-level outs t ss h blocks d each.level more.shallow last most (subst (HasSmallBlocks most) (ends.from ∙ brief.ends.from) small);
         };
         squash = λ s h. absurd (other h.inside h.is);
       };

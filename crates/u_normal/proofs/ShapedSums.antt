@@ -21,7 +21,7 @@ use Rattle.u_normal.specs.Shaped.{tidied, all_tidied, block_count, AreShaped, Ha
 use Rattle.u_normal.proofs.TidiedBlocks.{tidied-shape, tidied-block}
 
 -- ---- what has no shape
-add-none : (outs : ℕ) (a b : U) (s : Shape) → HasShape outs (Add a b) s → ⊥
+pub add-none : (outs : ℕ) (a b : U) (s : Shape) → HasShape outs (Add a b) s → ⊥
 unfolding term_shape factors sum_count under_sums
 add-none outs a b s h = cc
 
@@ -93,7 +93,7 @@ each-shape outs t ss (one_block {s = s} h) = each-block outs t s h
 each-shape outs t ss (two_sums {a = a} {b = b} {ss = ls} {ts = rs} h k) = each-append outs (each-shape outs a ls h) (each-shape outs b rs k)
 
 -- ---- in one row
-some-shapes : (outs : ℕ) (t : U) (ss : List Shape) → HaveShapes outs t ss → 1 ≤ length ss
+pub some-shapes : (outs : ℕ) (t : U) (ss : List Shape) → HaveShapes outs t ss → 1 ≤ length ss
 some-shapes outs t ss (one_block h) = omega arith
 some-shapes outs t ss (two_sums {a = a} {ss = ls} {ts = rs} h k) = omega (arith, some-shapes outs a ls h, length-append ls rs)
 

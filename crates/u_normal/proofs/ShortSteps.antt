@@ -28,7 +28,7 @@ use Rattle.u_congruence.proofs.Turned.{known-Add, part-add_left, made-add_left, 
 use Rattle.u_congruence.proofs.Pairs.{one-shown, pair-shown}
 use Rattle.u_normal.specs.Leading.{IsOneMore}
 use Rattle.u_normal.proofs.KnownParts.{known-left, known-right}
-use Rattle.u_normal.specs.Shaped.{IsShort, IsBrief, IsBriefPart, AreBriefParts, IsMadeAt}
+use Rattle.u_normal.specs.Shaped.{IsShort, IsBrief, IsBriefPart, IsBriefBeside, AreBriefParts, IsMadeAt}
 
 -- ---- without a step, and with one
 pub still-ends : (F : Facts) (outs : ℕ) (t : U) (d : Derivation) → IsStill F outs t d → IsFromTo F outs t t d
@@ -147,8 +147,8 @@ module _ (F : Facts) (outs : ℕ) (w : U) (l r : Derivation) (p : AreBriefParts 
       (subst (λ (t : U). IsPart outs (Right 1 ∷ []) t r.outs r.from) (sym ends-half)
       (subst (λ (n : ℕ). IsPart outs (Right 1 ∷ []) (l.to ⊕ r.from) n r.from) (sym p.right_by.outs) (part-add_right outs l.to r.from (known-right outs 0 l.from r.from parts).closed)))
 
-  pub brief-beside : (x : Derivation) → IsMadeIn (Right 1 ∷ []) half r x → IsBrief F outs w (l.to ⊕ r.to) (length l.steps + length r.steps) x
-  brief-beside x last =
+  whole-beside : (x : Derivation) → IsMadeIn (Right 1 ∷ []) half r x → IsBrief F outs w (l.to ⊕ r.to) (length l.steps + length r.steps) x
+  whole-beside x last =
       let shown : IsFromTo F outs (l.from ⊕ r.from) (l.to ⊕ r.to) x =
       pair-shown (λ (a b : U). a ⊕ b) (known-Add 0) (λ outs. part-add_left outs) (λ outs. made-add_left outs) (λ outs. part-add_right outs) (λ outs. made-add_right outs) F outs l r p.left_by p.right_by
       w p.is none (still-ends F outs w none still) half made x last in
@@ -161,6 +161,12 @@ module _ (F : Facts) (outs : ℕ) (w : U) (l r : Derivation) (p : AreBriefParts 
             (made-inside (Right 1 ∷ []) half r x (length l.steps) (nodes w) refl last left (omega (arith, ap nodes ends-half, nodes-Add l.to r.from, p.left_brief.fewer, size)) p.right_brief.short (omega (arith, size)));
         fewer = omega (arith, size, nodes-Add l.to r.to, p.left_brief.fewer, p.right_brief.fewer);
       }
+
+  pub brief-beside : (x : Derivation) → IsMadeIn (Right 1 ∷ []) half r x → IsBriefBeside F outs w l r x
+  brief-beside x last =
+      let left_turn : length (turns (Left 1 ∷ [])) ≡ 1 = refl in
+      let right_turn : length (turns (Right 1 ∷ [])) ≡ 1 = refl in
+      record { brief = whole-beside x last; shallow = omega (arith, last.depth, made.depth, still.depth, left_turn, right_turn) }
 
 -- ---- then one step more
 pub more-short : (before d : Derivation) (n : ℕ) → IsOneMore before d → IsShort n before → nodes before.to ≤ nodes before.from → nodes d.to ≤ nodes before.to → d.from ≡ before.from → IsShort (n + 1) d

@@ -56,7 +56,7 @@ ordered-saying : (w : U) → Each IsSaying (mul_leaves w) → Each IsSaying (ord
 ordered-saying w h = each-ordered IsSaying (mul_leaves w) h
 
 -- ---- under its sums
-tidied-under : (u : U) → Each IsSaying (mul_leaves (under_sums u)) → under_sums (tidied u) ≡ product_of (ordered (mul_leaves (under_sums u)))
+pub tidied-under : (u : U) → Each IsSaying (mul_leaves (under_sums u)) → under_sums (tidied u) ≡ product_of (ordered (mul_leaves (under_sums u)))
 unfolding under_sums tidied
 tidied-under Zero h = row-under (ordered (mul_leaves Zero)) (ordered-saying Zero h)
 tidied-under One h = row-under (ordered (mul_leaves One)) (ordered-saying One h)
@@ -69,7 +69,7 @@ tidied-under (Rel table shape arguments) h = row-under (ordered (mul_leaves (Rel
 tidied-under (Eq a b) h = row-under (ordered (mul_leaves (Eq a b))) (ordered-saying (Eq a b) h)
 tidied-under (Pred symbol shape arguments) h = row-under (ordered (mul_leaves (Pred symbol shape arguments))) (ordered-saying (Pred symbol shape arguments) h)
 
-tidied-count : (u : U) → Each IsSaying (mul_leaves (under_sums u)) → sum_count (tidied u) ≡ sum_count u
+pub tidied-count : (u : U) → Each IsSaying (mul_leaves (under_sums u)) → sum_count (tidied u) ≡ sum_count u
 unfolding under_sums sum_count tidied
 tidied-count Zero h = row-count (ordered (mul_leaves Zero)) (ordered-saying Zero h)
 tidied-count One h = row-count (ordered (mul_leaves One)) (ordered-saying One h)
@@ -96,7 +96,7 @@ tidied-shape outs u s h =
     ∙ shape-again (under_sums u) each outs (sum_count u) ∙ h
 
 -- a product of factors, and with its factors by kinds a block
-product-by : (w : U) → Each IsSaying (mul_leaves w) → IsProduct w
+pub product-by : (w : U) → Each IsSaying (mul_leaves w) → IsProduct w
 product-by w h = record { factors = each-of IsSaying IsSomeFactor (λ x says. says.normal) (mul_leaves w) h }
 
 block-by : (w : U) → Each IsSaying (mul_leaves w) → IsBlock (product_of (ordered (mul_leaves w)))

@@ -1,10 +1,11 @@
 -- Sums of blocks that have shapes, and what they are with the factors of each block by their kinds.
-use Rattle.std.specs.Prelude.{◌≡◌, ℕ, ◌+◌, ◌≤◌, List, length}
+use Rattle.std.specs.Prelude.{◌≡◌, ℕ, ◌+◌, ◌≤◌, max, List, length}
+use Rattle.data_model.specs.Lists.{Each}
 use Rattle.u_terms.specs.Syntax.{U, Add, Sum}
-use Rattle.u_terms.specs.Size.{nodes}
+use Rattle.u_terms.specs.Size.{nodes, depth}
 use Rattle.u_terms.specs.Products.{product_of}
 use Rattle.u_terms.specs.declared.facts.Facts.{Facts}
-use Rattle.u_rules.specs.Terms.{◌⊕◌, mul_leaves}
+use Rattle.u_rules.specs.Terms.{◌⊕◌, add_leaves, mul_leaves}
 use Rattle.u_deriv.specs.declared.run.Run.{Run}
 use Rattle.u_moves.specs.declared.moves.Moves.{Moves}
 use Rattle.u_moves.specs.Derivations.{Derivation, HasPlainSteps, IsStill}
@@ -30,9 +31,15 @@ pub record IsShort (most : ℕ) (d : Derivation) : Type 0 where
   pub shallow : d.depth ≤ nodes d.from
   pub plain : HasPlainSteps d
 
+-- each of the terms that are added has at most so many nodes
+abbrev pub HasSmallBlocks : ℕ → U → Type 0
+HasSmallBlocks most u = Each (λ block. nodes block ≤ most) (add_leaves u)
+
 pub record KeepsSum (outs : ℕ) (ss : List Shape) (d : Derivation) : Type 0 where
   pub shapes : HaveShapes outs d.to ss
   pub short : IsShort (length ss + 1) d
+  -- no deeper than a level for each block, and the nodes of the largest one
+  pub level : (most : ℕ) → HasSmallBlocks most d.from → d.depth ≤ length ss + most
 
 pub record KeepsSquash (outs : ℕ) (s : Shape) (d : Derivation) : Type 0 where
   pub shape : IsSquashed outs d.to s
@@ -77,6 +84,15 @@ pub record IsBrief (F : Facts) (names : ℕ) (first last : U) (most : ℕ) (d : 
   pub short : IsShort most d
   pub fewer : nodes last ≤ nodes first
 
+-- no deeper than a level for each block of the first term, and the nodes of the largest one
+pub record IsLevel (first : U) (d : Derivation) : Type 0 where
+  pub level : (most : ℕ) → HasSmallBlocks most first → d.depth ≤ block_count first + most
+
+-- the factors of each block of a sum by their kinds
+pub record IsBriefSum (F : Facts) (names : ℕ) (first : U) (d : Derivation) : Type 0 where
+  pub brief : IsBrief F names first (all_tidied first) (block_count first) d
+  pub level : IsLevel first d
+
 -- a derivation without more than it needs
 pub record IsBriefPart (d : Derivation) : Type 0 where
   pub short : IsShort (length d.steps) d
@@ -89,6 +105,11 @@ pub record AreBriefParts (F : Facts) (names : ℕ) (sum : U) (left right : Deriv
   pub right_by : IsBy F names right
   pub left_brief : IsBriefPart left
   pub right_brief : IsBriefPart right
+
+-- both, made in the sum: no deeper than the sum, or than a part with one turn more
+pub record IsBriefBeside (F : Facts) (names : ℕ) (sum : U) (left right d : Derivation) : Type 0 where
+  pub brief : IsBrief F names sum (left.to ⊕ right.to) (length left.steps + length right.steps) d
+  pub shallow : d.depth ≤ max (depth sum) (1 + max left.depth right.depth)
 
 -- the part's derivation, made in a whole term
 pub record IsMadeAt (path : List Run) (moves : Moves) (whole : U) (part d : Derivation) : Type 0 where

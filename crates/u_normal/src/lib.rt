@@ -2,6 +2,7 @@
 #![tactic(auto)]
 
 mod heads;
+pub mod laws;
 mod limits;
 mod merging;
 mod rooms;

@@ -1,15 +1,15 @@
 //! Sums of blocks that have shapes, and one squash of such a block: a step for each block and one for the sum, with no limit.
-ghost use Rattle.std.specs.Prelude.{◌≡◌, ◌↔◌, ◌+◌, ◌∷◌, [], IfOk, IsTrue, MatchOption, length};
+ghost use Rattle.std.specs.Prelude.{◌≡◌, ◌↔◌, ◌∷◌, [], IfOk, IsTrue, MatchOption};
 ghost use Rattle.u_terms.specs.Products.{product_of};
 ghost use Rattle.u_terms.specs.Syntax.{U as Term};
-ghost use Rattle.u_rules.specs.Terms.{◌⊕◌, mul_leaves, sq};
+ghost use Rattle.u_rules.specs.Terms.{mul_leaves, sq};
 ghost use Rattle.u_deriv.specs.declared.run.Run.TheVariants as run;
 ghost use Rattle.u_moves.specs.Derivations.{IsKnown};
 ghost use Rattle.u_moves.specs.Lifting.{IsPart};
 ghost use Rattle.normal_form.specs.Kinds.{ordered};
 ghost use Rattle.normal_form.specs.LooseTerms.{IsLooseBlock, IsProduct};
 ghost use Rattle.u_normal.specs.Shaped as spec;
-ghost use Rattle.u_normal.specs.Shaped.{AreBriefParts, AreShaped, HasSomeShape, IsBrief, IsMadeAt, IsShapedEnd, IsShaped};
+ghost use Rattle.u_normal.specs.Shaped.{AreBriefParts, AreShaped, HasSomeShape, IsBrief, IsBriefBeside, IsBriefSum, IsMadeAt, IsShapedEnd, IsShaped};
 
 use crate::NoMemory;
 use crate::steps::then_in_row;
@@ -84,7 +84,7 @@ fn has_shape(alloc: Global, outs: u32, u: &U) -> Result<bool, NoMemory>
 fn blocks_in_order<'f>(moves: Moves<'f>, u: &U) -> Result<Derived<'f>, NoMemory>
     requires known { IsKnown 0 moves.outs u.now }
     requires shaped { AreShaped moves.outs u.now }
-    ensures { IfOk result (IsBrief moves.entry.facts.now moves.entry.outs u.now (spec.all_tidied u.now) (spec.block_count u.now)) }
+    ensures { IfOk result (IsBriefSum moves.entry.facts.now moves.entry.outs u.now) }
 {
     match u {
         U::Add(a, b) => {
@@ -148,7 +148,7 @@ fn made_beside<'f>(
 ) -> Result<Derived<'f>, NoMemory>
     requires known { IsKnown 0 moves.outs u.now }
     requires parts { AreBriefParts moves.facts.now moves.outs u.now left right }
-    ensures { IfOk result (IsBrief moves.entry.facts.now moves.entry.outs u.now (left.entry.to ⊕ right.entry.to) (length left.entry.steps + length right.entry.steps)) }
+    ensures { IfOk result (IsBriefBeside moves.entry.facts.now moves.entry.outs u.now left.entry right.entry) }
 {
     let whole = unmoved(moves, u)?;
     let half = made_in_turn(moves.alloc, whole, Run::Left(1), left)?;

@@ -47,4 +47,4 @@ returns c =
     (leads-to (IsHeaded (load c.args.u.now)) c.args.moves.facts.now c.in_ok-turn.turn.facts c.args.moves.outs c.in_ok-turn.turn.outs c.args.u.now c.in_ok-turn.turn.from c.in_ok-rest.rest.to
     turn.facts turn.outs turn.from
     (subst (λ (m : ℕ). IsHeaded m c.in_ok-rest.rest.to) n (c.in_ok-rest.ensures {u = tt}).reached))
-    c.joined.result c.joined.ensures
+    c.joined.result c.joined.ensures.ends

@@ -27,7 +27,7 @@ pub returns : goal.returns
 returns c =
     let squashes = c.in_ok-squashes.ensures {u = tt} in
     let negations = c.in_ok-negations.ensures {u = tt} in
-    let whole = c.in_ok-both.ensures {u = tt} in
+    let whole = c.in_ok-both.ensures.ends in
     let e : c.to.result.now ≡ c.in_ok-squashes.squashes.to = c.to.ensures.lent ∙ ap (λ (d : Derivation). d.to) c.get.ensures in
     if-ok (IsFromTo c.args.moves.facts.now c.args.moves.outs c.in_ok-both.both.from (product_of (ordered (mul_leaves c.in_ok-both.both.to))))
     (Leads (IsHeaded (load c.args.u.now)) c.args.moves.facts.now c.args.moves.outs c.args.u.now)

@@ -30,13 +30,13 @@ returns c =
     let turn = c.in_ok-turn.ensures {u = tt} in
     let one = c.in_ok-one.ensures {u = tt} in
     let merged = one.reached in
-    let rest : c.in_ok-rest.rest.to ≡ c.args.pair.now.rest = (c.in_ok-rest.ensures {u = tt}).to ∙ c.in_ok-copied.ensures {u = tt} ∙ c.get-3.ensures in
+    let rest : c.in_ok-rest.rest.to ≡ c.args.pair.now.rest = (c.in_ok-rest.ensures.ends).to ∙ c.in_ok-copied.ensures {u = tt} ∙ c.get-3.ensures in
     let end : c.in_ok-all.all.to ≡ both c.args.wrap merged.p merged.q ⊗ c.args.pair.now.rest =
-    (c.in_ok-all.ensures {u = tt}).to ∙ ap (λ (u : U). c.in_ok-one.one.to ⊗ u) rest ∙ ap (λ (u : U). u ⊗ c.args.pair.now.rest) merged.is in
+    (c.in_ok-all.ensures.ends).to ∙ ap (λ (u : U). c.in_ok-one.one.to ⊗ u) rest ∙ ap (λ (u : U). u ⊗ c.args.pair.now.rest) merged.is in
     if-ok (IsFromTo c.in_ok-turn.turn.facts c.in_ok-turn.turn.outs c.in_ok-turn.turn.from c.in_ok-all.all.to)
     (Leads (IsFewer c.args.wrap c.args.u.now) c.args.moves.facts.now c.args.moves.outs c.args.u.now)
     (leads-to (IsFewer c.args.wrap c.args.u.now) c.args.moves.facts.now c.in_ok-turn.turn.facts c.args.moves.outs c.in_ok-turn.turn.outs c.args.u.now c.in_ok-turn.turn.from c.in_ok-all.all.to
     turn.facts turn.outs turn.from
     (subst (λ (u : U). IsFewer c.args.wrap c.args.u.now u) (sym end)
     (fewer c.args.wrap c.args.u.now c.args.pair.now c.requires.pair merged.p merged.q (sym c.get.ensures ∙ merged.first_is) (sym c.get-2.ensures ∙ merged.second_is))))
-    c.joined.result c.joined.ensures
+    c.joined.result c.joined.ensures.ends

@@ -3,12 +3,13 @@ use Rattle.u_terms.specs.Syntax.{U}
 use Rattle.u_terms.specs.Size.{nodes}
 use Rattle.u_terms.proofs.Sizes.{nodes-Add}
 use Rattle.u_rules.specs.Terms.{◌⊕◌}
-use Rattle.u_moves.specs.Derivations.{IsKnown}
+use Rattle.u_moves.specs.Derivations.{Derivation, IsKnown}
 use Rattle.u_moves.proofs.Whole.{if-ok}
-use Rattle.u_normal.specs.Shaped.{AreShaped, IsBrief, tidied, all_tidied, block_count}
+use Rattle.u_normal.specs.Shaped.{AreShaped, IsBrief, IsBriefBeside, IsBriefSum, IsLevel, tidied, all_tidied, block_count}
 use Rattle.u_normal.proofs.KnownParts.{known-left, known-right}
 use Rattle.u_normal.proofs.TidiedBlocks.{shape-loose}
 use Rattle.u_normal.proofs.ShapedSums.{all_tidied-Add, all_tidied-block, block_count-Add, block_count-one, one-shape, shaped-left, shaped-right}
+use Rattle.u_normal.proofs.Levels.{level-alone, level-both}
 use Rattle.u_normal.proofs.ShapedEnds.{brief-to}
 use Rattle.u_normal.proofs.shaped.+blocks_in_order.Goals as goal
 
@@ -41,20 +42,26 @@ pub returns-in_ok-right-in-Add : goal.returns-in_ok-right-in-Add
 returns-in_ok-right-in-Add t c =
     let left = c.in_ok-left-in-Add.ensures {u = tt} in
     let right = c.in_ok-right-in-Add.ensures {u = tt} in
-    let e : c.in_ok-left-in-Add.left.to ⊕ c.in_ok-right-in-Add.right.to ≡ all_tidied c.args.u.now =
-    ap (λ (a : U). a ⊕ c.in_ok-right-in-Add.right.to) (left.ends.to ∙ ap all_tidied c.get.ensures) ∙ ap (λ (b : U). all_tidied c.in-Add.a ⊕ b) (right.ends.to ∙ ap all_tidied c.get-in-Add.ensures)
+    let l : Derivation = c.in_ok-left-in-Add.left in
+    let r : Derivation = c.in_ok-right-in-Add.right in
+    let e : l.to ⊕ r.to ≡ all_tidied c.args.u.now =
+    ap (λ (a : U). a ⊕ r.to) (left.brief.ends.to ∙ ap all_tidied c.get.ensures) ∙ ap (λ (b : U). all_tidied c.in-Add.a ⊕ b) (right.brief.ends.to ∙ ap all_tidied c.get-in-Add.ensures)
     ∙ sym (ap all_tidied c.in-Add.is ∙ all_tidied-Add c.in-Add.a c.in-Add.b) in
-    let n : length c.in_ok-left-in-Add.left.steps + length c.in_ok-right-in-Add.right.steps ≤ block_count c.args.u.now =
-    omega (arith, left.short.few, right.short.few, ap block_count c.get.ensures, ap block_count c.get-in-Add.ensures, ap block_count c.in-Add.is, block_count-Add c.in-Add.a c.in-Add.b) in
-    if-ok (IsBrief c.args.moves.facts.now c.args.moves.outs c.args.u.now (c.in_ok-left-in-Add.left.to ⊕ c.in_ok-right-in-Add.right.to) (length c.in_ok-left-in-Add.left.steps + length c.in_ok-right-in-Add.right.steps))
-    (IsBrief c.args.moves.facts.now c.args.moves.outs c.args.u.now (all_tidied c.args.u.now) (block_count c.args.u.now))
-    (λ d brief. brief-to c.args.moves.facts.now c.args.moves.outs c.args.u.now (c.in_ok-left-in-Add.left.to ⊕ c.in_ok-right-in-Add.right.to) (all_tidied c.args.u.now)
-    (length c.in_ok-left-in-Add.left.steps + length c.in_ok-right-in-Add.right.steps) (block_count c.args.u.now) d e n brief)
+    let n : length l.steps + length r.steps ≤ block_count c.args.u.now =
+    omega (arith, left.brief.short.few, right.brief.short.few, ap block_count c.get.ensures, ap block_count c.get-in-Add.ensures, ap block_count c.in-Add.is, block_count-Add c.in-Add.a c.in-Add.b) in
+    if-ok (IsBriefBeside c.args.moves.facts.now c.args.moves.outs c.args.u.now l r) (IsBriefSum c.args.moves.facts.now c.args.moves.outs c.args.u.now)
+    (λ d beside. record {
+      brief = brief-to c.args.moves.facts.now c.args.moves.outs c.args.u.now (l.to ⊕ r.to) (all_tidied c.args.u.now) (length l.steps + length r.steps) (block_count c.args.u.now) d e n beside.brief;
+      level = level-both c.args.u.now c.in-Add.a c.in-Add.b l r d c.in-Add.is (subst (λ (a : U). IsLevel a l) c.get.ensures left.level) (subst (λ (b : U). IsLevel b r) c.get-in-Add.ensures right.level) beside.shallow;
+    })
     c.made_beside.result c.made_beside.ensures
 
 pub returns-in_default : goal.returns-in_default
 returns-in_default t c =
-    if-ok (IsBrief c.args.moves.facts.now c.args.moves.outs c.args.u.now (tidied c.args.u.now) 1) (IsBrief c.args.moves.facts.now c.args.moves.outs c.args.u.now (all_tidied c.args.u.now) (block_count c.args.u.now))
-    (λ d brief. brief-to c.args.moves.facts.now c.args.moves.outs c.args.u.now (tidied c.args.u.now) (all_tidied c.args.u.now) 1 (block_count c.args.u.now) d
-    (sym (all_tidied-block c.args.u.now c.in_default.not-Add)) (omega (arith, block_count-one c.args.u.now c.in_default.not-Add)) brief)
+    if-ok (IsBrief c.args.moves.facts.now c.args.moves.outs c.args.u.now (tidied c.args.u.now) 1) (IsBriefSum c.args.moves.facts.now c.args.moves.outs c.args.u.now)
+    (λ d brief. record {
+      brief = brief-to c.args.moves.facts.now c.args.moves.outs c.args.u.now (tidied c.args.u.now) (all_tidied c.args.u.now) 1 (block_count c.args.u.now) d
+          (sym (all_tidied-block c.args.u.now c.in_default.not-Add)) (omega (arith, block_count-one c.args.u.now c.in_default.not-Add)) brief;
+      level = level-alone c.args.moves.facts.now c.args.moves.outs c.args.u.now (tidied c.args.u.now) 1 d c.in_default.not-Add brief;
+    })
     c.block_in_order.result c.block_in_order.ensures

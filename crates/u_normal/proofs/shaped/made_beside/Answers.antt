@@ -1,9 +1,8 @@
-use Rattle.std.proofs.Common.{◌+◌, [], ◌∷◌, length}
-use Rattle.u_rules.specs.Terms.{◌⊕◌}
+use Rattle.std.proofs.Common.{[], ◌∷◌}
 use Rattle.u_deriv.specs.declared.run.Run.TheVariants.{Right}
 use Rattle.u_moves.specs.Lifting.{IsMadeIn}
 use Rattle.u_moves.proofs.Whole.{if-ok}
-use Rattle.u_normal.specs.Shaped.{IsBrief}
+use Rattle.u_normal.specs.Shaped.{IsBriefBeside}
 use Rattle.u_normal.proofs.ShortSteps.{beside-left, beside-right, brief-beside}
 use Rattle.u_normal.proofs.shaped.made_beside.Goals as goal
 
@@ -19,6 +18,6 @@ made_in_turn-requires-2-clause-part c =
 pub returns : goal.returns
 returns c =
     if-ok (IsMadeIn (Right 1 ∷ []) c.in_ok-half.half c.args.right)
-    (IsBrief c.args.moves.facts.now c.args.moves.outs c.args.u.now (c.args.left.to ⊕ c.args.right.to) (length c.args.left.steps + length c.args.right.steps))
+    (IsBriefBeside c.args.moves.facts.now c.args.moves.outs c.args.u.now c.args.left c.args.right)
     (brief-beside c.args.moves.facts.now c.args.moves.outs c.args.u.now c.args.left c.args.right c.requires.parts c.in_ok-whole.whole c.in_ok-half.half (c.in_ok-whole.ensures {u = tt}) (c.in_ok-half.ensures {u = tt}))
     c.made_in_turn-2.result c.made_in_turn-2.ensures

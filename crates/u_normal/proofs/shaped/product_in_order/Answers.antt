@@ -12,7 +12,7 @@ use Rattle.u_normal.proofs.KnownParts.{in_order-known}
 use Rattle.u_normal.proofs.Finishes.{in_order-leaves}
 use Rattle.u_normal.proofs.Blocks.{product-kinds}
 use Rattle.u_normal.proofs.ShortSteps.{still-brief, step-brief-by}
-use Rattle.u_normal.proofs.ShapedEnds.{ordered-small}
+use Rattle.u_normal.proofs.Levels.{ordered-small}
 use Rattle.u_normal.proofs.shaped.product_in_order.Goals as goal
 use Rattle.u_normal.proofs.shaped.product_in_order.Goals.{In_ok-row}
 

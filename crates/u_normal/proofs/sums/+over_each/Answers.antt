@@ -47,7 +47,7 @@ returns-in_ok-both-in-Add t c =
     let split = c.in_ok-split-in-Add.ensures {u = tt} in
     let left = c.in_ok-left-in-Add.ensures {u = tt} in
     let right = c.in_ok-right-in-Add.ensures {u = tt} in
-    let both = c.in_ok-both-in-Add.ensures {u = tt} in
+    let both = c.in_ok-both-in-Add.ensures.ends in
     if-ok (IsFromTo c.in_ok-split-in-Add.split.facts c.in_ok-split-in-Add.split.outs c.in_ok-split-in-Add.split.from c.in_ok-both-in-Add.both.to)
     (IsFromTo c.args.moves.facts.now c.args.moves.outs (S c.args.f.now) (over_each c.args.f.now))
     (same-ends c.args.moves.facts.now c.in_ok-split-in-Add.split.facts c.args.moves.outs c.in_ok-split-in-Add.split.outs (S c.args.f.now) c.in_ok-split-in-Add.split.from (over_each c.args.f.now) c.in_ok-both-in-Add.both.to
@@ -56,7 +56,7 @@ returns-in_ok-both-in-Add t c =
     (both.to ∙ ap (λ (a : U). a ⊕ c.in_ok-right-in-Add.right.to) (left.to ∙ ap over_each c.get-in-Add-2.ensures)
     ∙ ap (λ (b : U). over_each c.in-Add.a ⊕ b) (right.to ∙ ap over_each c.get-in-Add-3.ensures)
     ∙ sym (ap over_each c.in-Add.is ∙ over_each-Add c.in-Add.a c.in-Add.b)))
-    c.joined.result c.joined.ensures
+    c.joined.result c.joined.ensures.ends
 
 pub returns-in_ok-new-in_default : goal.returns-in_ok-new-in_default
 returns-in_ok-new-in_default t c =
@@ -65,7 +65,7 @@ returns-in_ok-new-in_default t c =
     (IsFromTo c.args.moves.facts.now c.args.moves.outs (S c.args.f.now) (over_each c.args.f.now))
     (same-ends c.args.moves.facts.now c.args.moves.facts.now c.args.moves.outs c.args.moves.outs (S c.args.f.now) c.in_ok-new-in_default.field-0 (over_each c.args.f.now) c.in_ok-new-in_default.field-0
     refl refl e (e ∙ sym (over_each-other c.args.f.now c.in_default.not-Zero c.in_default.not-Add)))
-    c.still.result c.still.ensures
+    c.still.result c.still.ensures.ends
 
 pub returns-in-Zero : goal.returns-in-Zero
 returns-in-Zero t c =

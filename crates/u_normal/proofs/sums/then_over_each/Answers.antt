@@ -31,4 +31,4 @@ returns c =
     (leads-to IsBlockSum c.args.moves.facts.now c.args.d.facts c.args.moves.outs c.args.d.outs c.args.d.from c.args.d.from c.in_ok-each-in-Sum.each.to
     c.requires.by.facts c.requires.by.outs refl
     (subst (λ (u : U). IsBlockSum u) (ap over_each f ∙ sym each.to) (over-blocks sum.body sum.sum)))
-    c.joined.result c.joined.ensures
+    c.joined.result c.joined.ensures.ends

@@ -64,7 +64,7 @@ nothing-returns-in_ok-copied-in_default t c =
     if-ok (IsFromTo c.args.moves.facts.now c.args.moves.outs c.in_ok-copied-in_default.field-0 c.in_ok-copied-in_default.field-0)
     (IsFromTo c.args.moves.facts.now c.args.moves.outs c.args.u.now O)
     (same-ends c.args.moves.facts.now c.args.moves.facts.now c.args.moves.outs c.args.moves.outs c.args.u.now c.in_ok-copied-in_default.field-0 O c.in_ok-copied-in_default.field-0 refl refl e (e ∙ zero))
-    c.still.result c.still.ensures
+    c.still.result c.still.ensures.ends
 
 -- ---- nothing_added
 pub nothing_added-nothing-requires : goal.nothing_added-nothing-requires
@@ -77,7 +77,7 @@ pub nothing_added-returns : goal.nothing_added-returns
 nothing_added-returns t c =
     let left = c.in_ok-left.ensures {u = tt} in
     let right = c.in_ok-right.ensures {u = tt} in
-    let both = c.in_ok-both.ensures {u = tt} in
+    let both = c.in_ok-both.ensures.ends in
     if-ok (IsFromTo c.args.moves.facts.now c.args.moves.outs c.in_ok-both.both.from (sum_of (add_leaves c.in_ok-both.both.to)))
     (IsFromTo c.args.moves.facts.now c.args.moves.outs (c.args.a.now ⊕ c.args.b.now) O)
     (same-ends c.args.moves.facts.now c.args.moves.facts.now c.args.moves.outs c.args.moves.outs (c.args.a.now ⊕ c.args.b.now) c.in_ok-both.both.from O (sum_of (add_leaves c.in_ok-both.both.to))
@@ -108,20 +108,20 @@ nothing_first-nothing-requires t c = (omega (arith, c.decreases), (c.requires.kn
 pub nothing_first-joined-requires-clause-joins : goal.nothing_first-joined-requires-clause-joins
 nothing_first-joined-requires-clause-joins t c =
     let first = c.in_ok-first.ensures {u = tt} in
-    let rest = c.in_ok-rest.ensures {u = tt} in
-    let both = c.in_ok-both.ensures {u = tt} in
+    let rest = c.in_ok-rest.ensures.ends in
+    let both = c.in_ok-both.ensures.ends in
     both.to ∙ ap (λ (u : U). u ⊗ c.in_ok-rest.rest.to) first.to ∙ ap (λ (u : U). O ⊗ u) (rest.to ∙ c.in_ok-copied.ensures {u = tt}) ∙ sym (c.in_ok-end.ensures {u = tt}).from
 
 pub nothing_first-returns : goal.nothing_first-returns
 nothing_first-returns t c =
     let first = c.in_ok-first.ensures {u = tt} in
-    let rest = c.in_ok-rest.ensures {u = tt} in
-    let both = c.in_ok-both.ensures {u = tt} in
+    let rest = c.in_ok-rest.ensures.ends in
+    let both = c.in_ok-both.ensures.ends in
     let end = c.in_ok-end.ensures {u = tt} in
     if-ok (IsFromTo c.in_ok-both.both.facts c.in_ok-both.both.outs c.in_ok-both.both.from c.in_ok-end.end.to) (IsFromTo c.args.moves.facts.now c.args.moves.outs (c.args.a.now ⊗ c.args.b.now) O)
     (same-ends c.args.moves.facts.now c.in_ok-both.both.facts c.args.moves.outs c.in_ok-both.both.outs (c.args.a.now ⊗ c.args.b.now) c.in_ok-both.both.from O c.in_ok-end.end.to both.facts both.outs
     (both.from ∙ ap (λ (u : U). u ⊗ c.in_ok-rest.rest.from) first.from ∙ ap (λ (u : U). c.args.a.now ⊗ u) (rest.from ∙ c.in_ok-copied.ensures {u = tt})) end.to)
-    c.joined.result c.joined.ensures
+    c.joined.result c.joined.ensures.ends
 
 -- ---- nothing_second
 pub nothing_second-nothing-requires : goal.nothing_second-nothing-requires
@@ -129,21 +129,21 @@ nothing_second-nothing-requires t c = (omega (arith, c.decreases), (c.requires.k
 
 pub nothing_second-joined-requires-clause-joins : goal.nothing_second-joined-requires-clause-joins
 nothing_second-joined-requires-clause-joins t c =
-    let rest = c.in_ok-rest.ensures {u = tt} in
+    let rest = c.in_ok-rest.ensures.ends in
     let second = c.in_ok-second.ensures {u = tt} in
-    let both = c.in_ok-both.ensures {u = tt} in
+    let both = c.in_ok-both.ensures.ends in
     both.to ∙ ap (λ (u : U). u ⊗ c.in_ok-second.second.to) (rest.to ∙ c.in_ok-copied.ensures {u = tt}) ∙ ap (λ (u : U). c.args.a.now ⊗ u) second.to ∙ sym (c.in_ok-end.ensures {u = tt}).from
 
 pub nothing_second-returns : goal.nothing_second-returns
 nothing_second-returns t c =
-    let rest = c.in_ok-rest.ensures {u = tt} in
+    let rest = c.in_ok-rest.ensures.ends in
     let second = c.in_ok-second.ensures {u = tt} in
-    let both = c.in_ok-both.ensures {u = tt} in
+    let both = c.in_ok-both.ensures.ends in
     let end = c.in_ok-end.ensures {u = tt} in
     if-ok (IsFromTo c.in_ok-both.both.facts c.in_ok-both.both.outs c.in_ok-both.both.from c.in_ok-end.end.to) (IsFromTo c.args.moves.facts.now c.args.moves.outs (c.args.a.now ⊗ c.args.b.now) O)
     (same-ends c.args.moves.facts.now c.in_ok-both.both.facts c.args.moves.outs c.in_ok-both.both.outs (c.args.a.now ⊗ c.args.b.now) c.in_ok-both.both.from O c.in_ok-end.end.to both.facts both.outs
     (both.from ∙ ap (λ (u : U). u ⊗ c.in_ok-second.second.from) (rest.from ∙ c.in_ok-copied.ensures {u = tt}) ∙ ap (λ (u : U). c.args.a.now ⊗ u) second.from) end.to)
-    c.joined.result c.joined.ensures
+    c.joined.result c.joined.ensures.ends
 
 -- ---- nothing_summed
 pub nothing_summed-nothing_opened-requires : goal.nothing_summed-nothing_opened-requires
@@ -151,16 +151,16 @@ nothing_summed-nothing_opened-requires t c = (omega (arith, c.decreases), (c.req
 
 pub nothing_summed-joined-requires-clause-joins : goal.nothing_summed-joined-requires-clause-joins
 nothing_summed-joined-requires-clause-joins t c =
-    (c.in_ok-sum.ensures {u = tt}).to ∙ ap (λ (u : U). S (closed_at u c.args.moves.outs)) (c.in_ok-part.ensures {u = tt}).to ∙ ap (λ (u : U). S u) (zero-closed c.args.moves.outs) ∙ sym (c.in_ok-end.ensures {u = tt}).from
+    (c.in_ok-sum.ensures.ends).to ∙ ap (λ (u : U). S (closed_at u c.args.moves.outs)) (c.in_ok-part.ensures {u = tt}).to ∙ ap (λ (u : U). S u) (zero-closed c.args.moves.outs) ∙ sym (c.in_ok-end.ensures {u = tt}).from
 
 pub nothing_summed-returns : goal.nothing_summed-returns
 nothing_summed-returns t c =
-    let sum = c.in_ok-sum.ensures {u = tt} in
+    let sum = c.in_ok-sum.ensures.ends in
     if-ok (IsFromTo c.in_ok-sum.sum.facts c.in_ok-sum.sum.outs c.in_ok-sum.sum.from c.in_ok-end.end.to) (IsFromTo c.args.moves.facts.now c.args.moves.outs (S c.args.f.now) O)
     (same-ends c.args.moves.facts.now c.in_ok-sum.sum.facts c.args.moves.outs c.in_ok-sum.sum.outs (S c.args.f.now) c.in_ok-sum.sum.from O c.in_ok-end.end.to sum.facts sum.outs
     (sum.from ∙ ap (λ (u : U). S (closed_at u c.args.moves.outs)) (c.in_ok-part.ensures {u = tt}).from ∙ ap (λ (u : U). S u) (body-again c.args.moves.outs c.args.f.now c.requires.known))
     (c.in_ok-end.ensures {u = tt}).to)
-    c.joined.result c.joined.ensures
+    c.joined.result c.joined.ensures.ends
 
 -- ---- nothing_opened
 pub nothing_opened-nothing-requires : goal.nothing_opened-nothing-requires

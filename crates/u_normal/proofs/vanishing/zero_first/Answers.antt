@@ -44,4 +44,4 @@ returns c =
     if-ok (IsFromTo c.in_ok-turn.turn.facts c.in_ok-turn.turn.outs c.in_ok-turn.turn.from c.in_ok-end.end.to) (IsFromTo c.args.moves.facts.now c.args.moves.outs (O ⊗ c.args.x.now) O)
     (same-ends c.args.moves.facts.now c.in_ok-turn.turn.facts c.args.moves.outs c.in_ok-turn.turn.outs (O ⊗ c.args.x.now) c.in_ok-turn.turn.from O c.in_ok-end.end.to turn.facts turn.outs
     (turn.from ∙ c.get-3.ensures ∙ front-is (goal.at.returns c).In_ok-front) (c.in_ok-end.ensures {u = tt}).to)
-    c.joined.result c.joined.ensures
+    c.joined.result c.joined.ensures.ends

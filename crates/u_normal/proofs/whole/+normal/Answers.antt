@@ -58,7 +58,7 @@ block_sum-returns-in_ok-copied-in-Zero t c =
     (Leads (InRoom c.args.room IsBlockSum) c.args.moves.facts.now c.args.moves.outs c.args.u.now)
     (leads-to (InRoom c.args.room IsBlockSum) c.args.moves.facts.now c.args.moves.facts.now c.args.moves.outs c.args.moves.outs c.args.u.now c.in_ok-copied-in-Zero.field-0 c.in_ok-copied-in-Zero.field-0
     refl refl e (within c.args.room IsBlockSum c.in_ok-copied-in-Zero.field-0 (zero-blocks c.in_ok-copied-in-Zero.field-0 (e ∙ c.in-Zero.is))))
-    c.still.result c.still.ensures
+    c.still.result c.still.ensures.ends
 
 -- ---- sum_of_parts
 pub sum_of_parts-returns : goal.sum_of_parts-returns
@@ -72,17 +72,17 @@ sum_of_parts-returns t c =
     refl refl (ap (λ (u : U). u ⊕ c.in_ok-right.right.from) left.from ∙ ap (λ (u : U). c.args.a.now ⊕ u) right.from)
     (add-within c.args.room IsBlockSum IsBlockSum IsBlockSum c.in_ok-left.left.to c.in_ok-right.right.to (added-blocks c.in_ok-left.left.to c.in_ok-right.right.to) left.reached
     (subst (λ (n : ℕ). InRoom n IsBlockSum c.in_ok-right.right.to) c.room_beside-left_over.ensures right.reached)))
-    c.added.result c.added.ensures
+    c.added.result c.added.ensures.ends
 
 -- ---- sum_of_body
 pub sum_of_body-over_each_in_room-requires-clause-sum : goal.sum_of_body-over_each_in_room-requires-clause-sum
 sum_of_body-over_each_in_room-requires-clause-sum t c =
-    sum-within c.args.room c.args.moves.outs c.in_ok-part.part.to c.in_ok-sum.sum.to (c.in_ok-sum.ensures {u = tt}).to (c.in_ok-part.ensures {u = tt}).reached
+    sum-within c.args.room c.args.moves.outs c.in_ok-part.part.to c.in_ok-sum.sum.to (c.in_ok-sum.ensures.ends).to (c.in_ok-part.ensures {u = tt}).reached
 
 pub sum_of_body-returns : goal.sum_of_body-returns
 sum_of_body-returns t c =
     let whole : c.in_ok-sum.sum.from ≡ S c.args.f.now =
-    (c.in_ok-sum.ensures {u = tt}).from ∙ ap (λ (u : U). S (closed_at u c.args.moves.outs)) (c.in_ok-part.ensures {u = tt}).from ∙ ap (λ (u : U). S u) (body-again c.args.moves.outs c.args.f.now c.requires) in
+    (c.in_ok-sum.ensures.ends).from ∙ ap (λ (u : U). S (closed_at u c.args.moves.outs)) (c.in_ok-part.ensures {u = tt}).from ∙ ap (λ (u : U). S u) (body-again c.args.moves.outs c.args.f.now c.requires) in
     subst (λ (u : U). IfOk c.over_each_in_room.result (Leads (InRoom c.args.room IsBlockSum) c.args.moves.facts.now c.args.moves.outs u)) whole c.over_each_in_room.ensures
 
 -- ---- sum_opened
@@ -143,7 +143,7 @@ normal_factor-returns-in_ok-body-in-Squash t c =
     refl refl (ap (λ (u : U). sq u) (part.from ∙ c.get.ensures) ∙ sym c.in-Squash.is)
     (squash-within c.args.room IsNormal (IsFinished c.args.u.now) c.in_ok-body-in-Squash.body.to
     (finished-squash c.args.u.now (sq c.in_ok-body-in-Squash.body.to) c.in-Squash.p c.in_ok-body-in-Squash.body.to c.in-Squash.is refl) part.reached))
-    c.squashed.result c.squashed.ensures
+    c.squashed.result c.squashed.ensures.ends
 
 pub normal_factor-returns-in_ok-part-in-Not : goal.normal_factor-returns-in_ok-part-in-Not
 normal_factor-returns-in_ok-part-in-Not t c =
@@ -154,7 +154,7 @@ normal_factor-returns-in_ok-part-in-Not t c =
     refl refl (ap (λ (u : U). neg u) (part.from ∙ c.get-in-Not.ensures) ∙ sym c.in-Not.is)
     (not-within c.args.room IsNormal (IsFinished c.args.u.now) c.in_ok-part-in-Not.part.to
     (finished-not c.args.u.now (neg c.in_ok-part-in-Not.part.to) c.in-Not.p c.in_ok-part-in-Not.part.to c.in-Not.is refl (c.is_negation.ensures.0 c.if-is_negation.true)) part.reached))
-    c.negated.result c.negated.ensures
+    c.negated.result c.negated.ensures.ends
 
 pub normal_factor-normal_plain-requires : goal.normal_factor-normal_plain-requires
 normal_factor-normal_plain-requires t c =
@@ -179,7 +179,7 @@ normal_factor-returns-in_ok-part-in-Not-2 t c =
     refl refl (ap (λ (u : U). neg u) (part.from ∙ c.get-in-Not-2.ensures) ∙ sym c.in-Not-2.is)
     (not-within c.args.room (IsFinishedPlain c.in-Not-2.p) (IsFinished c.args.u.now) last
     (finished-bare_not c.args.u.now (neg last) c.in-Not-2.p last c.in-Not-2.is refl is) (subst (λ (u : U). InRoom c.args.room (IsFinishedPlain u) last) c.get-in-Not-2.ensures part.reached)))
-    c.negated-in-Not-2.result c.negated-in-Not-2.ensures
+    c.negated-in-Not-2.result c.negated-in-Not-2.ensures.ends
 
 -- ---- sum_of_head
 pub sum_of_head-sum_of_parts-requires : goal.sum_of_head-sum_of_parts-requires
@@ -216,7 +216,7 @@ sum_of_head-returns-in_ok-copied-in-Zero t c =
     (Leads (InRoom c.args.room IsBlockSum) c.args.moves.facts.now c.args.moves.outs c.args.u.now)
     (leads-to (InRoom c.args.room IsBlockSum) c.args.moves.facts.now c.args.moves.facts.now c.args.moves.outs c.args.moves.outs c.args.u.now c.in_ok-copied-in-Zero.field-0 c.in_ok-copied-in-Zero.field-0
     refl refl e (within c.args.room IsBlockSum c.in_ok-copied-in-Zero.field-0 (zero-blocks c.in_ok-copied-in-Zero.field-0 (e ∙ c.in-Zero.is))))
-    c.still.result c.still.ensures
+    c.still.result c.still.ensures.ends
 
 -- ---- sum_of_product
 pub sum_of_product-nothing-requires : goal.sum_of_product-nothing-requires
@@ -282,7 +282,7 @@ normal_row-returns-in_ok-rest-in-Mul t c =
     (subst (λ (u : U). InRoom c.args.room (IsFinished u) c.in_ok-first-in-Mul.first.to) c.get.ensures first.reached)
     (subst (λ (n : ℕ). InRoom n (IsFinished c.in-Mul.others) c.in_ok-rest-in-Mul.rest.to) c.room_beside-left_over.ensures
     (subst (λ (u : U). InRoom c.room_beside-left_over.result (IsFinished u) c.in_ok-rest-in-Mul.rest.to) c.get-in-Mul.ensures rest.reached))))
-    c.multiplied.result c.multiplied.ensures
+    c.multiplied.result c.multiplied.ensures.ends
 
 -- ---- normal_plain
 pub normal_plain-normal_values-requires : goal.normal_plain-normal_values-requires
@@ -291,10 +291,10 @@ normal_plain-normal_values-requires t c =
     let is = same-relation c.args.u.now c.in-Rel.field-0 c.in-Rel.values vs c.in-Rel.is c.as_slice.ensures in (
       omega (arith, c.decreases, relation-lighter c.args.u.now c.in-Rel.field-0 vs is),
       (
-        by-still c.args.room c.args.moves.facts.now c.args.moves.outs c.args.u.now c.in_ok-copied.field-0 (c.in_ok-copied.ensures {u = tt}) c.in_ok-whole.whole (c.in_ok-whole.ensures {u = tt}),
+        by-still c.args.room c.args.moves.facts.now c.args.moves.outs c.args.u.now c.in_ok-copied.field-0 (c.in_ok-copied.ensures {u = tt}) c.in_ok-whole.whole (c.in_ok-whole.ensures.ends),
         (
           known-relation c.args.moves.outs c.in-Rel.field-0 vs c.args.u.now is c.requires.known,
-          stands-relation c.args.room c.args.moves.facts.now c.args.moves.outs c.args.u.now c.in_ok-copied.field-0 (c.in_ok-copied.ensures {u = tt}) c.in_ok-whole.whole (c.in_ok-whole.ensures {u = tt}) c.in-Rel.field-0 vs is,
+          stands-relation c.args.room c.args.moves.facts.now c.args.moves.outs c.args.u.now c.in_ok-copied.field-0 (c.in_ok-copied.ensures {u = tt}) c.in_ok-whole.whole (c.in_ok-whole.ensures.ends) c.in-Rel.field-0 vs is,
         ),
       ),
     )
@@ -305,10 +305,10 @@ normal_plain-normal_values-requires-in-Pred t c =
     let is = same-predicate c.args.u.now c.in-Pred.field-0 c.in-Pred.values vs c.in-Pred.is c.as_slice-in-Pred.ensures in (
       omega (arith, c.decreases, predicate-lighter c.args.u.now c.in-Pred.field-0 vs is),
       (
-        by-still c.args.room c.args.moves.facts.now c.args.moves.outs c.args.u.now c.in_ok-copied.field-0 (c.in_ok-copied.ensures {u = tt}) c.in_ok-whole.whole (c.in_ok-whole.ensures {u = tt}),
+        by-still c.args.room c.args.moves.facts.now c.args.moves.outs c.args.u.now c.in_ok-copied.field-0 (c.in_ok-copied.ensures {u = tt}) c.in_ok-whole.whole (c.in_ok-whole.ensures.ends),
         (
           known-predicate c.args.moves.outs c.in-Pred.field-0 vs c.args.u.now is c.requires.known,
-          stands-predicate c.args.room c.args.moves.facts.now c.args.moves.outs c.args.u.now c.in_ok-copied.field-0 (c.in_ok-copied.ensures {u = tt}) c.in_ok-whole.whole (c.in_ok-whole.ensures {u = tt}) c.in-Pred.field-0 vs is,
+          stands-predicate c.args.room c.args.moves.facts.now c.args.moves.outs c.args.u.now c.in_ok-copied.field-0 (c.in_ok-copied.ensures {u = tt}) c.in_ok-whole.whole (c.in_ok-whole.ensures.ends) c.in-Pred.field-0 vs is,
         ),
       ),
     )
@@ -317,23 +317,23 @@ pub normal_plain-normal_value-requires : goal.normal_plain-normal_value-requires
 normal_plain-normal_value-requires t c = (
   omega (arith, c.decreases, left-lighter c.args.u.now c.in-Eq.a c.in-Eq.b c.in-Eq.is),
   (
-    by-still c.args.room c.args.moves.facts.now c.args.moves.outs c.args.u.now c.in_ok-copied.field-0 (c.in_ok-copied.ensures {u = tt}) c.in_ok-whole.whole (c.in_ok-whole.ensures {u = tt}),
+    by-still c.args.room c.args.moves.facts.now c.args.moves.outs c.args.u.now c.in_ok-copied.field-0 (c.in_ok-copied.ensures {u = tt}) c.in_ok-whole.whole (c.in_ok-whole.ensures.ends),
     (
       known-equal_left c.args.moves.outs c.in-Eq.a c.in-Eq.b c.args.u.now c.in-Eq.is c.requires.known,
-      stands-left c.args.room c.args.moves.facts.now c.args.moves.outs c.args.u.now c.in_ok-copied.field-0 (c.in_ok-copied.ensures {u = tt}) c.in_ok-whole.whole (c.in_ok-whole.ensures {u = tt}) c.in-Eq.a c.in-Eq.b c.in-Eq.is,
+      stands-left c.args.room c.args.moves.facts.now c.args.moves.outs c.args.u.now c.in_ok-copied.field-0 (c.in_ok-copied.ensures {u = tt}) c.in_ok-whole.whole (c.in_ok-whole.ensures.ends) c.in-Eq.a c.in-Eq.b c.in-Eq.is,
     ),
   ),
 )
 
 pub normal_plain-normal_value-requires-in-Eq : goal.normal_plain-normal_value-requires-in-Eq
 normal_plain-normal_value-requires-in-Eq t c =
-    let by = by-still c.args.room c.args.moves.facts.now c.args.moves.outs c.args.u.now c.in_ok-copied.field-0 (c.in_ok-copied.ensures {u = tt}) c.in_ok-whole.whole (c.in_ok-whole.ensures {u = tt}) in (
+    let by = by-still c.args.room c.args.moves.facts.now c.args.moves.outs c.args.u.now c.in_ok-copied.field-0 (c.in_ok-copied.ensures {u = tt}) c.in_ok-whole.whole (c.in_ok-whole.ensures.ends) in (
       omega (arith, c.decreases, right-lighter c.args.u.now c.in-Eq.a c.in-Eq.b c.in-Eq.is),
       (
         by-on (BecomesInRoom c.args.room (IsNormalAt (0 ∷ []) c.in-Eq.a)) c.args.moves.facts.now c.args.moves.outs c.in_ok-whole.whole c.in_ok-half-in-Eq.half by (c.in_ok-half-in-Eq.ensures {u = tt}),
         (
           known-equal_right c.args.moves.outs c.in-Eq.a c.in-Eq.b c.args.u.now c.in-Eq.is c.requires.known,
-          stands-right c.args.room c.args.moves.facts.now c.args.moves.outs c.args.u.now c.in_ok-copied.field-0 (c.in_ok-copied.ensures {u = tt}) c.in_ok-whole.whole (c.in_ok-whole.ensures {u = tt}) c.in-Eq.a c.in-Eq.b c.in-Eq.is
+          stands-right c.args.room c.args.moves.facts.now c.args.moves.outs c.args.u.now c.in_ok-copied.field-0 (c.in_ok-copied.ensures {u = tt}) c.in_ok-whole.whole (c.in_ok-whole.ensures.ends) c.in-Eq.a c.in-Eq.b c.in-Eq.is
               c.in_ok-half-in-Eq.half
               (led-in c.args.room (IsNormalAt (0 ∷ []) c.in-Eq.a) c.in_ok-whole.whole c.in_ok-half-in-Eq.half (not-over c.args.room c.in_ok-half-in-Eq.half.to (c.if-is_over.ensures {u = tt}).1) (c.in_ok-half-in-Eq.ensures {u = tt})),
         ),
@@ -344,7 +344,7 @@ pub normal_plain-returns-in-Rel : goal.normal_plain-returns-in-Rel
 normal_plain-returns-in-Rel t c =
     let vs : List Val = c.as_slice.result.now in
     if-ok (LeadsOn (BecomesInRoom c.args.room (AreNormalAt [] vs)) c.in_ok-whole.whole) (Leads (InRoom c.args.room (IsFinishedPlain c.args.u.now)) c.args.moves.facts.now c.args.moves.outs c.args.u.now)
-    (leads-relation c.args.room c.args.moves.facts.now c.args.moves.outs c.args.u.now c.in_ok-copied.field-0 (c.in_ok-copied.ensures {u = tt}) c.in_ok-whole.whole (c.in_ok-whole.ensures {u = tt}) c.in-Rel.field-0 vs
+    (leads-relation c.args.room c.args.moves.facts.now c.args.moves.outs c.args.u.now c.in_ok-copied.field-0 (c.in_ok-copied.ensures {u = tt}) c.in_ok-whole.whole (c.in_ok-whole.ensures.ends) c.in-Rel.field-0 vs
     (same-relation c.args.u.now c.in-Rel.field-0 c.in-Rel.values vs c.in-Rel.is c.as_slice.ensures))
     c.normal_values.result c.normal_values.ensures
 
@@ -352,20 +352,20 @@ pub normal_plain-returns-in-Pred : goal.normal_plain-returns-in-Pred
 normal_plain-returns-in-Pred t c =
     let vs : List Val = c.as_slice-in-Pred.result.now in
     if-ok (LeadsOn (BecomesInRoom c.args.room (AreNormalAt [] vs)) c.in_ok-whole.whole) (Leads (InRoom c.args.room (IsFinishedPlain c.args.u.now)) c.args.moves.facts.now c.args.moves.outs c.args.u.now)
-    (leads-predicate c.args.room c.args.moves.facts.now c.args.moves.outs c.args.u.now c.in_ok-copied.field-0 (c.in_ok-copied.ensures {u = tt}) c.in_ok-whole.whole (c.in_ok-whole.ensures {u = tt}) c.in-Pred.field-0 vs
+    (leads-predicate c.args.room c.args.moves.facts.now c.args.moves.outs c.args.u.now c.in_ok-copied.field-0 (c.in_ok-copied.ensures {u = tt}) c.in_ok-whole.whole (c.in_ok-whole.ensures.ends) c.in-Pred.field-0 vs
     (same-predicate c.args.u.now c.in-Pred.field-0 c.in-Pred.values vs c.in-Pred.is c.as_slice-in-Pred.ensures))
     c.normal_values-in-Pred.result c.normal_values-in-Pred.ensures
 
 pub normal_plain-returns-else-is_over : goal.normal_plain-returns-else-is_over
 normal_plain-returns-else-is_over t c =
     if-ok (LeadsOn (BecomesInRoom c.args.room (IsNormalAt (1 ∷ []) c.in-Eq.b)) c.in_ok-half-in-Eq.half) (Leads (InRoom c.args.room (IsFinishedPlain c.args.u.now)) c.args.moves.facts.now c.args.moves.outs c.args.u.now)
-    (leads-equality c.args.room c.args.moves.facts.now c.args.moves.outs c.args.u.now c.in_ok-copied.field-0 (c.in_ok-copied.ensures {u = tt}) c.in_ok-whole.whole (c.in_ok-whole.ensures {u = tt}) c.in-Eq.a c.in-Eq.b c.in-Eq.is
+    (leads-equality c.args.room c.args.moves.facts.now c.args.moves.outs c.args.u.now c.in_ok-copied.field-0 (c.in_ok-copied.ensures {u = tt}) c.in_ok-whole.whole (c.in_ok-whole.ensures.ends) c.in-Eq.a c.in-Eq.b c.in-Eq.is
     c.in_ok-half-in-Eq.half (led-in c.args.room (IsNormalAt (0 ∷ []) c.in-Eq.a) c.in_ok-whole.whole c.in_ok-half-in-Eq.half (not-over c.args.room c.in_ok-half-in-Eq.half.to (c.if-is_over.ensures {u = tt}).1) (c.in_ok-half-in-Eq.ensures {u = tt})))
     c.normal_value-in-Eq.result c.normal_value-in-Eq.ensures
 
 pub normal_plain-returns-in_default : goal.normal_plain-returns-in_default
 normal_plain-returns-in_default t c =
-    leads-still c.args.room c.args.moves.facts.now c.args.moves.outs c.args.u.now c.in_ok-copied.field-0 (c.in_ok-copied.ensures {u = tt}) c.in_ok-whole.whole (c.in_ok-whole.ensures {u = tt})
+    leads-still c.args.room c.args.moves.facts.now c.args.moves.outs c.args.u.now c.in_ok-copied.field-0 (c.in_ok-copied.ensures {u = tt}) c.in_ok-whole.whole (c.in_ok-whole.ensures.ends)
     (plain-one c.args.u.now c.in_ok-copied.field-0 (c.in_ok-copied.ensures {u = tt}) c.requires.plain c.in_default.not-Rel c.in_default.not-Eq c.in_default.not-Pred)
 
 -- ---- normal_values
