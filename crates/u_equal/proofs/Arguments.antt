@@ -5,6 +5,7 @@ use Rattle.u_terms.specs.declared.term.Val.TheVariants as v
 use Rattle.u_terms.specs.declared.term.U.TheOpen.{Val-F}
 use Rattle.u_terms.specs.declared.term.U.TheViews.{out-Val, out-roll-Val, rolls-Bound, rolls-Free, rolls-Lit, rolls-Agg, rolls-Fun}
 use Rattle.u_terms.specs.Syntax.{U, Zero, One, Add, Mul, Squash, Not, Sum, Rel, Eq, Pred, Val, Bound, Free, Lit, Fun, Agg, Vals, NoVals, ValThen, Shape, long, shape_of, row_of, constructors}
+use Rattle.u_equal.specs.LinkCounts.{row_values}
 use Rattle.u_equal.specs.Standing.{standing, value_standing, row_standing, IsIn}
 use Rattle.u_rules.specs.Terms.{mul_leaves}
 use Rattle.u_equal.specs.Tables.{AreIn, HasArguments}
@@ -13,16 +14,12 @@ use Rattle.u_equal.proofs.Members.{in-head, in-cons, in-none, in-left, in-right,
 use Rattle.u_equal.proofs.Signatures.{parts-Fun}
 
 -- ---- rows as lists
-list_of : {n : _} → Vals n → List Val
-list_of NoVals = []
-list_of (ValThen value rest) = value ∷ list_of rest
-
-rolled : {X : Type 0} (call : (shape : Shape) → Vals (long shape) → X) (shape : Shape) (row : Vals (long shape)) → call shape row ≡ call (shape_of (list_of row)) (row_of (list_of row))
-unfolding list_of constructors
+rolled : {X : Type 0} (call : (shape : Shape) → Vals (long shape) → X) (shape : Shape) (row : Vals (long shape)) → call shape row ≡ call (shape_of (row_values row)) (row_of (row_values row))
+unfolding row_values constructors
 rolled call [] NoVals = refl
 rolled call (x ∷ shape) (ValThen value rest) = rolled (λ sh row. call (tt ∷ sh) (ValThen value row)) shape rest
 
-fun-rolled : (symbol : ℕ) (shape : Shape) (row : Vals (long shape)) → Fun symbol shape row ≡ v.Fun symbol (list_of row)
+fun-rolled : (symbol : ℕ) (shape : Shape) (row : Vals (long shape)) → Fun symbol shape row ≡ v.Fun symbol (row_values row)
 unfolding constructors
 fun-rolled symbol shape row = rolled (λ sh r. Fun symbol sh r) shape row
 
@@ -59,10 +56,10 @@ stands-itself (Lit literal) = in-head (Lit literal) []
 stands-itself (Fun symbol shape arguments) = in-last (row_standing arguments) (Fun symbol shape arguments)
 stands-itself (Agg aggregate body) = in-head (Agg aggregate body) []
 
-row-stands : {n : _} (row : Vals n) → AreIn (list_of row) (row_standing row)
-unfolding standing list_of
+row-stands : {n : _} (row : Vals n) → AreIn (row_values row) (row_standing row)
+unfolding standing row_values
 row-stands NoVals x h = absurd (in-none x h)
-row-stands (ValThen value rest) x h = elim (in-cons value (list_of rest) x h) [
+row-stands (ValThen value rest) x h = elim (in-cons value (row_values rest) x h) [
   | inl is ↦ in-left (value_standing value) (row_standing rest) x (subst (λ (y : Val). IsIn y (value_standing value)) (sym is) (stands-itself value))
   | inr more ↦ in-right (value_standing value) (row_standing rest) x (row-stands rest x more)
 ]
@@ -84,7 +81,7 @@ call-has : (symbol : ℕ) (shape : Shape) (row : Vals (long shape)) → HasArgum
 call-has symbol shape row rest f xs has x x_in = elim (in-push (row_standing row) (Fun symbol shape row) (v.Fun f xs) has) [
   | inl here ↦ in-left (row_standing row) (Fun symbol shape row ∷ []) x (rest f xs here x x_in)
   | inr is ↦
-      let same = parts-Fun f symbol xs (list_of row) (is ∙ fun-rolled symbol shape row) in
+      let same = parts-Fun f symbol xs (row_values row) (is ∙ fun-rolled symbol shape row) in
       in-left (row_standing row) (Fun symbol shape row ∷ []) x (row-stands row x (subst (λ (ys : List Val). IsIn x ys) same.1 x_in))
 ]
 

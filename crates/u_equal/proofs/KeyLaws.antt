@@ -94,6 +94,18 @@ module _ (keys : List Val) (key : Val) where
     | inr not_met ↦ in-push keys key a (rw not_met at has)
   ]
 
+  any-absent : list_any (same_code key) keys ≡ false → IsIn key keys → ⊥
+  any-absent none h =
+      true≢false (sym (list_any_at (same_code key) keys h.place key (slice_get_within keys h.place key h.here)
+      (one-same_code key (get_or keys h.place key) (sym (get_or_from_slice_get keys h.place key key h.here)))) ∙ none)
+
+  -- a key that is there is not put there again
+  pub inserted-as : (insert_key same_code keys key ≡ keys) ⊎ ((IsIn key keys → ⊥) × (insert_key same_code keys key ≡ keys ++ key ∷ []))
+  inserted-as = elim (cases_Bool (list_any (same_code key) keys)) [
+    | inl met ↦ inl (rw met refl)
+    | inr not_met ↦ inr (any-absent not_met, rw not_met refl)
+  ]
+
   pub inserted-few : length (insert_key same_code keys key) ≤ length keys + 1
   inserted-few = elim (cases_Bool (list_any (same_code key) keys)) [
     | inl met ↦ rw met (omega arith)

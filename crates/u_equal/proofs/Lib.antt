@@ -8,9 +8,11 @@ pub mod Trees
 pub mod Sound
 pub mod Complete
 pub mod Answered
+pub mod Entailed
 pub mod StandingAt
 pub mod Fed
 pub mod KeyLaws
+pub mod Added
 pub mod Moves
 pub mod Sides
 pub mod Signatures

@@ -30,7 +30,7 @@ first-place (x ∷ values) a (suc i) h = elim (cases_Bool (same_code a x)) [
 ]
 
 -- ---- arguments
-row_values-list : (xs : List Val) → row_values (row_of xs) ≡ xs
+pub row_values-list : (xs : List Val) → row_values (row_of xs) ≡ xs
 unfolding row_values constructors
 row_values-list [] = refl
 row_values-list (x ∷ xs) = ap (λ (rest : List Val). x ∷ rest) (row_values-list xs)

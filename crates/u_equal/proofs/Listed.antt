@@ -12,10 +12,10 @@ use Rattle.indexmap.specs.IndexSet.{insert_key}
 use Rattle.u_equal.specs.declared.calls.Call.{Call}
 use Rattle.u_equal.specs.Keys.{same_code}
 use Rattle.u_equal.specs.Gathering.{values_at}
-use Rattle.u_equal.specs.Standing.{IsIn}
+use Rattle.u_equal.specs.Standing.{EachOnce, IsIn}
 use Rattle.u_equal.specs.Joined.{FirstAt}
 use Rattle.u_equal.specs.Tables.{ArePlaces, IsCall}
-use Rattle.u_equal.proofs.KeyLaws.{inserted-has, inserted-keeps, inserted-only, inserted-few}
+use Rattle.u_equal.proofs.KeyLaws.{inserted-as, inserted-has, inserted-keeps, inserted-only, inserted-few}
 
 -- ---- what references lead to
 pub item-here : {B X : Type 0} (now : B → X) (refs : List B) (i : ℕ) (r : B) → i < length refs → r ≡ get_or refs i r → slice_get (map now refs) i ≡ Some (now r)
@@ -45,6 +45,19 @@ at-last xs y =
     let more : length xs < length (xs ++ y ∷ []) = omega (arith, length_push xs y) in
     slice_get-get_or (xs ++ y ∷ []) (length xs) y more ∙ ap (λ z. Some z) (get_or_push xs y y (length xs) refl)
 
+-- one more that is not there yet
+pub once-more : {X : Type 0} (xs : List X) (y : X) → (IsIn y xs → ⊥) → EachOnce xs → EachOnce (xs ++ y ∷ [])
+once-more {X} xs y absent once i j x at_i at_j = elim (at-push xs y x i at_i) [
+  | inl here ↦ elim (at-push xs y x j at_j) [
+    | inl there ↦ once i j x here there
+    | inr last ↦ absurd (absent (record { place = i; here = here ∙ ap (λ (z : X). Some z) (sym last.1) }))
+  ]
+  | inr end ↦ elim (at-push xs y x j at_j) [
+    | inl there ↦ absurd (absent (record { place = j; here = there ∙ ap (λ (z : X). Some z) (sym end.1) }))
+    | inr last ↦ end.0 ∙ sym last.0
+  ]
+]
+
 -- ---- the table
 module _ (standing : List (Bor Val)) (i : ℕ) (r : Bor Val) (within : i < length standing) (is : r ≡ get_or standing i r) (keys after : List Val) (inserted : after ≡ insert_key same_code keys r.now) where
   pub table-all : ((k : ℕ) (a : Val) → k < i → slice_get (values_at standing) k ≡ Some a → IsIn a keys) → (k : ℕ) (a : Val) → k < i + 1 → slice_get (values_at standing) k ≡ Some a → IsIn a after
@@ -60,6 +73,12 @@ module _ (standing : List (Bor Val)) (i : ℕ) (r : Bor Val) (within : i < lengt
     | inl before ↦ done a before
     | inr last ↦ subst (λ (x : Val). IsIn x (values_at standing)) (sym last) (record { place = i; here = item-here (λ (b : Bor Val). b.now) standing i r within is })
   ]
+
+  pub table-once : EachOnce keys → EachOnce after
+  table-once once = subst (λ (ks : List Val). EachOnce ks) (sym inserted) (elim (inserted-as keys r.now) [
+    | inl there ↦ subst (λ (ks : List Val). EachOnce ks) (sym there) once
+    | inr new ↦ subst (λ (ks : List Val). EachOnce ks) (sym new.1) (once-more keys r.now new.0 once)
+  ])
 
   pub table-few : length keys ≤ i → length after ≤ i + 1
   table-few few = omega (arith, few, ap length inserted, inserted-few keys r.now)

@@ -9,7 +9,7 @@ use Rattle.u_rules.specs.Terms.{◌≐◌, mul_leaves}
 use Rattle.u_equal.specs.declared.forest.Reason.{Reason}
 use Rattle.u_equal.specs.declared.forest.Reason.TheVariants.{Given, Called}
 use Rattle.u_equal.specs.declared.forest.Forest.{Forest}
-use Rattle.u_equal.specs.Standing.{standing, IsIn}
+use Rattle.u_equal.specs.Standing.{standing, EachOnce, IsIn}
 use Rattle.u_equal.specs.Joined.{label_now, Same, seen, State, IsState, IsTree, HasReason, AreEdges, AreClasses, IsFresh, JoinsFactors, IsProgress, HoldsCalls, HoldsGiven}
 use Rattle.u_equal.specs.Links.{HasNoCall, is_equality}
 use Rattle.u_equal.specs.Tables.{AreValuesOf, HasArguments, HasSides}
@@ -75,6 +75,7 @@ module _ (product : U) (values : List Val) (s t w : Forest) (table : AreValuesOf
 
   pub classes-made : AreClasses product w
   classes-made = record {
+    once = subst (λ (vs : List Val). EachOnce vs) (sym w-values) table.once;
     tree = tree;
     state = progress.state;
     edges_hold = edges-only (mul_leaves product) (standing product) t.values.keys (seen w) in-t (progress.edges_hold (mul_leaves product) (joined.edges_hold t.values.keys (no-edges (mul_leaves product) t.values.keys)));

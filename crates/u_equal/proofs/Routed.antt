@@ -9,28 +9,47 @@ use Rattle.u_equal.specs.declared.forest.Reason.{Reason}
 use Rattle.u_equal.specs.declared.forest.Reason.TheVariants.{Given, Called}
 use Rattle.u_equal.specs.declared.link.Link.{Link}
 use Rattle.u_equal.specs.Standing.{standing, IsIn}
-use Rattle.u_equal.specs.Links.{IsChain, HasNoCall, Nests, is_equality}
+use Rattle.u_equal.specs.Links.{HasCount, HasNoCall, Nests, is_equality}
 use Rattle.u_equal.specs.LinkCounts.{links_between, links_of_edge, links_of_values, IsRoute}
+use Rattle.u_equal.specs.Routes.{Course, IsChain, IsDistance, IsFrom}
 use Rattle.u_equal.specs.Chains.{LinksValues}
-use Rattle.u_equal.specs.Joined.{edge_at, label_at, label_now, count, reach, seen, Same, AreClasses, AreEdges, HasReason, State, IsState}
+use Rattle.u_equal.specs.Joined.{edge_at, label_at, label_now, count, reach, seen, Same, AreClasses, AreEdges, AreSame, HasReason, State, IsState}
+use Rattle.u_equal.proofs.Answered.{classes-sound}
 use Rattle.u_equal.proofs.Labels.{label_at-keeps, label_at-joins, joined_by, before, across, across_turned}
 use Rattle.u_equal.proofs.LinkNumbers.{links-none, links-kept, links-forth, links-back, links-same, links-at, edge-given}
 use Rattle.u_equal.proofs.Nested.{nests-wider}
 use Rattle.u_equal.proofs.Reaches.{reach-grows, reach-joined, reach-le}
 
 -- ---- the chain
-pub chain-of : (product : U) (forest : Forest) → AreClasses product forest → (a b : Val) (links : List Link) → LinksValues (seen forest) (length forest.edges.items) a b links
-    → Nests (length forest.edges.items) links → IsChain product a b (Some links)
-chain-of product forest classes a b links h nested = (
-  h.leads product classes.edges_hold,
-  λ none. let few = classes.few none in omega (arith, h.short, few),
-  nests-wider (length forest.edges.items) (length (standing product)) links classes.narrow nested,
-)
+module _ (product : U) (forest : Forest) (classes : AreClasses product forest) (a b : Val) (same : AreSame (seen forest) a b) where
+  pub is-distance : IsDistance product a b (links_of_values (seen forest) (length forest.edges.items) a b)
+  is-distance = record { joined = seen forest; once = classes.once; state = classes.state; edges_hold = classes.edges_hold; same = same; is = refl }
 
-pub chain-ok : {E : Type 0} (product : U) (forest : Forest) → AreClasses product forest → (a b : Val) (r : Result (List Link) E) → IfOk r (λ links. LinksValues (seen forest) (length forest.edges.items) a b links)
-    → IfOk r (λ links. Nests (length forest.edges.items) links) → IfOk r (λ links. IsChain product a b (Some links))
-chain-ok product forest classes a b (Ok links) h nested = chain-of product forest classes a b links h nested
-chain-ok product forest classes a b (Err e) h nested = tt
+  pub chain-of : (links : List Link) → LinksValues (seen forest) (length forest.edges.items) a b links → HasCount links (links_of_values (seen forest) (length forest.edges.items) a b)
+      → Nests (length forest.edges.items) links → IsChain product a b (Some links)
+  chain-of links h counted nested = (
+    h.leads product classes.edges_hold,
+    λ none. let few = classes.few none in omega (arith, h.short, few),
+    nests-wider (length forest.edges.items) (length (standing product)) links classes.narrow nested,
+    record { number = links_of_values (seen forest) (length forest.edges.items) a b; is = is-distance; counted = counted },
+  )
+
+  pub chain-ok : {E : Type 0} (r : Result (List Link) E) → IfOk r (λ links. LinksValues (seen forest) (length forest.edges.items) a b links)
+      → IfOk r (λ links. HasCount links (links_of_values (seen forest) (length forest.edges.items) a b)) → IfOk r (λ links. Nests (length forest.edges.items) links) → IfOk r (λ links. IsChain product a b (Some links))
+  chain-ok (Ok links) h counted nested = chain-of links h counted nested
+  chain-ok (Err e) h counted nested = tt
+
+-- what is told of the chain before it is made
+pub from-route : (product : U) (forest : Forest) (a b : Val) (number : ℕ) → IsRoute product forest a b number → (course : Course) → course ≡ record { product = product; from = a; to = b; links = number } → IsFrom course product a b
+from-route product forest a b number h course is = record {
+  product_is = ap (λ (c : Course). c.product) is;
+  from_is = ap (λ (c : Course). c.from) is;
+  to_is = ap (λ (c : Course). c.to) is;
+  entailed = classes-sound product forest h.classes a b h.same;
+  number = links_of_values (seen forest) (length forest.edges.items) a b;
+  distance = is-distance product forest h.classes a b h.same;
+  links_are = ap (λ (c : Course). c.links) is ∙ h.is;
+}
 
 -- ---- where no edge is of calls
 abbrev AreGiven : State → Type 0

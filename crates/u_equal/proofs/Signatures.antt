@@ -1,5 +1,5 @@
 -- Calls with the same arguments, found by signatures, and what joining one of them keeps.
-use Rattle.std.proofs.Common.{◌≡◌, ℕ, suc, ◌<◌, ◌≤◌, List, [], ◌∷◌, map, length, get_or, inl, inr, refl, ap, sym, ◌∙◌, subst, arith, eq-eqb}
+use Rattle.std.proofs.Common.{◌≡◌, ℕ, suc, ◌<◌, ◌≤◌, List, [], ◌∷◌, map, drop, length, get_or, inl, inr, refl, ap, sym, ◌∙◌, subst, arith, eq-eqb}
 use Rattle.std.specs.Prelude.{Bool, true, false, ◌&&◌, cond, Option, Some, None, slice_get}
 use Rattle.std.proofs.lemmas.Bool.{cases_Bool, true≢false, eqb-true}
 use Rattle.std.proofs.lemmas.Option.{same_Some, none-some, slice_get-map, slice_get_within, slice_get-get_or}
@@ -16,6 +16,7 @@ use Rattle.u_equal.specs.declared.forest.Edge.{Edge}
 use Rattle.u_equal.specs.declared.forest.Reason.TheVariants.{Called}
 use Rattle.u_equal.specs.Standing.{IsIn}
 use Rattle.u_equal.specs.Joined.{label_at, label_now, FirstAt, Same, SameEach, AreCalls, State, IsState, IsMoved, IsProgress, HoldsCalls, pushed}
+use Rattle.u_equal.specs.Agendas.{IsForgotten}
 use Rattle.u_equal.specs.Tables.{ArePlaces, IsCall, AreCallsOf, same_signature, signature, IsKnown, Leads, IsStep}
 use Rattle.u_equal.proofs.Labels.{label_at-push, label_at-later, first-unique}
 use Rattle.u_equal.proofs.Reaches.{idem}
@@ -68,7 +69,7 @@ map-agree : (f g : ℕ → ℕ) (ns : List ℕ) → ((i : ℕ) → f i ≡ g i) 
 map-agree f g [] agree = refl
 map-agree f g (n ∷ ns) agree = ap (λ m. m ∷ map f ns) (agree n) ∙ ap (λ ms. g n ∷ ms) (map-agree f g ns agree)
 
-signature-agree : (f g : ℕ → ℕ) (c : Call) → ((i : ℕ) → f i ≡ g i) → signature f c ≡ signature g c
+pub signature-agree : (f g : ℕ → ℕ) (c : Call) → ((i : ℕ) → f i ≡ g i) → signature f c ≡ signature g c
 signature-agree f g c agree = ap (λ (ms : List ℕ). record { symbol = c.symbol; classes = ms }) (map-agree f g c.arguments agree)
 
 -- what a list has at a place, in a list of labels
@@ -117,6 +118,47 @@ module _ (s : State) (state : IsState s) where
             joined = late time (get_or c.arguments k 0) (get_or d.arguments k 0) within
                 (label-in (label_at s.edges time) (label_now s) c.arguments d.arguments k (get_or c.arguments k 0) (get_or d.arguments k 0) (ap (λ (g : Signature). g.classes) same) at_p at_q);
           })
+
+  late-each : (time : ℕ) (ps qs : List ℕ) → time ≤ length s.edges → map (label_at s.edges time) ps ≡ map (label_now s) qs → map (label_now s) ps ≡ map (label_now s) qs
+  late-each time [] qs within same = same
+  late-each time (p ∷ ps) [] within same = absurd (omega (arith, ap length same))
+  late-each time (p ∷ ps) (q ∷ qs) within same =
+      ap (λ (m : ℕ). m ∷ map (label_now s) ps) (late time p q within (ap (λ (ms : List ℕ). get_or ms 0 0) same))
+      ∙ ap (λ (ms : List ℕ). label_now s q ∷ ms) (late-each time ps qs within (ap (λ (ms : List ℕ). drop 1 ms) same))
+
+  -- and have one signature now
+  late-signature : (c d : Call) (time : ℕ) → time ≤ length s.edges → signature (label_at s.edges time) c ≡ signature (label_now s) d → signature (label_now s) c ≡ signature (label_now s) d
+  late-signature c d time within same =
+      ap (λ (m : ℕ). record { symbol = m; classes = map (label_now s) c.arguments }) (ap (λ (g : Signature). g.symbol) same)
+      ∙ ap (λ (ms : List ℕ). record { symbol = d.symbol; classes = ms }) (late-each time c.arguments d.arguments within (ap (λ (g : Signature). g.classes) same))
+
+  -- a signature that a call had before and has no more is that of no call now, so it may be forgotten
+  pub forgets : (c : Call) (time : ℕ) (g : Signature) (look look_after : Signature → Option ℕ) → time ≤ length s.edges → g ≡ signature (label_at s.edges time) c
+      → same_signature g (signature (label_now s) c) ≡ false → ((q : Signature) → look_after q ≡ cond (same_signature g q) None (look q)) → IsForgotten s look look_after
+  forgets c time g look look_after within is differs after_is = record {
+    still = λ d. elim (cases_Bool (same_signature g (signature (label_now s) d))) [
+      | inl met ↦
+          let now = late-signature c d time within (sym is ∙ signatures-one g (signature (label_now s) d) met) in
+          absurd (true≢false (sym (ap (λ (q : Signature). same_signature g q) now ∙ met) ∙ differs))
+      | inr unmet ↦ after_is (signature (label_now s) d) ∙ rw unmet refl
+    ];
+    only = λ q place at. elim (cases_Bool (same_signature g q)) [
+      | inl met ↦ absurd (none-some place (sym (after_is q ∙ rw met refl) ∙ at))
+      | inr unmet ↦ sym (after_is q ∙ rw unmet refl) ∙ at
+    ];
+  }
+
+pub forgets-none : (s : State) (look : Signature → Option ℕ) → IsForgotten s look look
+forgets-none s look = record { still = λ c. refl; only = λ g place at. at }
+
+pub forgets-through : (s : State) (one two three : Signature → Option ℕ) → IsForgotten s one two → IsForgotten s two three → IsForgotten s one three
+forgets-through s one two three p q = record {
+  still = λ c. q.still c ∙ p.still c;
+  only = λ g place at. p.only g place (q.only g place at);
+}
+
+pub known-less : (values : List Val) (s t : State) (look look_after : Signature → Option ℕ) → IsKnown values s look → IsForgotten t look look_after → IsKnown values s look_after
+known-less values s t look look_after known forgotten g place at = known g place (forgotten.only g place at)
 
 -- the places of values that are the same have one label
 same-labels : (values : List Val) (label : ℕ → ℕ) (a b : Val) (p q : ℕ) → FirstAt values a p → FirstAt values b q → Same values label a b → label p ≡ label q

@@ -1,4 +1,4 @@
--- Values that are joined by edges in order of time: contracts of private functions cite this.
+-- Values that are joined by edges in order of time. Public clauses cite `AreSame`, `IsState` and `AreEdges`, by `IsDistance`; contracts of private functions cite the rest.
 use Rattle.std.specs.Prelude.{◌≡◌, ◌⊎◌, ℕ, zero, suc, ◌+◌, ◌<◌, ◌≤◌, nat_eq, not, if◌then◌else◌, List, [], ◌∷◌, ◌++◌, length, get_or, take, Bool, true, false, Some, slice_get, count_by}
 use Rattle.u_terms.specs.Syntax.{U, Val}
 use Rattle.u_terms.specs.declared.term.Val.TheVariants as v
@@ -9,7 +9,7 @@ use Rattle.u_equal.specs.declared.forest.Reason.TheVariants.{Given, Called}
 use Rattle.u_equal.specs.declared.forest.Place.{Place}
 use Rattle.u_equal.specs.declared.forest.Place.TheVariants.{Root, Under}
 use Rattle.u_equal.specs.declared.forest.Forest.{Forest}
-use Rattle.u_equal.specs.Standing.{standing, IsIn}
+use Rattle.u_equal.specs.Standing.{standing, EachOnce, IsIn}
 use Rattle.u_equal.specs.Links.{HasNoCall, is_equality}
 
 -- ---- labels of places: places with one label are joined
@@ -152,6 +152,7 @@ HoldsCalls calls values label = (a b : Val) → IsIn a calls → IsIn b calls �
 
 -- the classes of the product: nothing is left to be joined
 pub record AreClasses (product : U) (forest : Forest) : Type 0 where
+  pub once : EachOnce forest.values.keys
   pub tree : IsTree forest
   pub state : IsState (seen forest)
   pub edges_hold : AreEdges (mul_leaves product) (standing product) (seen forest)

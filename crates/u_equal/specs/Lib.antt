@@ -9,3 +9,4 @@ pub mod Chains
 pub mod LinkCounts
 pub mod Routes
 pub mod Agendas
+pub mod Numbered

@@ -1,4 +1,4 @@
--- How many links lead from place to place, by recursion on the edges in order of time: contracts of private functions cite this.
+-- How many links lead from place to place, by recursion on the edges in order of time. Public clauses cite `links_of_values`, by `IsDistance`; contracts of private functions cite the rest.
 use Rattle.std.specs.Prelude.{ℕ, zero, suc, ◌+◌, ◌≤◌, nat_eq, if◌then◌else◌, List, [], ◌∷◌, length, get_or, sum_by, Some, slice_get, ◌≡◌}
 use Rattle.u_terms.specs.Syntax.{U, Val, Fun, Vals, NoVals, ValThen}
 use Rattle.u_terms.specs.declared.term.Val.TheVariants as v
@@ -90,3 +90,8 @@ pub record IsRoute (product : U) (forest : Forest) (a b : Val) (number : ℕ) : 
   pub classes : AreClasses product forest
   pub same : AreSame (seen forest) a b
   pub is : number ≡ told (links_of_values (seen forest) (length forest.edges.items) a b)
+
+-- ---- what routes keep
+pub record AreRoutes (product : U) (forest : Forest) (numbers : List ℕ) : Type 0 where
+  pub classes : AreClasses product forest
+  pub numbers_are : AreNumbers (seen forest) (length forest.edges.items) numbers

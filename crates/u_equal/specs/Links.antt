@@ -1,12 +1,11 @@
--- What links lead to, and what a chain of them is.
-use Rattle.std.specs.Prelude.{ℕ, ◌+◌, ◌-◌, ◌^◌, ◌<◌, ◌≤◌, min, Bool, true, false, List, [], ◌∷◌, Option, Some, None, length, count_by}
+-- What links lead to, and how many they are.
+use Rattle.std.specs.Prelude.{ℕ, ◌+◌, ◌-◌, ◌^◌, ◌<◌, min, Bool, true, false, List, [], ◌∷◌}
 use Rattle.u_terms.specs.Syntax.{U, Val, Eq}
 use Rattle.u_terms.specs.declared.term.Val.TheVariants as v
 use Rattle.u_equal.specs.declared.link.Link.{Link}
 use Rattle.u_equal.specs.declared.link.Link.TheVariants as link
-use Rattle.u_rules.specs.Terms.{mul_leaves}
-use Rattle.u_equal.specs.Standing.{Stands, IsIn, standing}
-use Rattle.u_equal.specs.Entails.{IsGiven, Entails}
+use Rattle.u_equal.specs.Standing.{Stands, IsIn}
+use Rattle.u_equal.specs.Entails.{IsGiven}
 
 mutual
   -- the links lead from a to b, one after the other
@@ -53,17 +52,10 @@ mutual
     no_lists : (n : ℕ) → NestsEach n []
     lists_within : (n : ℕ) (links : List Link) (pairs : List (List Link)) → Nests n links → NestsEach n pairs → NestsEach n (links ∷ pairs)
 
--- ---- chains
+-- ---- what bounds them
 abbrev pub is_equality : U → Bool
 is_equality (Eq a b) = true
 is_equality _ = false
 
 abbrev pub HasNoCall : List Val → Type 0
 HasNoCall values = (f : ℕ) (xs : List Val) → IsIn (v.Fun f xs) values → ⊥
-
--- Links that lead from a to b, at most as many as the product has equalities where no call stands in it, with calls in calls at most as deep
--- as it has values; or none, where it does not entail that they are equal.
-abbrev pub IsChain : U → Val → Val → Option (List Link) → Type 0
-IsChain product a b None = Entails product a b → ⊥
-IsChain product a b (Some links) =
-    Leads product a links b × (HasNoCall (standing product) → length links ≤ count_by is_equality (mul_leaves product)) × Nests (length (standing product)) links

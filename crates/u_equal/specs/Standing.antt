@@ -32,5 +32,9 @@ pub record IsIn {X : Type 0} (x : X) (xs : List X) : Type 0 where
   pub place : ℕ
   pub here : slice_get xs place ≡ Some x
 
+-- no item stands at two places of the list
+abbrev pub EachOnce : {X : Type 0} → List X → Type 0
+EachOnce {X} xs = (i j : ℕ) (x : X) → slice_get xs i ≡ Some x → slice_get xs j ≡ Some x → i ≡ j
+
 abbrev pub Stands : Val → U → Type 0
 Stands value product = IsIn value (standing product)

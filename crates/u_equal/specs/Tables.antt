@@ -6,15 +6,16 @@ use Rattle.u_terms.specs.declared.term.Val.TheVariants as v
 use Rattle.u_equal.specs.declared.calls.Call.{Call}
 use Rattle.u_equal.specs.declared.calls.Signature.{Signature}
 use Rattle.u_equal.specs.declared.forest.Edge.{Edge}
-use Rattle.u_equal.specs.Standing.{IsIn}
+use Rattle.u_equal.specs.Standing.{EachOnce, IsIn}
 use Rattle.u_terms.specs.Syntax.{U}
 use Rattle.u_rules.specs.Terms.{◌≐◌}
 use Rattle.u_equal.specs.Joined.{FirstAt, State, label_at, label_now, pushed, IsProgress}
 
--- both lists have the same values, and the second one no more of them
+-- both lists have the same values, the second one each of them once
 pub record AreValuesOf (standing values : List Val) : Type 0 where
   pub all : (a : Val) → IsIn a standing → IsIn a values
   pub only : (a : Val) → IsIn a values → IsIn a standing
+  pub once : EachOnce values
   pub few : length values ≤ length standing
 
 -- the sides of the equalities among the factors

@@ -1,7 +1,7 @@
 //! The calls among values, by the places of their arguments.
 ghost use Rattle.std.specs.Prelude.{◌≡◌, ◌<◌, ◌≤◌, IfOk, OnOk, Some, slice_get, length};
 ghost use Rattle.u_terms.specs.declared.term.Val.TheVariants as v;
-ghost use Rattle.u_equal.specs.Joined.{FirstAt, IsTree, label_now, seen};
+ghost use Rattle.u_equal.specs.Joined.{FirstAt, IsTree, label_at, label_now, seen};
 ghost use Rattle.u_equal.specs.Tables as spec;
 ghost use Rattle.u_equal.specs.Tables.{ArePlaces, AreCallsOf, HasArguments, IsCall};
 
@@ -101,9 +101,24 @@ impl Call {
         requires call { IsCall forest.now.values.keys self.now }
         ensures { IfOk result (λ signature. signature ≡ spec.signature (label_now (seen forest.now)) self.now) }
     {
+        self.signature_at(alloc, forest, forest.edges.len())
+    }
+
+    /// The function and the classes of the arguments as they were after the first edges.
+    pub fn signature_at(
+        &self,
+        alloc: Global,
+        forest: &Forest,
+        upto: usize,
+    ) -> Result<Signature, NoMemory>
+        requires tree { IsTree forest.now }
+        requires upto { upto ≤ length forest.now.edges.items }
+        requires call { IsCall forest.now.values.keys self.now }
+        ensures { IfOk result (λ signature. signature ≡ spec.signature (label_at forest.now.edges.items upto) self.now) }
+    {
         let mut classes = Vec::with_capacity(alloc, self.arguments.len())?;
         for place in self.arguments.as_slice() {
-            classes.push(forest.class_of(*place))?;
+            classes.push(forest.class_at(upto, *place))?;
         }
         Ok(Signature {
             symbol: self.symbol,

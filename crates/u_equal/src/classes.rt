@@ -1,9 +1,8 @@
 //! The classes of the values in a product.
 ghost use Rattle.std.specs.Prelude.{◌≡◌, ◌^◌, ◌<◌, ◌↔◌, IfOk, IsTrue, MatchOption, length};
 ghost use Rattle.u_rules.specs.Terms.{mul_leaves};
-ghost use Rattle.u_equal.specs.Links.{IsChain};
 ghost use Rattle.u_equal.specs.Entails.{Entails};
-ghost use Rattle.u_equal.specs.Routes.{IsFrom};
+ghost use Rattle.u_equal.specs.Routes.{IsChain, IsFrom};
 ghost use Rattle.u_equal.specs.Joined.{AreSame, IsTree, Joined, label_now, seen};
 
 use crate::NoMemory;
@@ -12,7 +11,7 @@ use crate::forest::Forest;
 pub use crate::gather::factors;
 use crate::gather::standing_values;
 use crate::link::Link;
-use crate::route::Route;
+use crate::route::{Route, Routes};
 use crate::table::table_of;
 use std::alloc::Global;
 use std::marker::Model;
@@ -44,9 +43,10 @@ impl<'a> Model for Classes<'a> {
 }
 
 impl<'a> Classes<'a> {
-    /// The classes of a product. Each value is hashed whole, so calls take up to the nodes of the product times the depth of calls in calls. A call
-    /// is looked at again, with all its arguments, for each argument whose class is hung under another one while calls are joined: up to the square
-    /// of its arguments, in time and memory. Everything else is about linear.
+    /// The classes of a product. Each value is hashed whole, so calls take up to the nodes of the product times the depth of calls in calls, which is
+    /// at most 2,048 within the limits of terms. Where the arguments of a wide call are joined one after another, each by calls that were joined
+    /// before, the call is looked at again for each of them: that takes up to the square of its arguments. All else is about linear, and so is the
+    /// memory.
     pub fn of(alloc: Global, product: &'a U) -> Result<Classes<'a>, NoMemory>
         requires few { length (mul_leaves product.now) < 2 ^ 32 }
         ensures { IfOk result (λ classes. classes ≡ product.now) }
@@ -81,7 +81,8 @@ impl<'a> Classes<'a> {
     }
 
     /// The chain from the one value to the other, counted and not made yet; `None` where the product's equalities do not entail that they are equal.
-    /// Each call of this counts all edges anew: a walk for each argument of each two calls that were joined.
+    /// A value is 0 links away from itself. Else each call of this counts the links of all edges anew: a walk for each argument of each two calls that
+    /// were joined. Where several chains are wanted, `routes` counts them once.
     pub fn route<'c>(
         &'c self,
         alloc: Global,
@@ -96,11 +97,19 @@ impl<'a> Classes<'a> {
         let route = Route::between(alloc, self.product, &self.forest, a, b)?;
         Ok(Some(route))
     }
+
+    /// The chains between values, counted and not made yet, by numbers of links that are counted once for all of them: a walk for each argument of
+    /// each two calls that were joined.
+    pub fn routes<'c>(&'c self, alloc: Global) -> Result<Routes<'c, 'a>, NoMemory>
+        ensures { IfOk result (λ routes. routes ≡ self.now) }
+    {
+        Routes::among(alloc, self.product, &self.forest)
+    }
 }
 
 impl<'a> Forest<'a> {
-    // Whether both are one value, or joined.
-    fn are_same(&self, a: &Val, b: &Val) -> bool
+    /// Whether both are one value, or joined.
+    pub fn are_same(&self, a: &Val, b: &Val) -> bool
         requires { IsTree self.now }
         ensures { IsTrue result ↔ AreSame (seen self.now) a.now b.now }
     {

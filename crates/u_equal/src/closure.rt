@@ -38,8 +38,9 @@ impl<'a> Forest<'a> {
         Ok(())
     }
 
-    /// Joins calls with the same arguments until none are left. A call is looked at again, with all its arguments, for each of them whose
-    /// class is hung under another one. The smaller class is, so for each argument that is at most as often as the number of values has binary digits.
+    /// Joins calls with the same arguments until none are left. A call is looked at again, with all its arguments, after classes of them were
+    /// hung under others: once for all that were while it waited. The smaller class is hung, so for each argument that is at most as often as the
+    /// number of values has binary digits. A call has at most one signature in the table, by the classes that stand.
     pub fn join_calls(&mut self, alloc: Global, calls: &[Call]) -> Result<(), NoMemory>
         requires tree { IsTree self.old }
         requires state { IsState (seen self.old) }
@@ -51,7 +52,7 @@ impl<'a> Forest<'a> {
         let mut known = IndexMap::new(alloc);
         let mut agenda = Agenda::new(alloc, self, calls)?;
         while self.join_next(alloc, calls, &mut known, &mut agenda)? {
-            agenda.wake(alloc, self)?;
+            agenda.wake(alloc, self, calls, &mut known)?;
         }
         Ok(())
     }
@@ -68,9 +69,9 @@ impl<'a> Forest<'a> {
         requires state { IsState (seen self.old) }
         requires calls { AreCallsOf self.old.values.keys calls.now }
         requires known { IsKnown self.old.values.keys (seen self.old) (get same_signature known.old) }
-        requires settled { AreSettled calls.now agenda.old.waiting.items (seen self.old) (get same_signature known.old) }
+        requires settled { AreSettled calls.now agenda.old.waiting (seen self.old) (get same_signature known.old) }
         ensures tree { OnOk result (IsTree self.new) }
-        ensures next { IfOk result (λ joined. IsNext calls.now (seen self.old) (seen self.new) agenda.new.waiting.items (get same_signature known.new) joined) }
+        ensures next { IfOk result (λ joined. IsNext calls.now (seen self.old) (seen self.new) agenda.new.waiting (get same_signature known.new) joined) }
         ensures users { OnOk result (agenda.new.users ≡ agenda.old.users) }
     {
         while let Some(number) = agenda.waiting.pop() {

@@ -12,12 +12,14 @@ mod closure;
 mod forest;
 mod gather;
 mod key;
+pub mod laws;
 mod link;
+mod numbered;
 mod numbers;
 mod route;
 mod table;
 
 pub use classes::{Classes, factors};
 pub use link::Link;
-pub use route::Route;
+pub use route::{Route, Routes};
 pub use std::alloc::AllocError as NoMemory;

@@ -18,12 +18,15 @@ impl<'a> Forest<'a> {
         requires same { Same self.now.values.keys (label_at self.now.edges.items (length self.now.edges.items)) a.now b.now }
         ensures { IfOk result (λ count. count ≡ told (links_of_values (seen self.now) (length self.now.edges.items) a.now b.now)) }
     {
+        if same_value(a, b) {
+            return Ok(0);
+        }
         let numbers = self.numbers(alloc)?;
         self.number_of_values(alloc, numbers.as_slice(), a, b)
     }
 
-    // How many links each edge stands for.
-    fn numbers(&self, alloc: Global) -> Result<Vec<u64>, NoMemory>
+    /// How many links each edge stands for.
+    pub fn numbers(&self, alloc: Global) -> Result<Vec<u64>, NoMemory>
         requires tree { IsTree self.now }
         requires state { IsState (seen self.now) }
         ensures { IfOk result (λ numbers. AreNumbers (seen self.now) (length self.now.edges.items) numbers.items) }
@@ -100,8 +103,8 @@ impl<'a> Forest<'a> {
         Ok(total)
     }
 
-    // How many links lead from value to value along the edges with these numbers.
-    fn number_of_values(
+    /// How many links lead from value to value along the edges with these numbers.
+    pub fn number_of_values(
         &self,
         alloc: Global,
         numbers: &[u64],

@@ -9,6 +9,7 @@ use indexmap::IndexSet;
 use std::alloc::Global;
 use u_terms::Val;
 
+/// The table of these values: a value that stands several times has its first place.
 pub fn table_of<'a>(alloc: Global, standing: &[&'a Val]) -> Result<IndexSet<Key<'a>>, NoMemory>
     ensures { IfOk result (λ table. AreValuesOf (values_at standing.now) table.keys) }
 {

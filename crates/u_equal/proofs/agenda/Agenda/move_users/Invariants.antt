@@ -7,6 +7,6 @@ abbrev pub invariant-loop-number : goal.invariant-loop-number
 invariant-loop-number l = record {
   long : length l.self.users.items ≡ length l.fn.self.users.items;
   still : (class number : ℕ) → (class ≡ l.from → ⊥) → IsIn number (users_at l.fn.self.users.items class) → IsIn number (users_at l.self.users.items class);
-  moved : (m : ℕ) → m < l.number-index → IsIn (get_or l.number-items m 0) (users_at l.self.users.items l.to) × IsIn (get_or l.number-items m 0) l.self.waiting.items;
-  waits : (number : ℕ) → IsIn number l.fn.self.waiting.items → IsIn number l.self.waiting.items;
+  moved : (m : ℕ) → m < l.number-index → IsIn (get_or l.number-items m 0) (users_at l.self.users.items l.to);
+  waiting : l.self.waiting ≡ l.fn.self.waiting;
 }

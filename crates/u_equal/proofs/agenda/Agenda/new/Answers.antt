@@ -1,4 +1,4 @@
-use Rattle.std.proofs.Common.{◌≡◌, List, [], ◌∷◌, ◌++◌, ℕ, length, inl, inr, refl, sym, ◌∙◌, subst, arith}
+use Rattle.std.proofs.Common.{◌≡◌, List, ℕ, length, inl, inr, refl, sym, ◌∙◌, subst, arith}
 use Rattle.std.specs.Prelude.{Some, slice_get}
 use Rattle.std.proofs.lemmas.Bool.{cases_eq}
 use Rattle.std.proofs.lemmas.Option.{same_Some, slice_get_read, slice_get_within}
@@ -6,7 +6,6 @@ use Rattle.u_equal.specs.declared.calls.Call.{Call}
 use Rattle.u_equal.specs.Joined.{label_now, seen}
 use Rattle.u_equal.specs.Standing.{IsIn}
 use Rattle.u_equal.specs.Agendas.{Uses}
-use Rattle.u_equal.proofs.Waiting.{in-last, in-left, in-reverse}
 use Rattle.u_equal.proofs.agenda.Agenda.new.Goals as goal
 
 pub loop-number-preserved : goal.loop-number-preserved
@@ -14,8 +13,8 @@ loop-number-preserved c =
     let s = seen c.args.forest.now in
     let calls = c.args.calls.now in
     let i : ℕ = c.loop-number.number in
-    let before : List ℕ = c.loop-number.agenda.waiting.items in
     let users : List (List ℕ) = c.enter.new.self.users.items in
+    let waiting : List ℕ = c.enter.new.self.waiting in
     let h = c.loop-number.invariant in
     let e = c.in_ok-enter.ensures in
     let at = slice_get_read calls (length calls) i c.index-calls-number.result refl (omega arith) c.index-calls-number.is in
@@ -27,10 +26,10 @@ loop-number-preserved c =
             (subst (λ (x : Call). Uses (label_now s) users i x) (same_Some c.index-calls-number.result d (sym at ∙ subst (λ (m : ℕ). slice_get calls m ≡ Some d) last there)) e.uses)
         | inr other ↦ λ place place_in. e.still (label_now s place) k (h.uses k d (omega (arith, less, other)) there place place_in)
       ];
-      waits = λ k d less there. subst (λ (ns : List ℕ). IsIn k ns) (sym e.waiting) (elim (cases_eq k i) [
-        | inl last ↦ subst (λ (m : ℕ). IsIn m (before ++ i ∷ [])) (sym last) (in-last before i)
-        | inr other ↦ in-left before i k (h.waits k d (omega (arith, less, other)) there)
-      ]);
+      waits = λ k d less there. elim (cases_eq k i) [
+        | inl last ↦ subst (λ (m : ℕ). IsIn m waiting) (sym last) e.waits
+        | inr other ↦ e.others k (h.waits k d (omega (arith, less, other)) there)
+      ];
     }
 
 pub returns : goal.returns
@@ -40,7 +39,5 @@ returns c =
     record {
       long = h.long;
       uses = λ k d there. let within = slice_get_within calls k d there in h.uses k d (omega (arith, within, c.loop-number-test.false)) there;
-      waits = λ k d there.
-          let within = slice_get_within calls k d there in
-          subst (λ (ns : List ℕ). IsIn k ns) (sym c.reverse.ensures.items) (in-reverse c.loop-number.agenda.waiting.items k (h.waits k d (omega (arith, within, c.loop-number-test.false)) there));
+      waits = λ k d there. let within = slice_get_within calls k d there in h.waits k d (omega (arith, within, c.loop-number-test.false)) there;
     }

@@ -11,5 +11,5 @@ abbrev pub invariant-loop-number : goal.invariant-loop-number
 invariant-loop-number l = record {
   long : length l.agenda.users.items ≡ length l.forest.values.keys;
   uses : (k : ℕ) (c : Call) → k < l.number → slice_get l.calls k ≡ Some c → Uses (label_now (seen l.forest)) l.agenda.users.items k c;
-  waits : (k : ℕ) (c : Call) → k < l.number → slice_get l.calls k ≡ Some c → IsIn k l.agenda.waiting.items;
+  waits : (k : ℕ) (c : Call) → k < l.number → slice_get l.calls k ≡ Some c → IsIn k l.agenda.waiting;
 }

@@ -2,6 +2,7 @@ use Rattle.std.proofs.Common.{sym, subst, ◌∙◌}
 use Rattle.std.proofs.lemmas.Bool.{true≢false}
 use Rattle.u_terms.specs.Syntax.{U}
 use Rattle.u_equal.specs.Entails.{Entails}
+use Rattle.u_equal.specs.Routes.{IsFrom}
 use Rattle.u_equal.proofs.Answered.{classes-complete}
 use Rattle.u_equal.proofs.classes.Classes.route.Goals as goal
 
@@ -9,3 +10,6 @@ pub returns-then-not-are_same : goal.returns-then-not-are_same
 returns-then-not-are_same c =
     subst (λ (product : U). Entails product c.args.a.now c.args.b.now → ⊥) c.self.view_is
     (λ e. true≢false (sym (c.are_same.ensures.1 (classes-complete c.self.inside.product.now c.self.inside.forest c.self.invariant c.args.a.now c.args.b.now e)) ∙ c.if-not-are_same.true))
+
+pub returns : goal.returns
+returns c = subst (λ (product : U). IsFrom c.in_ok-route.route product c.args.a.now c.args.b.now) c.self.view_is (c.in_ok-route.ensures {u = tt})

@@ -6,7 +6,7 @@ use Rattle.u_equal.specs.Joined.{State, label_now, seen, IsProgress}
 use Rattle.u_equal.specs.Tables.{AreCallsOf, same_signature}
 use Rattle.u_equal.specs.Agendas.{EachUses}
 use Rattle.u_equal.proofs.Reaches.{fewer-edges}
-use Rattle.u_equal.proofs.Signatures.{all-closed, progress-through}
+use Rattle.u_equal.proofs.Signatures.{all-closed, known-less, progress-through}
 use Rattle.u_equal.proofs.Waiting.{all-settled, all-use, each-leads}
 use Rattle.u_equal.proofs.forest.Forest.join_calls.Goals as goal
 
@@ -31,16 +31,19 @@ loop-agenda-preserved c =
     let h = c.loop-agenda.invariant in
     let n = c.in_ok-join_next.ensures.next in
     let joins = n.joins c.if-branch.true in
-    let woken = c.in_ok-wake.ensures in
+    let woken = c.in_ok-wake.ensures.woken in
+    let forgotten = c.in_ok-wake.ensures.forgotten in
+    let look = get same_signature c.join_next.new.known in
+    let look_after = get same_signature c.wake.new.known in
     let users = ap (λ us. us.items) c.in_ok-join_next.ensures.users in
     let uses = subst (λ (us : List (List ℕ)). EachUses (label_now s) us calls) (sym users) h.uses in
     record {
       tree = c.in_ok-join_next.ensures.tree;
       progress = progress-through c.args.self.now.values.keys (seen c.args.self.now) s t h.progress (subst (λ (vs : List Val). IsProgress vs s t) h.progress.values n.progress);
-      known = n.known;
+      known = known-less t.values t t look look_after n.known forgotten;
       long = omega (arith, woken.long, ap length users, h.long, ap length n.progress.values);
-      uses = all-use s t joins.0 joins.1 before after woken calls uses;
-      settled = all-settled s t joins.0 joins.1 before after woken calls (get same_signature c.join_next.new.known) uses joins.2;
+      uses = all-use s t joins.0 joins.1 calls before after woken uses;
+      settled = all-settled s t joins.0 joins.1 calls before after woken look look_after forgotten uses joins.2;
     }
 
 pub returns-clause-progress : goal.returns-clause-progress

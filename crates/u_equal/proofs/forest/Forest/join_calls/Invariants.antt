@@ -12,7 +12,7 @@ invariant-loop-agenda l = record {
   known : IsKnown l.self.values.keys (seen l.self) (get same_signature l.known);
   long : length l.agenda.users.items ≡ length l.self.values.keys;
   uses : EachUses (label_now (seen l.self)) l.agenda.users.items l.calls;
-  settled : AreSettled l.calls l.agenda.waiting.items (seen l.self) (get same_signature l.known);
+  settled : AreSettled l.calls l.agenda.waiting (seen l.self) (get same_signature l.known);
 }
 
 abbrev pub decreases-loop-agenda : goal.decreases-loop-agenda

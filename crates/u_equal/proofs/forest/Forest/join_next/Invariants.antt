@@ -12,8 +12,8 @@ invariant-loop-number l = record {
   same : seen l.self ≡ seen l.initial.self;
   known : IsKnown l.self.values.keys (seen l.self) (get same_signature l.known);
   users : l.agenda.users ≡ l.initial.agenda.users;
-  settled : AreSettled l.calls l.agenda.waiting.items (seen l.self) (get same_signature l.known);
+  settled : AreSettled l.calls l.agenda.waiting (seen l.self) (get same_signature l.known);
 }
 
 abbrev pub decreases-loop-number : goal.decreases-loop-number
-decreases-loop-number l = length l.agenda.waiting.items
+decreases-loop-number l = length l.agenda.waiting
