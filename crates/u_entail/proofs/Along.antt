@@ -6,8 +6,7 @@ use Rattle.u_rules.specs.Terms.{◌≐◌}
 use Rattle.u_moves.specs.Derivations.{Derivation}
 use Rattle.u_moves.specs.Moving.{IsKnownValue}
 use Rattle.u_equal.specs.declared.link.Link.{Link}
-use Rattle.u_equal.specs.Links.{IsChain}
-use Rattle.u_equal.specs.Routes.{Course, AreCounted}
+use Rattle.u_equal.specs.Routes.{Course, AreCounted, IsChain}
 use Rattle.u_equal.specs.Standing.{standing}
 use Rattle.u_entail.specs.Sides.{LeadsBy}
 use Rattle.u_entail.specs.Hops.{AreHops, Lead}

@@ -42,7 +42,7 @@ unfolding binders
 binders-behind [] = refl
 binders-behind (x ∷ xs) = binders-behind xs
 
-opened-none : (u : U) (outs : ℕ) → IsClosed 0 u → opened_path u outs 0 ≡ u
+pub opened-none : (u : U) (outs : ℕ) → IsClosed 0 u → opened_path u outs 0 ≡ u
 opened-none u outs closed = ap (λ (t : U). opened_path t outs 0) (sym (closed_path-none u outs)) ∙ opened_path-closed outs 0 u closed
 
 -- the path of code, by the number of the factors that it passes

@@ -7,28 +7,42 @@ use Rattle.u_terms.specs.Names.{EachName}
 use Rattle.u_terms.specs.Places.{IsClosed}
 use Rattle.u_terms.specs.Products.{product_of}
 use Rattle.u_terms.specs.declared.facts.Facts.{Facts}
-use Rattle.u_terms.specs.Size.{depth}
-use Rattle.u_terms.proofs.Sizes.{depth-Mul, depth-One, depth-positive}
+use Rattle.u_terms.specs.Size.{nodes, depth}
+use Rattle.u_terms.proofs.Sizes.{depth-positive}
 use Rattle.u_rules.specs.Terms.{◌⊗◌, ◌≐◌, mul_leaves}
 use Rattle.u_rules.proofs.LeavesAt.{mul_leaves-Mul}
 use Rattle.u_equal.specs.declared.link.Link.{Link}
 use Rattle.u_equal.specs.Entails.{Entails}
-use Rattle.u_equal.specs.Links.{IsChain}
+use Rattle.u_equal.specs.Routes.{IsChain}
 use Rattle.u_equal.specs.Standing.{standing}
-use Rattle.u_moves.specs.Derivations.{Derivation, IsKnown}
+use Rattle.u_moves.specs.Derivations.{Derivation, IsKnown, IsWithin}
 use Rattle.u_moves.specs.Moving.{IsKnownValue}
 use Rattle.u_entail.specs.declared.hops.Hop.{Hop}
 use Rattle.u_entail.specs.Sides.{AreFactors}
+use Rattle.u_entail.specs.Following.{IsBounded}
 use Rattle.u_entail.specs.Hops.{AreHops, HopsLead, Lead}
-use Rattle.u_entail.specs.Gaining.{right_side, IsGainedBy, IsGained, IsWidened, Derives, Appends, Begins}
-use Rattle.u_entail.proofs.Bounds.{AreWithin, depth-leaves}
+use Rattle.u_entail.specs.Gaining.{right_side, IsGainedBy, IsGained, IsLean, IsWidened, Derives, Appends, Begins}
+use Rattle.u_entail.specs.Spines.{spine}
+use Rattle.u_entail.proofs.Bounds.{AreWithin, depth-leaves, depth-row, depth-row-more, nodes-row-more}
 use Rattle.u_entail.proofs.Leading.{leads-by}
-use Rattle.u_entail.proofs.Gained.{by-links, by-chain, by-levels, by-entailment, hops-small, product-appended, small-lead}
+use Rattle.u_entail.proofs.Gained.{by-links, by-chain, by-levels, by-values, by-entailment, hops-small, product-appended, small-lead}
 use Rattle.u_entail.proofs.Small.{sum-leaves, sum-product}
+use Rattle.u_entail.proofs.Spines.{product-spine}
 use Rattle.u_entail.proofs.Lists.{each-append}
 
 pub all-leaves : (product : U) (factors : List U) → factors ≡ mul_leaves product → Begins product factors
 all-leaves product factors is = record { rest = []; is = is ∙ sym (append-nil (mul_leaves product)) }
+
+-- what stays within whatever both ends are within is no larger than its last term, a row with one factor more
+row-lean : (factors : List U) (x : U) (d : Derivation)
+    → ((most deepest : ℕ) → IsWithin most deepest (product_of factors) → IsWithin most deepest (product_of (factors ++ x ∷ [])) → IsWithin most deepest (spine factors x) → IsBounded most deepest d)
+    → IsLean (product_of (factors ++ x ∷ [])) 0 d
+row-lean factors x d within =
+    let row : U = product_of (factors ++ x ∷ []) in
+    let last : row ≡ spine factors x = product-spine factors x in
+    let bounded = within (nodes row) (depth row) (record { few = nodes-row-more factors (x ∷ []); shallow = depth-row-more factors (x ∷ []) }) (record { few = omega arith; shallow = omega arith })
+    (record { few = omega (arith, ap nodes last); shallow = omega (arith, ap depth last) }) in
+    record { nodes = omega (arith, bounded.few); depth = omega (arith, bounded.shallow) }
 
 module _ (product classes : U) (is : classes ≡ product) (a b : Val) (found : Option (List Link)) (chain : IsChain classes a b found) where
   of_product : IsChain product a b found
@@ -74,6 +88,7 @@ module _ (product classes : U) (is : classes ≡ product) (a b : Val) (found : O
             links = by-links facts outs product factors (product_of factors) last a b links hops are 2 d the-chain begins h;
             short = by-chain facts outs product factors (product_of factors) last a b links hops are 2 d the-chain begins h;
             modest = by-levels facts outs product factors (product_of factors) last a b links hops are 2 d the-chain begins h (sum-product factors);
+            lean = λ basic. row-lean factors (a ≐ b) d (by-values facts outs product factors (product_of factors) last a b links hops are 2 d the-chain begins h basic);
           }
 
 leaves-known : (outs : ℕ) (u : U) → IsKnown 0 outs u → Each (IsKnown 0 outs) (mul_leaves u)
@@ -95,11 +110,7 @@ pub first-leaves : (first more whole : U) → whole ≡ first ⊗ more → (fact
 first-leaves first more whole is factors leaves = record { rest = mul_leaves more; is = leaves ∙ ap mul_leaves is ∙ mul_leaves-Mul first more }
 
 pub leaves-shallow : (u : U) (factors : List U) → factors ≡ mul_leaves u → depth (product_of factors) ≤ length factors + depth u
-leaves-shallow u factors is = level factors (subst (λ (xs : List U). AreWithin (depth u) xs) (sym is) (depth-leaves u)) where
-  level : (xs : List U) → AreWithin (depth u) xs → depth (product_of xs) ≤ length xs + depth u
-  level [] each = omega (arith, depth-One, depth-positive u)
-  level (x ∷ []) each = omega (arith, each.0)
-  level (x ∷ (y ∷ xs)) each = omega (arith, each.0, level (y ∷ xs) each.1, depth-Mul x (product_of (y ∷ xs)))
+leaves-shallow u factors is = depth-row (depth u) factors (depth-positive u) (subst (λ (xs : List U). AreWithin (depth u) xs) (sym is) (depth-leaves u))
 
 pub are-factors : (outs : ℕ) (product : U) (factors : List U) → factors ≡ mul_leaves product → IsKnown 0 outs product → length (mul_leaves product) < 2 ^ 32 → AreFactors outs factors
 are-factors outs product factors is known few = record {

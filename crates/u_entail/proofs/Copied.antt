@@ -3,6 +3,7 @@ use Rattle.std.proofs.Common.{◌≡◌, ℕ, ◌+◌, ◌-◌, ◌*◌, ◌^◌
 use Rattle.std.specs.Prelude.{MatchOption, slice_get, sum_by}
 use Rattle.std.proofs.lemmas.List.Sums.{sum_by-append}
 use Rattle.std.proofs.lemmas.Option.{same_Some}
+use Rattle.data_model.specs.Lists.{Each}
 use Rattle.u_terms.specs.Names.{EachName}
 use Rattle.u_terms.specs.Syntax.{U, Val, constructors}
 use Rattle.u_terms.specs.Places.{IsClosed}
@@ -13,31 +14,34 @@ use Rattle.u_terms.specs.declared.term.U.TheVariants as u
 use Rattle.u_terms.proofs.Parts.{parts-Not}
 use Rattle.u_terms.proofs.Sizes.{nodes-Eq, nodes-Not, depth-Eq, depth-Not}
 use Rattle.u_rules.specs.Terms.{◌≐◌, neg, mul_leaves}
-use Rattle.u_moves.specs.Derivations.{Derivation, IsKnown}
+use Rattle.u_moves.specs.Derivations.{Derivation, IsKnown, IsWithin}
 use Rattle.u_moves.specs.Moving.{IsKnownValue}
 use Rattle.u_equal.specs.declared.link.Link.{Link}
+use Rattle.u_equal.proofs.KeyLaws.{sides-Eq}
 use Rattle.u_equal.specs.Links.{LeadsEach, no_pair, pair, HasNoCall, NestsEach, no_lists, lists_within, told}
 use Rattle.u_equal.specs.Routes.{Course}
 use Rattle.u_equal.specs.Standing.{standing}
+use Rattle.u_entail.specs.declared.carrying.MarkPairs.{MarkPairs}
 use Rattle.u_entail.specs.declared.hops.Hop.{Hop}
 use Rattle.u_entail.specs.Sides.{AreFactors}
 use Rattle.u_entail.specs.Following.{IsBounded}
-use Rattle.u_entail.specs.Hops.{HopsLead, Lead}
-use Rattle.u_entail.specs.Gaining.{Begins, EndsIn, IsLed, IsRegrouped, LeadsBetween}
+use Rattle.u_entail.specs.Hops.{HopsLead, Lead, StayWithin}
+use Rattle.u_entail.specs.Gaining.{Begins, EndsIn, IsLean, IsLed, IsRegrouped, LeadsBetween}
 use Rattle.u_entail.specs.Marks.{IsAgain, HasMark, fails}
-use Rattle.u_entail.specs.Carrying.{points, Carries, Follows, straight, exchanged, AlongCourses, CarriesBy, IsMarkFrom, LeadsMark, LeadsExchanged, MarkCourse, links_of}
+use Rattle.u_entail.specs.Carrying.{points, Carries, Follows, straight, exchanged, AlongCourses, AreMarkPairs, CarriesBy, ExchangedBy, LeadsMark, LeadsExchanged, MarkCourse, MarksBy, PointsBy, AreCourses, links_of}
 use Rattle.u_entail.specs.Copies.{CopiesAlong, IsCopy, IsCopyAt, IsCopySmall, IsDifferenceCopied, IsReady, IsCopiedBy, LeadExchanged}
+use Rattle.u_entail.specs.Small.{AreBasic, IsBasic}
 use Rattle.u_entail.specs.Spines.{spine, weight, IsMadeBehind}
+use Rattle.u_entail.proofs.Basic.{basic-ends, basic-exchanged, basic-lighter, basic-lower, basic-points, basic-small, basic-spare, no-calls}
 use Rattle.u_entail.proofs.Bounds.{depth-product, depth-spine, weight-at, weight-product}
-use Rattle.u_entail.proofs.Carried.{mark-carried}
+use Rattle.u_entail.proofs.Carried.{carried-lighter, carried-lower, mark-carried, no-pairs-found, whole-spare}
 use Rattle.u_entail.proofs.Doubled.{inside-known}
 use Rattle.u_entail.proofs.Flat.{stay-lead}
 use Rattle.u_entail.proofs.Leading.{leads-given, nests-given}
 use Rattle.u_entail.proofs.Lists.{each-at}
 use Rattle.u_entail.proofs.Parts.{eq-known, left-known, right-known}
-use Rattle.u_entail.proofs.Placed.{sides}
 use Rattle.u_entail.proofs.Small.{small-factors, stand-leaves, sum-product, times-le}
-use Rattle.u_entail.proofs.Spines.{nodes-spine, product-spine}
+use Rattle.u_entail.proofs.Spines.{depth-behind, depth-near, nodes-spine, product-spine}
 
 negation-known : (outs : ℕ) (x : U) → IsKnown 0 outs x → IsKnown 0 outs (neg x)
 unfolding IsClosed EachName constructors
@@ -64,11 +68,11 @@ module _ (facts : Facts) (outs : ℕ) (factors : List U) where
   ends-between last d l = record { facts = l.facts; outs = l.outs; to = l.to ∙ product-spine factors last }
 
   pub copied-by : (first : U) (hops : List Hop) (more : ℕ) (begun d : Derivation) → LeadsBetween facts outs (product_of factors) (product_of (factors ++ first ∷ [])) begun → length begun.steps ≤ more
-      → begun.nodes ≤ 2 * nodes (product_of factors) + 2 → begun.depth ≤ length factors + depth (product_of factors) + 1 → IsLed facts outs factors first hops begun d → IsCopiedBy facts outs factors first hops more d
-  copied-by first hops more begun d b few light level l = record {
+      → IsLean (product_of (factors ++ first ∷ [])) 1 begun → IsLed facts outs factors first hops begun d → IsCopiedBy facts outs factors first hops more d
+  copied-by first hops more begun d b few lean l = record {
     leads = λ last h. record { facts = l.facts; outs = l.outs; from = l.from ∙ b.from; to = l.arrives last h ∙ sym (product-spine factors last); plain = l.plain b.plain };
     steps = omega (arith, l.steps, few);
-    within = λ most deepest last stay room space. l.within most deepest last stay (record { few = omega (arith, light, room); shallow = omega (arith, level, space) });
+    within = λ most deepest last stay room space. l.within most deepest last stay (record { few = omega (arith, lean.nodes, room); shallow = omega (arith, lean.depth, space) });
   }
 
   module _ (a b : Val) (again part : Derivation) (h : IsAgain facts outs factors (neg (a ≐ b)) again) (one : IsRegrouped facts outs (neg (a ≐ b)) (neg (b ≐ a)) part) where
@@ -81,11 +85,13 @@ module _ (facts : Facts) (outs : ℕ) (factors : List U) where
     pub again-stands : again.to ≡ spine factors part.from
     again-stands = let l = h.leads in let k = one.leads in l.to ∙ product-spine factors (neg (a ≐ b)) ∙ ap (λ (x : U). spine factors x) (sym k.from)
 
-    pub exchange-ready : (place : ℕ) → slice_get factors place ≡ Some (neg (a ≐ b)) → (d : Derivation) → IsMadeBehind factors again part d → IsReady facts outs factors (neg (b ≐ a)) 5 d
-    exchange-ready place at d made =
+    pub exchange-ready : (d : Derivation) → IsMadeBehind factors again part d → IsReady facts outs factors (neg (b ≐ a)) 5 d
+    exchange-ready d made =
         let l = h.leads in
         let k = one.leads in
-        let level : depth (neg (a ≐ b)) ≤ depth (product_of factors) = each-at (λ x. depth x ≤ depth (product_of factors)) factors place (neg (a ≐ b)) (depth-product factors) at in
+        let n = h.lean in
+        let before : product_of (factors ++ neg (a ≐ b) ∷ []) ≡ spine factors (neg (a ≐ b)) = product-spine factors (neg (a ≐ b)) in
+        let after : product_of (factors ++ neg (b ≐ a) ∷ []) ≡ spine factors (neg (b ≐ a)) = product-spine factors (neg (b ≐ a)) in
         record {
           leads = record {
             facts = made.facts ∙ l.facts;
@@ -95,8 +101,30 @@ module _ (facts : Facts) (outs : ℕ) (factors : List U) where
             plain = made.plain l.plain k.plain;
           };
           steps = omega (arith, made.steps, h.steps, one.steps);
-          nodes = omega (arith, made.nodes, h.nodes, one.nodes, weight-product factors, weight-at factors place (neg (a ≐ b)) at, turned-nodes a b);
-          depth = omega (arith, made.depth, h.depth, one.depth, level, turned-depth a b);
+          lean = record {
+            nodes = omega (
+              arith,
+              made.nodes,
+              n.nodes,
+              one.nodes,
+              ap nodes before,
+              ap nodes after,
+              nodes-spine factors (neg (a ≐ b)),
+              nodes-spine factors (neg (b ≐ a)),
+              turned-nodes a b,
+            );
+            depth = omega (
+              arith,
+              made.depth,
+              n.depth,
+              one.depth,
+              ap depth before,
+              ap depth after,
+              depth-near 0 factors (neg (a ≐ b)) (neg (b ≐ a)) (omega (arith, turned-depth a b)),
+              depth-behind factors (neg (b ≐ a)),
+              turned-depth a b,
+            );
+          };
         }
 
 module _ (outs : ℕ) (factors : List U) (ready : AreFactors outs factors) (place : ℕ) (a b : Val) (at : slice_get factors place ≡ Some (neg (a ≐ b))) where
@@ -126,12 +154,11 @@ lead-by product factors begins mark wanted hops by =
     let many : ℕ = nodes (product_of factors) in
     let deep : ℕ = depth (product_of factors) in
     let n : ℕ = length (standing product) in
-    let heavy : ℕ = nodes mark + nodes wanted + (many + 2 * (n * many)) in
-    let level : ℕ = depth mark + depth mark + depth wanted + deep + n in
-    let most : ℕ = weight factors + heavy in
-    let deepest : ℕ = length factors + max deep level in
+    let rise : ℕ = depth mark + depth wanted + (deep + n) in
+    let most : ℕ = weight factors + (nodes mark + nodes wanted + (many + 2 * (n * many))) in
+    let deepest : ℕ = length factors + max deep (depth mark + rise) in
     stay-lead most deepest factors mark wanted hops
-    (by.stay n by.nested factors begins many deep (small-factors factors) most deepest
+    (by.stay n by.nested factors begins many deep (small-factors factors) (nodes wanted) rise (whole-spare mark wanted (deep + n)) (omega arith) most deepest
     (λ x w. record { few = omega (arith, w.few, nodes-spine factors x); shallow = omega (arith, w.shallow, depth-spine deep factors x (depth-product factors)) }))
 
 -- ---- the copy
@@ -152,12 +179,14 @@ module _ (facts : Facts) (outs : ℕ) (product : U) (factors : List U) (begins :
   bounded-at n nests =
       let most : ℕ = 3 * F + nodes wanted + 2 + 2 * (n * F) in
       let deepest : ℕ = length factors + 3 * D + depth wanted + 1 + n in
+      let rise : ℕ = depth first + depth wanted + (D + n) in
       c.within most deepest wanted
-      (by.stay n nests factors begins F D (small-factors factors) most deepest
+      (by.stay n nests factors begins F D (small-factors factors) (nodes wanted) rise (whole-spare first wanted (D + n)) (omega arith) most deepest
       (λ x w. record {
         few = omega (arith, w.few, light, nodes-spine factors x, weight-product factors);
         shallow = omega (arith, w.shallow, level, depth-spine D factors x (depth-product factors));
-      })) (omega arith) (omega arith)
+      })) (omega (arith, light, ap nodes (product-spine factors first), nodes-spine factors first, weight-product factors))
+      (omega (arith, level, ap depth (product-spine factors first), depth-spine D factors first (depth-product factors)))
 
   copy-small : IsCopySmall product factors wanted d
   copy-small =
@@ -171,19 +200,56 @@ module _ (facts : Facts) (outs : ℕ) (product : U) (factors : List U) (begins :
         depth_through = omega (arith, wide.shallow, few);
       }
 
-  pub copy-found : (mark : U) → Follows product mark wanted → more ≤ 5 → IsCopy facts outs product factors mark wanted d
-  copy-found mark follows few = record {
+  -- where neither calls nor aggregates stand
+  module _ (basic : AreBasic factors) (starts : Each IsBasic (points first)) where
+    abbrev row : U
+    row = product_of (factors ++ wanted ∷ [])
+
+    row-is : row ≡ spine factors wanted
+    row-is = product-spine factors wanted
+
+    lighter : nodes first ≤ nodes wanted
+    lighter = carried-lighter product first wanted by.carries (basic-lighter product (points first) (points wanted) by.pairs by.chains starts)
+
+    lower : depth first ≤ depth wanted
+    lower = carried-lower product first wanted by.carries (basic-lower product (points first) (points wanted) by.pairs by.chains starts)
+
+    near-row : (x : U) → nodes x ≤ nodes first + 1 → depth x ≤ depth first + 1 → IsWithin (nodes row + 1) (depth row + 1) (spine factors x)
+    near-row x few shallow = record {
+      few = omega (arith, few, lighter, ap nodes row-is, nodes-spine factors x, nodes-spine factors wanted);
+      shallow = omega (arith, ap depth row-is, depth-near 1 factors x wanted (omega (arith, shallow, lower)));
+    }
+
+    marks-stay : StayWithin (nodes row + 1) (depth row + 1) factors first hops wanted
+    marks-stay =
+        let flat = pairs-given product (no-calls factors basic product begins) (points first) (points wanted) by.pairs by.chains in
+        let ends = basic-ends factors basic product begins (points first) (points wanted) by.pairs by.chains starts in
+        by.stay 0 flat factors begins 1 1 (basic-small factors basic) 0 1 (basic-spare (points first) (points wanted) starts ends) (omega arith) (nodes row + 1) (depth row + 1)
+        (λ x w. near-row x (omega (arith, w.few)) (omega (arith, w.shallow)))
+
+    row-bounded : IsBounded (nodes row + 1) (depth row + 1) d
+    row-bounded =
+        c.within (nodes row + 1) (depth row + 1) wanted marks-stay
+        (omega (arith, lighter, ap nodes row-is, ap nodes (product-spine factors first), nodes-spine factors first, nodes-spine factors wanted))
+        (omega (arith, ap depth row-is, ap depth (product-spine factors first), depth-near 0 factors first wanted (omega (arith, lower))))
+
+    copy-lean : IsLean row 1 d
+    copy-lean = let bounded = row-bounded in record { nodes = bounded.few; depth = bounded.shallow }
+
+  pub copy-found : (mark : U) → Follows product mark wanted → more ≤ 5 → (AreBasic factors → Each IsBasic (points first)) → IsCopy facts outs product factors mark wanted d
+  copy-found mark follows few starts = record {
     follows = follows;
     leads = c.leads wanted (lead-by product factors begins first wanted hops by);
     first = first;
     carries = by.carries;
     steps = record {
-      pairs = by.pairs;
-      chains = by.chains;
-      each = λ n count. omega (arith, c.steps, by.few n count, few);
+      number = by.number;
+      distances = by.distances;
+      few = omega (arith, c.steps, by.few, few);
       short = λ none. omega (arith, c.steps, by.short none, few);
     };
     small = copy-small;
+    lean = λ basic. copy-lean basic (starts basic);
   }
 
 pub copy-at : (facts : Facts) (outs : ℕ) (product : U) (factors : List U) (place : ℕ) (mark wanted : U) → slice_get factors place ≡ Some mark → (d : Derivation) → IsCopy facts outs product factors mark wanted d
@@ -203,67 +269,80 @@ mark-light factors place mark at = omega (arith, weight-at factors place mark at
 pub mark-level : (factors : List U) (place : ℕ) (mark : U) → slice_get factors place ≡ Some mark → depth mark ≤ depth (product_of factors)
 mark-level factors place mark at = each-at (λ x. depth x ≤ depth (product_of factors)) factors place mark (depth-product factors) at
 
+mark-basic : (factors : List U) → AreBasic factors → (place : ℕ) (mark : U) → slice_get factors place ≡ Some mark → Each IsBasic (points mark)
+mark-basic factors basic place mark at = basic-points mark (each-at (λ factor. Each IsBasic (standing factor)) factors place mark basic at)
+
 counted-by : (courses : List Course) (links : ℕ) → links ≡ told (links_of courses) → (hops : List Hop) → AlongCourses 0 courses hops → (d : Derivation) → length d.steps ≤ length hops + 5 → links < 2 ^ 64 - 1
     → length d.steps ≤ links + 5
 counted-by courses links is hops along d few less = omega (arith, is, few, less, along.counted (omega (arith, is, less)))
+
+-- whatever leads from the points of the one mark to those of the other
+module _ (facts : Facts) (outs : ℕ) (product : U) (factors : List U) (begins : Begins product factors) (place : ℕ) (mark wanted : U) (at : slice_get factors place ≡ Some mark)
+    (Are : List Val → List Val → Type 0) (hops : List Hop) (along : (xs ys : List Val) → Are xs ys → PointsBy product 0 xs ys hops) where
+  pub straight-by : MarksBy mark wanted Are → Lead factors mark hops
+  straight-by l = record { to = wanted; by = lead-by product factors begins mark wanted hops (mark-carried product mark wanted Are l hops along) }
+
+  pub exchanged-by : ExchangedBy mark wanted Are → LeadExchanged factors mark hops
+  exchanged-by l =
+      let first : U = neg (l.right ≐ l.left) in
+      record {
+        left = l.left;
+        right = l.right;
+        is = l.is;
+        lead = record { to = wanted; by = lead-by product factors begins first wanted hops (mark-carried product first wanted Are l.leads hops along) };
+      }
+
+  pub straight-copy : MarksBy mark wanted Are → (d : Derivation) → IsCopiedBy facts outs factors mark hops 4 d → IsCopy facts outs product factors mark wanted d
+  straight-copy l d c =
+      let by = mark-carried product mark wanted Are l hops along in
+      copy-found facts outs product factors begins mark wanted (mark-light factors place mark at) (mark-level factors place mark at) hops by 4 d c mark (straight mark wanted by.carries) (omega arith)
+      (λ basic. mark-basic factors basic place mark at)
+
+  pub exchanged-copy : ExchangedBy mark wanted Are → (d : Derivation) → IsDifferenceCopied facts outs factors mark hops d → IsCopy facts outs product factors mark wanted d
+  exchanged-copy l d copied =
+      let a = l.left in
+      let b = l.right in
+      let first : U = neg (b ≐ a) in
+      let c = copied.each a b l.is in
+      let by = mark-carried product first wanted Are l.leads hops along in
+      let light = mark-light factors place mark at in
+      let level = mark-level factors place mark at in
+      copy-found facts outs product factors begins first wanted (omega (arith, light, ap nodes l.is, turned-nodes a b)) (omega (arith, level, ap depth l.is, turned-depth a b)) hops by 5 d c mark
+      (subst (λ (x : U). Follows product x wanted) (sym l.is) (exchanged a b wanted by.carries)) (omega arith)
+      (λ basic. basic-exchanged a b (subst (λ (x : U). Each IsBasic (points x)) l.is (mark-basic factors basic place mark at)))
 
 module _ (facts : Facts) (outs : ℕ) (product : U) (factors : List U) (begins : Begins product factors) (place : ℕ) (mark wanted : U) (at : slice_get factors place ≡ Some mark) (courses : List Course) (links : ℕ)
     (is : links ≡ told (links_of courses)) (hops : List Hop) (along : AlongCourses 0 courses hops) where
   abbrev course : MarkCourse
   course = record { product = product; mark = mark; wanted = wanted; links = links }
 
+  abbrev Counted : List Val → List Val → Type 0
+  Counted from to = AreCourses product from courses to
+
   pub straight-lead : LeadsMark product mark wanted courses → Lead factors mark hops
-  straight-lead l = record { to = wanted; by = lead-by product factors begins mark wanted hops (mark-carried product mark wanted courses l hops along) }
+  straight-lead = straight-by facts outs product factors begins place mark wanted at Counted hops (along.by product)
 
   pub exchanged-lead : LeadsExchanged product mark wanted courses → LeadExchanged factors mark hops
-  exchanged-lead l =
-      let first : U = neg (l.right ≐ l.left) in
-      record {
-        left = l.left;
-        right = l.right;
-        is = l.is;
-        lead = record { to = wanted; by = lead-by product factors begins first wanted hops (mark-carried product first wanted courses l.leads hops along) };
-      }
+  exchanged-lead = exchanged-by facts outs product factors begins place mark wanted at Counted hops (along.by product)
 
   pub straight-copied : LeadsMark product mark wanted courses → (d : Derivation) → IsCopiedBy facts outs factors mark hops 4 d → CopiesAlong facts outs course factors d
-  straight-copied l d c =
-      let by = mark-carried product mark wanted courses l hops along in
-      record {
-        copy = copy-found facts outs product factors begins mark wanted (mark-light factors place mark at) (mark-level factors place mark at) hops by 4 d c mark (straight mark wanted by.carries) (omega arith);
-        counted = counted-by courses links is hops along d (omega (arith, c.steps));
-      }
+  straight-copied l d c = record {
+    copy = straight-copy facts outs product factors begins place mark wanted at Counted hops (along.by product) l d c;
+    counted = counted-by courses links is hops along d (omega (arith, c.steps));
+  }
 
   pub exchanged-copied : LeadsExchanged product mark wanted courses → (d : Derivation) → IsDifferenceCopied facts outs factors mark hops d → CopiesAlong facts outs course factors d
   exchanged-copied l d copied =
-      let a = l.left in
-      let b = l.right in
-      let first : U = neg (b ≐ a) in
-      let c = copied.each a b l.is in
-      let by = mark-carried product first wanted courses l.leads hops along in
-      let light = mark-light factors place mark at in
-      let level = mark-level factors place mark at in
+      let c = copied.each l.left l.right l.is in
       record {
-        copy = copy-found facts outs product factors begins first wanted (omega (arith, light, ap nodes l.is, turned-nodes a b)) (omega (arith, level, ap depth l.is, turned-depth a b)) hops by 5 d c mark
-            (subst (λ (x : U). Follows product x wanted) (sym l.is) (exchanged a b wanted by.carries)) (omega arith);
+        copy = exchanged-copy facts outs product factors begins place mark wanted at Counted hops (along.by product) l d copied;
         counted = counted-by courses links is hops along d c.steps;
       }
 
--- ---- what a route says
-pub none-copied : (facts : Facts) (outs : ℕ) (product : U) (factors : List U) (place : ℕ) (mark wanted : U) → slice_get factors place ≡ Some mark → (found : Option MarkCourse)
-    → MatchOption found (Follows product mark wanted → ⊥) (λ course. IsMarkFrom course product mark wanted) → found ≡ None → IsCopyAt facts outs product factors place wanted None
-none-copied facts outs product factors place mark wanted at found h is =
-    no-copy facts outs product factors place mark wanted at (subst (λ (o : Option MarkCourse). MatchOption o (Follows product mark wanted → ⊥) (λ course. IsMarkFrom course product mark wanted)) is h)
-
-pub route-found : (product mark wanted : U) (found : Option MarkCourse) → MatchOption found (Follows product mark wanted → ⊥) (λ course. IsMarkFrom course product mark wanted) → (course : MarkCourse) → found ≡ Some course
-    → IsMarkFrom course product mark wanted
-route-found product mark wanted found h course is = subst (λ (o : Option MarkCourse). MatchOption o (Follows product mark wanted → ⊥) (λ c. IsMarkFrom c product mark wanted)) is h
-
-pub route-copied : (facts : Facts) (outs : ℕ) (product : U) (factors : List U) (place : ℕ) (mark wanted : U) → slice_get factors place ≡ Some mark → (course : MarkCourse) → IsMarkFrom course product mark wanted → (d : Derivation)
-    → CopiesAlong facts outs course factors d → IsCopyAt facts outs product factors place wanted (Some d)
-route-copied facts outs product factors place mark wanted at course from d c =
-    copy-at facts outs product factors place mark wanted at d
-    (subst (λ (p : U). IsCopy facts outs p factors mark wanted d) from.product_is
-    (subst (λ (m : U). IsCopy facts outs course.product factors m wanted d) from.mark_is (subst (λ (w : U). IsCopy facts outs course.product factors course.mark w d) from.wanted_is c.copy)))
+-- ---- what the pairs of points say
+pub none-copied : (facts : Facts) (outs : ℕ) (product : U) (factors : List U) (place : ℕ) (mark wanted : U) → slice_get factors place ≡ Some mark → (found : Option MarkPairs)
+    → MatchOption found (Follows product mark wanted → ⊥) (λ pairs. AreMarkPairs product mark wanted pairs) → found ≡ None → IsCopyAt facts outs product factors place wanted None
+none-copied facts outs product factors place mark wanted at found h is = no-copy facts outs product factors place mark wanted at (no-pairs-found product mark wanted found h is)
 
 -- ---- a negated equality
 pub no-equality-led : (factors : List U) (inner : U) (hops : List Hop) → LeadExchanged factors (neg inner) hops → ((a b : Val) → inner ≡ u.Eq a b → ⊥) → ⊥
@@ -274,13 +353,13 @@ no-negation-led factors mark hops h differ = differ (h.left ≐ h.right) h.is
 
 pub sides-led : (factors : List U) (a b : Val) (hops : List Hop) → LeadExchanged factors (neg (a ≐ b)) hops → Lead factors (neg (b ≐ a)) hops
 sides-led factors a b hops h =
-    let both = sides a b h.left h.right (parts-Not (a ≐ b) (h.left ≐ h.right) h.is) in
+    let both = sides-Eq a b h.left h.right (parts-Not (a ≐ b) (h.left ≐ h.right) h.is) in
     subst (λ (x : Val). Lead factors (neg (x ≐ a)) hops) (sym both.1) (subst (λ (x : Val). Lead factors (neg (h.right ≐ x)) hops) (sym both.0) h.lead)
 
 pub difference-copied : (facts : Facts) (outs : ℕ) (factors : List U) (a b : Val) (hops : List Hop) (d : Derivation) → IsCopiedBy facts outs factors (neg (b ≐ a)) hops 5 d
     → IsDifferenceCopied facts outs factors (neg (a ≐ b)) hops d
 difference-copied facts outs factors a b hops d c = record {
   each = λ x y is.
-      let both = sides a b x y (parts-Not (a ≐ b) (x ≐ y) is) in
+      let both = sides-Eq a b x y (parts-Not (a ≐ b) (x ≐ y) is) in
       subst (λ (z : Val). IsCopiedBy facts outs factors (neg (z ≐ x)) hops 5 d) both.1 (subst (λ (z : Val). IsCopiedBy facts outs factors (neg (b ≐ z)) hops 5 d) both.0 c);
 }

@@ -24,11 +24,11 @@ use Rattle.u_entail.specs.Sides.{AreFactors}
 use Rattle.u_entail.specs.Gaining.{IsRegrouped}
 use Rattle.u_entail.specs.Marks.{IsAgain, IsDoubled, IsDoubledBehind, IsParted, StandsAgain, without}
 use Rattle.u_entail.specs.Spines.{spine, weight, IsMadeBehind}
-use Rattle.u_entail.proofs.Bounds.{AreWithin, weight-append, weight-product, depth-product, depth-spine}
+use Rattle.u_entail.proofs.Bounds.{AreWithin, weight-append, weight-product, nodes-row, depth-product, depth-row-more, depth-spine}
 use Rattle.u_entail.proofs.Lists.{each-append, each-parts, split-at}
 use Rattle.u_entail.proofs.Parts.{mul-known, one-known, spine-known, terms-front}
 use Rattle.u_moves.proofs.Plain.{joined-plain}
-use Rattle.u_entail.proofs.Spines.{nodes-spine, product-spine}
+use Rattle.u_entail.proofs.Spines.{nodes-spine, depth-behind, depth-fewer, depth-near, product-spine}
 
 -- what code that leaves the mark out has
 pub terms-without : (refs : List (Bor U)) (place : ℕ) → terms (remove refs place) ≡ without place (terms refs)
@@ -167,14 +167,17 @@ module _ (factors others : List U) (place : ℕ) (mark : U) (p : IsParted factor
   mark-level : depth mark ≤ depth first
   mark-level = let both = parted (λ x. depth x ≤ depth first) levels in both.1.0
 
-  deep-last : depth (spine others mark) ≤ length others + depth first
-  deep-last = omega (arith, mark-level, depth-spine (depth first) others mark (of-others (λ x. depth x ≤ depth first) levels))
-
-  deep-twice : depth (spine others (mark ⊗ mark)) ≤ length factors + depth first + 1
-  deep-twice = omega (arith, mark-level, fewer, depth-Mul mark mark, depth-spine (depth first) others (mark ⊗ mark) (of-others (λ x. depth x ≤ depth first) levels))
-
   deep-end : depth (spine factors mark) ≤ length factors + depth first
   deep-end = omega (arith, mark-level, depth-spine (depth first) factors mark levels)
+
+  deep-first : depth first ≤ depth (spine factors mark)
+  deep-first = omega (arith, depth-row-more factors (mark ∷ []), ap depth (product-spine factors mark))
+
+  deep-last : depth (spine others mark) ≤ depth (spine factors mark)
+  deep-last = omega (arith, depth-fewer front mark back mark, ap (λ (xs : List U). depth (spine xs mark)) p.rest, ap (λ (xs : List U). depth (spine xs mark)) whole-is)
+
+  deep-twice : depth (spine others (mark ⊗ mark)) ≤ depth (spine factors mark) + 1
+  deep-twice = omega (arith, deep-last, depth-Mul mark mark, depth-near 1 others (mark ⊗ mark) mark (omega (arith, depth-Mul mark mark)))
 
   module _ (facts : Facts) (outs : ℕ) where
     pub doubled-behind : (last twice d : Derivation) → IsRegrouped facts outs first (spine others mark) last → IsDoubled facts outs mark twice → IsMadeBehind others last twice d
@@ -191,8 +194,10 @@ module _ (factors others : List U) (place : ℕ) (mark : U) (p : IsParted factor
             plain = made.plain r.plain s.plain;
           };
           steps = omega (arith, made.steps, l.steps, t.steps);
-          nodes = omega (arith, made.nodes, l.nodes, t.nodes, nodes-spine others mark, weighs, weight-product factors, mark-small);
-          depth = omega (arith, made.depth, l.depth, t.depth, deep-last, mark-level, fewer);
+          lean = record {
+            nodes = omega (arith, made.nodes, l.nodes, t.nodes, nodes-spine others mark, nodes-spine factors mark, weighs, nodes-row factors);
+            depth = omega (arith, made.depth, l.depth, t.depth, deep-first, deep-last, depth-behind factors mark, fewer);
+          };
         }
 
     pub again-behind : {E : Type 0} (doubled gathered : Derivation) → IsDoubledBehind facts outs factors others mark doubled
@@ -202,6 +207,9 @@ module _ (factors others : List U) (place : ℕ) (mark : U) (p : IsParted factor
     again-behind doubled gathered h g (Ok d) ef eo ea eb es j =
         let k = h.leads in
         let l = g.leads in
+        let n = h.lean in
+        let few : d.nodes ≤ nodes (spine factors mark) + 1 = omega (arith, j.nodes, n.nodes, g.nodes, nodes-spine others (mark ⊗ mark), nodes-Mul mark mark, nodes-spine factors mark, weighs) in
+        let shallow : d.depth ≤ depth (spine factors mark) + 1 = omega (arith, j.depth, n.depth, g.depth, deep-twice) in
         record {
           leads = record {
             facts = ef ∙ k.facts;
@@ -211,8 +219,9 @@ module _ (factors others : List U) (place : ℕ) (mark : U) (p : IsParted factor
             plain = joined-plain doubled gathered d es k.plain l.plain;
           };
           steps = omega (arith, ap length es, length-append doubled.steps gathered.steps, h.steps, g.steps);
-          nodes = omega (arith, j.nodes, h.nodes, g.nodes, nodes-spine others (mark ⊗ mark), nodes-Mul mark mark, nodes-spine factors mark, weighs, weight-product factors, mark-small);
-          depth = omega (arith, j.depth, h.depth, g.depth, deep-twice, deep-end);
+          nodes = omega (arith, few, nodes-spine factors mark, weight-product factors, mark-small);
+          depth = omega (arith, shallow, deep-end);
+          lean = record { nodes = omega (arith, few, ap nodes (product-spine factors mark)); depth = omega (arith, shallow, ap depth (product-spine factors mark)) };
         }
     again-behind doubled gathered h g (Err e) ef eo ea eb es j = tt
 

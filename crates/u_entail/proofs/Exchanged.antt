@@ -6,17 +6,15 @@ use Rattle.data_model.specs.Lists.{Each}
 use Rattle.u_terms.specs.Syntax.{U, Val}
 use Rattle.u_terms.specs.Places.{IsClosed}
 use Rattle.u_terms.specs.Size.{nodes, depth}
-use Rattle.u_terms.specs.declared.term.U.TheOpen.{U-F}
-use Rattle.u_terms.specs.declared.term.U.TheViews.{out-U}
 use Rattle.u_terms.specs.declared.facts.Facts.{Facts}
 use Rattle.u_terms.proofs.Closedness.{opened_with-closed}
 use Rattle.u_rules.specs.declared.rule.Arg.{Arg}
 use Rattle.u_rules.specs.declared.rule.Rule.TheVariants as rule
 use denote.Ref.{Bor}
 use Rattle.u_rules.specs.Terms.{◌⊗◌, ◌≐◌, put, terms}
-use Rattle.u_deriv.proofs.Ends.{out-Eq}
 use Rattle.u_moves.specs.Derivations.{Derivation, IsKnown, IsOneStep}
 use Rattle.u_moves.specs.Moving.{root_step, IsKnownValue}
+use Rattle.u_equal.proofs.KeyLaws.{sides-Eq}
 use Rattle.u_entail.specs.Sides.{AreFactors, HasSide}
 use Rattle.u_moves.specs.Turning.{turned_back}
 use Rattle.u_moves.proofs.Lines.{count-back}
@@ -82,10 +80,7 @@ module _ (facts : Facts) (outs : ℕ) (factors : List U) (ready : AreFactors out
 
 -- ---- in the direction of the hop
 same-sides : (factors : List U) (factor : ℕ) (a b x y : Val) → slice_get factors factor ≡ Some (a ≐ b) → slice_get factors factor ≡ Some (x ≐ y) → (a ≡ x) × (b ≡ y)
-same-sides factors factor a b x y p q = of-equal (same_Some (a ≐ b) (x ≐ y) (sym p ∙ q))
-  where
-    of-equal : (a ≐ b) ≡ (x ≐ y) → (a ≡ x) × (b ≡ y)
-    of-equal e = let f : U-F.Eq a b ≡ U-F.Eq x y = sym (out-Eq a b) ∙ ap out-U e ∙ out-Eq x y in (cc, cc)
+same-sides factors factor a b x y p q = sides-Eq a b x y (same_Some (a ≐ b) (x ≐ y) (sym p ∙ q))
 
 exchange-back : (F : Facts) (names : ℕ) (factors : List U) (factor : ℕ) (first last : U) (part d : Derivation) → IsExchange F names factors factor first last part → d.facts ≡ part.facts → d.outs ≡ part.outs
     → d.from ≡ part.to → d.to ≡ part.from → d.steps ≡ turned_back part.steps → d.nodes ≡ part.nodes → d.depth ≡ part.depth → IsExchange F names factors factor last first d

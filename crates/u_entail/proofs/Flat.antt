@@ -27,6 +27,11 @@ pub stay-lead : (most deepest : ℕ) (factors : List U) (a b : U) (hs : List Hop
 stay-lead most deepest factors a b hs (stays d) = arrived d
 stay-lead most deepest factors a b hs (goes d mid e first rest h one two r) = hopped d mid e first rest h (stay-lead most deepest factors mid e rest r)
 
+-- where the end is within bounds, the start is
+pub stay-start : (most deepest : ℕ) (factors : List U) (a b : U) (hs : List Hop) → StayWithin most deepest factors a hs b → IsWithin most deepest (spine factors b) → IsWithin most deepest (spine factors a)
+stay-start most deepest factors a b hs (stays d) last = last
+stay-start most deepest factors a b hs (goes d mid e first rest h one two r) last = one
+
 -- ---- links taken apart
 ended-by : (factors : List U) (n : ℕ) (a b : Val) → LeadsBy factors n a [] b → a ≡ b
 ended-by factors n a b (at_end m c) = refl

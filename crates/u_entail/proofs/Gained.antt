@@ -17,8 +17,10 @@ use Rattle.u_rules.specs.Terms.{◌⊗◌, ◌≐◌, I, mul_leaves}
 use Rattle.u_rules.proofs.LeavesAt.{mul_leaves-Mul, mul_leaves-One}
 use Rattle.u_equal.specs.declared.link.Link.{Link}
 use Rattle.u_equal.specs.Entails.{Entails}
-use Rattle.u_equal.specs.Links.{IsChain, Nests}
+use Rattle.u_equal.specs.Links.{Nests}
+use Rattle.u_equal.specs.Routes.{IsChain}
 use Rattle.u_equal.specs.Standing.{standing}
+use Rattle.u_equal.proofs.Entailed.{leads-entail}
 use Rattle.u_moves.specs.Derivations.{Derivation, IsKnown, IsWithin, IsOneStep, IsStill, IsJoined}
 use Rattle.u_moves.specs.Moving.{root_step, IsKnownValue}
 use Rattle.u_moves.specs.Turning.{turned_back}
@@ -26,20 +28,22 @@ use Rattle.u_moves.proofs.Lines.{count-back}
 use Rattle.u_entail.specs.declared.following.Followed.{Followed}
 use Rattle.u_entail.specs.declared.hops.Hop.{Hop}
 use Rattle.u_entail.specs.Sides.{AreFactors, LeadsBy}
-use Rattle.u_entail.specs.Small.{IsSmall}
+use Rattle.u_entail.specs.Small.{AreBasic, IsSmall}
 use Rattle.u_entail.specs.Spots.{here, at_right}
 use Rattle.u_entail.specs.Hops.{AreHops, HopsLead, StayWithin}
 use Rattle.u_entail.specs.Following.{IsBounded, IsFollowed, Stands}
 use Rattle.u_entail.specs.Gaining.{right_side, Begins, EndsIn, HasStepsOf, IsBegun, IsGained, IsGainedBy, IsGainedIn, IsLed, IsModest, IsRegathered, IsRegrouped, IsShort, IsWidened, LeadsBetween, StaysSmall}
 use Rattle.u_entail.specs.Spines.{spine, weight, IsMadeBehind}
 use Rattle.u_entail.proofs.Bounds.{AreWithin, weight-leaves, weight-product, depth-leaves, depth-product, depth-spine}
-use Rattle.u_entail.proofs.Flat.{stay-lead}
+use Rattle.u_entail.proofs.Flat.{stay-lead, stay-start}
+use Rattle.u_entail.proofs.Basic.{basic-small, no-calls, value-positive}
 use Rattle.u_entail.proofs.Small.{small-factors, small-weight, stand-leaves, times-le}
-use Rattle.u_entail.proofs.Leading.{leads-by, leads-entail, leads-given, nests-given, count-given}
+use Rattle.u_entail.proofs.Leading.{leads-by, leads-given, nests-given, count-given}
 use Rattle.u_entail.proofs.Lists.{each-append, each-parts}
 use Rattle.u_entail.proofs.Parts.{spine-known}
 use Rattle.u_moves.proofs.Plain.{back-plain, joined-plain, move-plain, still-plain}
-use Rattle.u_entail.proofs.Spines.{nodes-spine, depth-behind, spine-append, product-spine}
+use Rattle.u_moves.proofs.Depths.{value_depth-positive}
+use Rattle.u_entail.proofs.Spines.{nodes-spine, depth-behind, depth-near, spine-append, product-spine}
 
 -- ---- leaves
 abbrev IsLeaf : U → Type 0
@@ -162,6 +166,13 @@ equality-gained facts outs factors a hops first begun d last is ends b l =
     }
 
 -- ---- how large
+-- a last factor 1 is no larger than an equality in its place
+one-below : (most deepest : ℕ) (factors : List U) (a b : Val) → IsWithin most deepest (spine factors (a ≐ b)) → IsWithin most deepest (spine factors I)
+one-below most deepest factors a b end = record {
+  few = omega (arith, end.few, nodes-spine factors I, nodes-spine factors (a ≐ b), nodes-One, nodes-Eq a b);
+  shallow = omega (arith, end.shallow, depth-near 0 factors I (a ≐ b) (omega (arith, depth-One, depth-Eq a b)));
+}
+
 module _ (outs : ℕ) (factors : List U) (first : U) (weighs : weight factors ≤ nodes first + 1) (deep : AreWithin (depth first) factors) (a b : Val) (known : IsKnownValue outs a) (n : ℕ) where
   abbrev pub most_nodes : ℕ
   most_nodes = 2 * (nodes first + nodes (a ≐ b)) + 2 * (n * nodes first)
@@ -177,18 +188,6 @@ module _ (outs : ℕ) (factors : List U) (first : U) (weighs : weight factors �
 
   pub stay-within : (hops : List Hop) → StaysSmall factors n a hops b → StayWithin most_nodes most_depth factors (a ≐ a) hops (a ≐ b)
   stay-within hops stays = stays (nodes first) (depth first) (small-weight (nodes first) (depth first) factors weighs deep) most_nodes most_depth equal-within
-
-  pub one-within : IsWithin most_nodes most_depth (spine factors I)
-  one-within = record {
-    few = omega (arith, weighs, nodes-spine factors I, nodes-One, nodes-Eq a b);
-    shallow = omega (arith, depth-spine (depth first) factors I deep, depth-One, depth-Eq a b);
-  }
-
-  pub itself-within : IsWithin most_nodes most_depth (spine factors (a ≐ a))
-  itself-within = record {
-    few = omega (arith, weighs, nodes-spine factors (a ≐ a), nodes-Eq a a, nodes-Eq a b);
-    shallow = omega (arith, depth-spine (depth first) factors (a ≐ a) deep, depth-Eq a a, depth-Eq a b);
-  }
 
   pub end-within : IsWithin most_nodes most_depth (spine factors (a ≐ b))
   end-within = record {
@@ -246,34 +245,30 @@ module _ (facts : Facts) (outs : ℕ) (product : U) (factors : List U) (is : fac
   deep : AreWithin (depth product) factors
   deep = subst (λ xs. AreWithin (depth product) xs) (sym is) (depth-leaves product)
 
-  module _ (n : ℕ) (stays : StaysSmall factors n a hops b) where
-    abbrev many : ℕ
-    many = most_nodes outs factors product weighs deep a b known n
-
-    abbrev level : ℕ
-    level = most_depth outs factors product weighs deep a b known n
-
-    spread-bounded : IsBounded many level h.spread
+  module _ (most deepest : ℕ) (stay : StayWithin most deepest factors (a ≐ a) hops (a ≐ b)) (start : IsWithin most deepest product) (whole : IsWithin most deepest (product ⊗ (a ≐ b)))
+      (end : IsWithin most deepest (spine factors (a ≐ b))) where
+    spread-bounded : IsBounded most deepest h.spread
     spread-bounded =
         let s = h.first in
-        let w = first-within outs factors product weighs deep a b known n in
-        let x = one-within outs factors product weighs deep a b known n in
-        record { few = omega (arith, s.nodes, w.few, x.few); shallow = omega (arith, s.depth, w.shallow, x.shallow) }
+        let one = one-below most deepest factors a b end in
+        record { few = omega (arith, s.nodes, start.few, one.few); shallow = omega (arith, s.depth, start.shallow, one.shallow) }
 
-    gained-bounded : IsBounded many level gained
+    gained-bounded : IsBounded most deepest gained
     gained-bounded =
         let g = h.gained in
-        g.within many level (a ≐ b) (stay-within outs factors product weighs deep a b known n hops stays) (one-within outs factors product weighs deep a b known n)
-        (itself-within outs factors product weighs deep a b known n) spread-bounded
+        g.within most deepest (a ≐ b) stay (one-below most deepest factors a b end) (stay-start most deepest factors (a ≐ a) (a ≐ b) hops stay end) spread-bounded
 
-    whole-bounded : IsBounded many level d
+    whole-bounded : IsBounded most deepest d
     whole-bounded =
         let j = k.bounds in
         let last = k.last in
         let w = gained-bounded in
-        let x = end-within outs factors product weighs deep a b known n in
-        let y = whole-within outs factors product weighs deep a b known n in
-        record { few = omega (arith, j.nodes, w.few, last.nodes, x.few, y.few); shallow = omega (arith, j.depth, w.shallow, last.depth, x.shallow, y.shallow) }
+        record { few = omega (arith, j.nodes, w.few, last.nodes, end.few, whole.few); shallow = omega (arith, j.depth, w.shallow, last.depth, end.shallow, whole.shallow) }
+
+  small-bounded : (n : ℕ) → StaysSmall factors n a hops b → IsBounded (most_nodes outs factors product weighs deep a b known n) (most_depth outs factors product weighs deep a b known n) d
+  small-bounded n stays =
+      whole-bounded (most_nodes outs factors product weighs deep a b known n) (most_depth outs factors product weighs deep a b known n) (stay-within outs factors product weighs deep a b known n hops stays)
+      (first-within outs factors product weighs deep a b known n) (whole-within outs factors product weighs deep a b known n) (end-within outs factors product weighs deep a b known n)
 
   whole-steps : length d.steps ≤ length hops + 3
   whole-steps =
@@ -290,8 +285,9 @@ module _ (facts : Facts) (outs : ℕ) (product : U) (factors : List U) (is : fac
       record {
         leads = record { facts = k.facts ∙ l.facts; outs = k.outs ∙ l.outs; from = k.from ∙ l.from; to = k.to ∙ m.to; plain = joined-plain gained k.gathered d k.steps l.plain m.plain };
         steps = whole-steps;
-        nodes = λ n stays. let w = whole-bounded n stays in w.few;
-        depth = λ n stays. let w = whole-bounded n stays in w.shallow;
+        nodes = λ n stays. let w = small-bounded n stays in w.few;
+        depth = λ n stays. let w = small-bounded n stays in w.shallow;
+        within = whole-bounded;
       }
 
 -- ---- by a chain
@@ -302,7 +298,7 @@ module _ (facts : Facts) (outs : ℕ) (product : U) (factors : List U) (first la
   small-by n nests = hops-small factors n a b links (leads-by product factors begins.rest begins.is n a b links chain.0 nests) hops are
 
   pub by-links : HasStepsOf product a b more d
-  by-links = record { links = links; leads = chain.0; each = λ n c. omega (arith, g.steps, are.few n c) }
+  by-links = let far = chain.3 in record { number = far.number; distance = far.is; few = omega (arith, g.steps, are.few far.number far.counted) }
 
   pub by-chain : IsShort product factors first a b more d
   by-chain = record {
@@ -317,6 +313,15 @@ module _ (facts : Facts) (outs : ℕ) (product : U) (factors : List U) (first la
       let n : ℕ = length (standing product) in
       let few : n ≤ nodes first = omega (arith, stand-leaves product, fits, ap (λ (xs : List U). sum_by nodes xs) begins.is, sum_by-append nodes (mul_leaves product) begins.rest) in
       record { nodes = omega (arith, g.nodes n (small-by n chain.2), times-le n (nodes first) (nodes first) few); depth = omega (arith, g.depth n (small-by n chain.2), few) }
+
+  -- where neither calls nor aggregates stand, within whatever both ends are within
+  pub by-values : AreBasic factors → (most deepest : ℕ) → IsWithin most deepest first → IsWithin most deepest last → IsWithin most deepest (spine factors (a ≐ b)) → IsBounded most deepest d
+  by-values basic most deepest start whole end =
+      let stays = small-by 0 (nests-given links (leads-given product (no-calls factors basic product begins) a b links chain.0)) in
+      g.within most deepest (stays 1 1 (basic-small factors basic) most deepest (λ x small. record {
+        few = omega (arith, end.few, small.few, value-positive b, nodes-spine factors (a ≐ x), nodes-spine factors (a ≐ b), nodes-Eq a x, nodes-Eq a b);
+        shallow = omega (arith, end.shallow, depth-near 0 factors (a ≐ x) (a ≐ b) (omega (arith, small.shallow, value_depth-positive b, depth-Eq a x, depth-Eq a b)));
+      })) start whole end
 
   pub by-entailment : Entails product a b
   by-entailment = leads-entail product a b links chain.0
@@ -385,6 +390,11 @@ module _ (facts : Facts) (outs : ℕ) (factors : List U) (a b : Val) (known : Is
   abbrev whole : U
   whole = product_of factors
 
+  appended-bounded : (most deepest : ℕ) → StayWithin most deepest factors (a ≐ a) hops (a ≐ b) → IsWithin most deepest whole → IsWithin most deepest (spine factors (a ≐ b)) → IsBounded most deepest d
+  appended-bounded most deepest stay start end =
+      let one = one-below most deepest factors a b end in
+      g.within most deepest (a ≐ b) stay one (stay-start most deepest factors (a ≐ a) (a ≐ b) hops stay end) (w.within most deepest start one)
+
   module _ (n : ℕ) (stays : StaysSmall factors n a hops b) where
     abbrev appended_nodes : ℕ
     appended_nodes = most_nodes outs factors whole (weight-product factors) (depth-product factors) a b known n
@@ -392,12 +402,10 @@ module _ (facts : Facts) (outs : ℕ) (factors : List U) (a b : Val) (known : Is
     abbrev appended_depth : ℕ
     appended_depth = most_depth outs factors whole (weight-product factors) (depth-product factors) a b known n
 
-    appended-bounded : IsBounded appended_nodes appended_depth d
-    appended-bounded =
-        let one = one-within outs factors whole (weight-product factors) (depth-product factors) a b known n in
-        g.within appended_nodes appended_depth (a ≐ b) (stay-within outs factors whole (weight-product factors) (depth-product factors) a b known n hops stays) one
-        (itself-within outs factors whole (weight-product factors) (depth-product factors) a b known n)
-        (w.within appended_nodes appended_depth (first-within outs factors whole (weight-product factors) (depth-product factors) a b known n) one)
+    appended-small : IsBounded appended_nodes appended_depth d
+    appended-small =
+        appended-bounded appended_nodes appended_depth (stay-within outs factors whole (weight-product factors) (depth-product factors) a b known n hops stays)
+        (first-within outs factors whole (weight-product factors) (depth-product factors) a b known n) (end-within outs factors whole (weight-product factors) (depth-product factors) a b known n)
 
   pub product-appended : IsGainedBy facts outs factors (product_of factors) (product_of (factors ++ (a ≐ b) ∷ [])) a b hops 2 d
   product-appended =
@@ -411,6 +419,7 @@ module _ (facts : Facts) (outs : ℕ) (factors : List U) (a b : Val) (known : Is
           plain = g.plain l.plain;
         };
         steps = omega (arith, g.steps, w.steps);
-        nodes = λ n stays. let h = appended-bounded n stays in h.few;
-        depth = λ n stays. let h = appended-bounded n stays in h.shallow;
+        nodes = λ n stays. let h = appended-small n stays in h.few;
+        depth = λ n stays. let h = appended-small n stays in h.shallow;
+        within = λ most deepest stay start last end. appended-bounded most deepest stay start end;
       }

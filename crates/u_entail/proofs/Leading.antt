@@ -8,24 +8,10 @@ use Rattle.u_rules.specs.Terms.{◌≐◌, mul_leaves}
 use Rattle.u_equal.specs.declared.link.Link.{Link}
 use Rattle.u_equal.specs.declared.link.Link.TheVariants as link
 use Rattle.u_equal.specs.Standing.{IsIn, standing}
-use Rattle.u_equal.specs.Entails.{Entails, EntailsEach, itself, given, turned, through, calls, none, more}
 use Rattle.u_equal.specs.Links.{Leads, LeadsEach, no_link, forth, back, called, no_pair, pair, HasCount, nothing, given_more, HasNoCall, Nests, NestsEach, no_depth, given_within, call_within, lists_within}
 use Rattle.u_equal.proofs.Members.{in-either, in-none}
 use Rattle.u_entail.proofs.Links.{call-parts, given-no_call}
 use Rattle.u_entail.specs.Sides.{IsAmong, LeadsBy, LeadsEachBy, at_end, along, by_given, by_call, at_last, and_then, AreGiven}
-
--- ---- what links lead to is entailed
-mutual
-  pub leads-entail : (product : U) (a b : Val) (links : List Link) → Leads product a links b → Entails product a b
-  leads-entail product a b links (no_link c) = itself c
-  leads-entail product a b links (forth factor c d e rest is h) = through c d e (given factor c d is) (leads-entail product d e rest h)
-  leads-entail product a b links (back factor c d e rest is h) = through c d e (turned d c (given factor d c is)) (leads-entail product d e rest h)
-  leads-entail product a b links (called f xs ys e pairs rest sx sy each h) =
-      through (v.Fun f xs) (v.Fun f ys) e (calls f xs ys sx sy (each-entail product xs ys pairs each)) (leads-entail product (v.Fun f ys) e rest h)
-
-  each-entail : (product : U) (xs ys : List Val) (pairs : List (List Link)) → LeadsEach product xs pairs ys → EntailsEach product xs ys
-  each-entail product xs ys pairs no_pair = none
-  each-entail product xs ys pairs (pair a b links as' bs ps h hs) = more a b as' bs (leads-entail product a b links h) (each-entail product as' bs ps hs)
 
 -- ---- how deep calls are in calls
 nests-rest : (n : ℕ) (l : Link) (ls : List Link) → Nests n (l ∷ ls) → Nests n ls
@@ -84,7 +70,7 @@ module _ (product : U) (factors rest : List U) (begins : factors ≡ mul_leaves 
   side : (factor : ℕ) (a b : Val) → slice_get (mul_leaves product) factor ≡ Some (a ≐ b) → slice_get factors factor ≡ Some (a ≐ b)
   side factor a b at = ap (λ (xs : List U). slice_get xs factor) begins ∙ at-left (mul_leaves product) rest factor (a ≐ b) at
 
-  among : (a : Val) → IsIn a (standing product) → IsAmong factors a
+  pub among : (a : Val) → IsIn a (standing product) → IsAmong factors a
   among a stands =
       let h = among-leaves product a stands in
       record { place = h.place; factor = h.factor; at = ap (λ (xs : List U). slice_get xs h.place) begins ∙ at-left (mul_leaves product) rest h.place h.factor h.at; stands = h.stands }

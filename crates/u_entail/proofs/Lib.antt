@@ -11,6 +11,7 @@ pub mod Exchanged
 pub mod Links
 pub mod Bounds
 pub mod Small
+pub mod Basic
 pub mod Flat
 pub mod Followed
 pub mod Gained

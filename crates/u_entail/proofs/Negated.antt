@@ -16,11 +16,11 @@ use Rattle.u_deriv.specs.Opening.{opened_path}
 use Rattle.u_deriv.specs.Steps.{Replaced}
 use Rattle.u_deriv.specs.Turns.{turns}
 use Rattle.u_deriv.proofs.OneContext.{same_context}
-use Rattle.u_deriv.proofs.Opening.{opened_path-closed}
 use Rattle.u_moves.specs.Derivations.{Derivation, IsKnown}
 use Rattle.u_moves.specs.Lifting.{IsPartOfKnown, IsUnder, lifted_step}
 use Rattle.u_moves.proofs.Plain.{under-plain}
 use Rattle.u_entail.specs.Gaining.{IsRegrouped}
+use Rattle.u_entail.proofs.Behind.{opened-none}
 
 filled-not : (x : U) → filled (in_not hole) x ≡ neg x
 unfolding filled
@@ -33,9 +33,6 @@ way-not = refl
 binders-not : binders (in_not hole) ≡ 0
 unfolding binders
 binders-not = refl
-
-opened-none : (u : U) (outs : ℕ) → IsClosed 0 u → opened_path u outs 0 ≡ u
-opened-none u outs closed = ap (λ (t : U). opened_path t outs 0) (sym (closed_path-none u outs)) ∙ opened_path-closed outs 0 u closed
 
 module _ (path : List Run) (at : turns path ≡ turn.Inside ∷ []) where
   -- what stands in a negation

@@ -4,36 +4,18 @@ use Rattle.std.specs.Prelude.{slice_index_or, ◌-◌, ◌≤◌}
 use Rattle.std.proofs.lemmas.List.{length-append, take_all}
 use Rattle.u_terms.specs.Syntax.{U, Val}
 use Rattle.u_terms.specs.declared.term.U.TheOpen.{U-F, Val-F}
-use Rattle.u_terms.specs.declared.term.U.TheViews.{out-U, out-Val, out-roll-U, out-roll-Val, rolls-Eq, rolls-Not, rolls-Pred, rolls-Fun}
+use Rattle.u_terms.specs.declared.term.U.TheViews.{out-U, out-Val}
 use Rattle.u_terms.specs.declared.term.U.TheVariants as u
 use Rattle.u_terms.specs.declared.term.Val.TheVariants as v
 use Rattle.u_terms.proofs.Parts.{parts-Fun, parts-Not, parts-Pred}
+use Rattle.u_deriv.proofs.Ends.{out-Eq, out-Fun, out-Not, out-Pred}
+use Rattle.u_equal.proofs.KeyLaws.{sides-Eq}
 use Rattle.u_entail.specs.Spots.{ValueSpot, here, in_call, filled_value, value_way, Spot, in_predicate, at_left, at_right, in_negation, filled, way, HasSpot, HasValueSpot, HasPointSpot, IsPut, IsValuePut, IsPointPut}
 
 -- ---- constructors
-out-Pred : (i : ℕ) (vs : List Val) → out-U (u.Pred i vs) ≡ U-F.Pred i vs
-out-Pred i vs = ap out-U (sym (rolls-Pred i vs)) ∙ out-roll-U (U-F.Pred i vs)
-
-out-Eq : (a b : Val) → out-U (u.Eq a b) ≡ U-F.Eq a b
-out-Eq a b = ap out-U (sym (rolls-Eq a b)) ∙ out-roll-U (U-F.Eq a b)
-
-out-Not : (x : U) → out-U (u.Not x) ≡ U-F.Not x
-out-Not x = ap out-U (sym (rolls-Not x)) ∙ out-roll-U (U-F.Not x)
-
-out-Fun : (i : ℕ) (vs : List Val) → out-Val (v.Fun i vs) ≡ Val-F.Fun i vs
-out-Fun i vs = ap out-Val (sym (rolls-Fun i vs)) ∙ out-roll-Val (Val-F.Fun i vs)
-
 abbrev symbol_of : U-F U Val → ℕ
 symbol_of (U-F.Pred i vs) = i
 symbol_of _ = 0
-
-abbrev left_of : Val → U-F U Val → Val
-left_of d (U-F.Eq a b) = a
-left_of d _ = d
-
-abbrev right_of : Val → U-F U Val → Val
-right_of d (U-F.Eq a b) = b
-right_of d _ = d
 
 abbrev function_of : Val-F U Val → ℕ
 function_of (Val-F.Fun i vs) = i
@@ -44,9 +26,6 @@ symbols i j vs ws e = ap symbol_of (sym (out-Pred i vs) ∙ ap out-U e ∙ out-P
 
 pub functions : (i j : ℕ) (vs ws : List Val) → v.Fun i vs ≡ v.Fun j ws → i ≡ j
 functions i j vs ws e = ap function_of (sym (out-Fun i vs) ∙ ap out-Val e ∙ out-Fun j ws)
-
-pub sides : (a b c d : Val) → u.Eq a b ≡ u.Eq c d → (a ≡ c) × (b ≡ d)
-sides a b c d e = let o = sym (out-Eq a b) ∙ ap out-U e ∙ out-Eq c d in (ap (left_of a) o, ap (right_of b) o)
 
 pub pred-eq : (i : ℕ) (vs : List Val) (a b : Val) → u.Pred i vs ≡ u.Eq a b → ⊥
 pred-eq i vs a b e = let o = sym (out-Pred i vs) ∙ ap out-U e ∙ out-Eq a b in cc
@@ -137,7 +116,7 @@ pub left-spot : (a b : Val) (rest : List ℕ) → HasSpot (u.Eq a b) (0 ∷ rest
 left-spot a b rest h = by h.spot h.value h.at h.is where
   by : (spot : Spot) (x : Val) → way spot ≡ 0 ∷ rest → u.Eq a b ≡ filled spot x → HasValueSpot a rest
   by (in_predicate j before spot after) x at is = absurd (pred-eq j (before ++ filled_value spot x ∷ after) a b (sym is))
-  by (at_left spot c) x at is = let p = sides a b (filled_value spot x) c is in record { spot = spot; value = x; at = tails 0 0 (value_way spot) rest at; is = p.0 }
+  by (at_left spot c) x at is = let p = sides-Eq a b (filled_value spot x) c is in record { spot = spot; value = x; at = tails 0 0 (value_way spot) rest at; is = p.0 }
   by (at_right c spot) x at is = absurd (omega (arith, heads 1 0 (value_way spot) rest at))
   by (in_negation spot) x at is = absurd (eq-not a b (filled spot x) is)
 
@@ -146,7 +125,7 @@ right-spot a b k rest some h = by h.spot h.value h.at h.is where
   by : (spot : Spot) (x : Val) → way spot ≡ k ∷ rest → u.Eq a b ≡ filled spot x → HasValueSpot b rest
   by (in_predicate j before spot after) x at is = absurd (pred-eq j (before ++ filled_value spot x ∷ after) a b (sym is))
   by (at_left spot c) x at is = absurd (some (sym (heads 0 k (value_way spot) rest at)))
-  by (at_right c spot) x at is = let p = sides a b c (filled_value spot x) is in record { spot = spot; value = x; at = tails 1 k (value_way spot) rest at; is = p.1 }
+  by (at_right c spot) x at is = let p = sides-Eq a b c (filled_value spot x) is in record { spot = spot; value = x; at = tails 1 k (value_way spot) rest at; is = p.1 }
   by (in_negation spot) x at is = absurd (eq-not a b (filled spot x) is)
 
 pub left-put : (a b : Val) (rest : List ℕ) (value new other : Val) → other ≡ b → IsValuePut a rest value new → IsPut (u.Eq a b) (0 ∷ rest) value (u.Eq new other)
@@ -154,7 +133,7 @@ left-put a b rest value new other same h = record { each = by } where
   by : (spot : Spot) (x : Val) → way spot ≡ 0 ∷ rest → u.Eq a b ≡ filled spot x → u.Eq new other ≡ filled spot value
   by (in_predicate j before spot after) x at is = absurd (pred-eq j (before ++ filled_value spot x ∷ after) a b (sym is))
   by (at_left spot c) x at is =
-      let p = sides a b (filled_value spot x) c is in
+      let p = sides-Eq a b (filled_value spot x) c is in
       ap (λ w. u.Eq w other) (h.each spot x (tails 0 0 (value_way spot) rest at) p.0) ∙ ap (λ w. u.Eq (filled_value spot value) w) (same ∙ p.1)
   by (at_right c spot) x at is = absurd (omega (arith, heads 1 0 (value_way spot) rest at))
   by (in_negation spot) x at is = absurd (eq-not a b (filled spot x) is)
@@ -165,7 +144,7 @@ right-put a b k rest some value new other same h = record { each = by } where
   by (in_predicate j before spot after) x at is = absurd (pred-eq j (before ++ filled_value spot x ∷ after) a b (sym is))
   by (at_left spot c) x at is = absurd (some (sym (heads 0 k (value_way spot) rest at)))
   by (at_right c spot) x at is =
-      let p = sides a b c (filled_value spot x) is in
+      let p = sides-Eq a b c (filled_value spot x) is in
       ap (λ w. u.Eq w new) (same ∙ p.0) ∙ ap (λ w. u.Eq c w) (h.each spot x (tails 1 k (value_way spot) rest at) p.1)
   by (in_negation spot) x at is = absurd (eq-not a b (filled spot x) is)
 

@@ -3,19 +3,19 @@ use Rattle.std.proofs.Common.{◌≡◌, ℕ, ◌+◌, ◌-◌, ◌*◌, ◌≤�
 use Rattle.std.specs.Prelude.{Bool, true, false, Some, slice_get, sum_by}
 use Rattle.std.proofs.lemmas.List.{length-append}
 use Rattle.std.proofs.lemmas.List.Sums.{sum_by-cons, sum_by-append}
-use Rattle.data_model.specs.Lists.{Each}
-use Rattle.u_terms.specs.Syntax.{U, Zero, One, Add, Mul, Squash, Not, Sum, Rel, Eq, Pred, Val, Bound, Free, Lit, Fun, Agg, Vals, NoVals, ValThen}
+use Rattle.u_terms.specs.Syntax.{U, Zero, One, Add, Mul, Squash, Not, Sum, Rel, Eq, Pred, Val, Bound, Free, Lit, Fun, Agg, Vals, NoVals, ValThen, constructors}
 use Rattle.u_terms.specs.Products.{product_of}
 use Rattle.u_terms.specs.Size.{nodes, depth, value_nodes, value_depth, row_nodes, row_depth, list_depth}
 use Rattle.u_terms.specs.declared.term.Val.TheVariants as v
-use Rattle.u_terms.proofs.Sizes.{nodes-Eq, nodes-Fun, nodes-Mul, depth-Eq, depth-Fun, list_depth-cons}
+use Rattle.u_terms.proofs.Sizes.{nodes-Fun, nodes-Mul, depth-Fun, list_depth-cons}
 use Rattle.u_rules.specs.Terms.{◌≐◌, mul_leaves}
 use Rattle.u_equal.specs.Standing.{IsIn, standing, value_standing, row_standing}
-use Rattle.u_equal.proofs.Members.{in-cons, in-either, in-none}
+use Rattle.u_equal.proofs.Arguments.{sides-stand}
+use Rattle.u_equal.proofs.Members.{in-cons, in-either, in-head, in-none}
 use Rattle.u_entail.specs.Sides.{IsAmong, IsSide}
 use Rattle.u_entail.specs.Small.{AreSmall, IsSmall, HaveRoom}
 use Rattle.u_entail.specs.Spines.{weight}
-use Rattle.u_entail.proofs.Bounds.{AreWithin, weight-product, depth-product}
+use Rattle.u_entail.proofs.Bounds.{AreWithin, weight-at, weight-product, depth-product}
 use Rattle.u_entail.proofs.Lists.{each-at}
 
 -- ---- values that stand
@@ -161,43 +161,42 @@ times-le m n many le =
 pub small-wider : (many deep m n : ℕ) (a : Val) → m ≤ n → IsSmall many deep m a → IsSmall many deep n a
 small-wider many deep m n a le h = record { few = omega (arith, h.few, times-le m n many le); shallow = omega (arith, h.shallow, le) }
 
+-- the sides of an equality stand in it
+sides-here : (a b : Val) → IsIn a (standing (a ≐ b)) × IsIn b (standing (a ≐ b))
+unfolding mul_leaves constructors
+sides-here a b = sides-stand (a ≐ b) a b (in-head (a ≐ b) [])
+
 module _ (many deep : ℕ) (factors : List U) (small : AreSmall many deep factors) where
   -- the sides of an equality
   both-small : (n i : ℕ) (a b : Val) → slice_get factors i ≡ Some (a ≐ b) → IsSmall many deep n a × IsSmall many deep n b
   both-small n i a b at =
-      let light : nodes (a ≐ b) ≤ many = each-at (λ u. nodes u ≤ many) factors i (a ≐ b) small.few at in
-      let level : depth (a ≐ b) ≤ deep = each-at (λ u. depth u ≤ deep) factors i (a ≐ b) small.shallow at in (
-        record { few = omega (arith, light, nodes-Eq a b); shallow = omega (arith, level, depth-Eq a b) },
-        record { few = omega (arith, light, nodes-Eq a b); shallow = omega (arith, level, depth-Eq a b) },
+      let both = sides-here a b in
+      let left : IsAmong factors a = record { place = i; factor = a ≐ b; at = at; stands = both.0 } in
+      let right : IsAmong factors b = record { place = i; factor = a ≐ b; at = at; stands = both.1 } in (
+        record { few = omega (arith, small.few a left); shallow = omega (arith, small.shallow a left) },
+        record { few = omega (arith, small.few b right); shallow = omega (arith, small.shallow b right) },
       )
 
   pub sides-small : (n factor : ℕ) (turned : Bool) (a b : Val) → IsSide factors factor turned a b → IsSmall many deep n a × IsSmall many deep n b
   sides-small n factor false a b is = both-small n factor a b is
   sides-small n factor true a b is = let both = both-small n factor b a is in (both.1, both.0)
 
-  -- a call that stands
-  among-below : (a : Val) → IsAmong factors a → IsBelow many deep a
-  among-below a h =
-      let light = each-at (λ u. nodes u ≤ many) factors h.place h.factor small.few h.at in
-      let level = each-at (λ u. depth u ≤ deep) factors h.place h.factor small.shallow h.at in
-      below-wider (nodes h.factor) many (depth h.factor) deep a light level (stands-below h.factor a h.stands)
-
+  -- calls that stand
   pub calls-room : (f g : ℕ) (xs ys : List Val) → IsAmong factors (v.Fun f xs) → IsAmong factors (v.Fun g ys) → HaveRoom many deep [] xs ys
   calls-room f g xs ys from to =
-      let a = among-below (v.Fun f xs) from in
-      let b = among-below (v.Fun g ys) to in
       record {
-        few = omega (arith, a.few, b.few, nodes-Fun f xs, nodes-Fun g ys);
-        shallow_before = omega (arith, a.shallow, depth-Fun f xs);
-        shallow_from = omega (arith, a.shallow, depth-Fun f xs);
-        shallow_to = omega (arith, b.shallow, depth-Fun g ys);
+        few = omega (arith, small.few (v.Fun f xs) from, small.few (v.Fun g ys) to, nodes-Fun f xs, nodes-Fun g ys);
+        shallow_before = omega (arith, small.shallow (v.Fun f xs) from, depth-Fun f xs);
+        shallow_from = omega (arith, small.shallow (v.Fun f xs) from, depth-Fun f xs);
+        shallow_to = omega (arith, small.shallow (v.Fun g ys) to, depth-Fun g ys);
       }
 
 pub small-weight : (many deep : ℕ) (factors : List U) → weight factors ≤ many + 1 → AreWithin deep factors → AreSmall many deep factors
-small-weight many deep factors weighs within = record { few = light factors weighs; shallow = within } where
-  light : (xs : List U) → weight xs ≤ many + 1 → Each (λ u. nodes u ≤ many) xs
-  light [] le = tt
-  light (x ∷ xs) le = (omega (arith, le, sum_by-cons nodes x xs), light xs (omega (arith, le, sum_by-cons nodes x xs)))
+small-weight many deep factors weighs within = record { few = λ a h. let b = below a h in b.few; shallow = λ a h. let b = below a h in b.shallow } where
+  below : (a : Val) → IsAmong factors a → IsBelow many deep a
+  below a h =
+      below-wider (nodes h.factor) many (depth h.factor) deep a (omega (arith, weighs, weight-at factors h.place h.factor h.at))
+      (each-at (λ u. depth u ≤ deep) factors h.place h.factor within h.at) (stands-below h.factor a h.stands)
 
 pub small-factors : (factors : List U) → AreSmall (nodes (product_of factors)) (depth (product_of factors)) factors
 small-factors factors = small-weight (nodes (product_of factors)) (depth (product_of factors)) factors (weight-product factors) (depth-product factors)

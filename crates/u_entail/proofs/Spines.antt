@@ -1,5 +1,5 @@
 -- Spines: put together, opened, how large they are, and what they multiply.
-use Rattle.std.proofs.Common.{◌≡◌, ◌+◌, ◌≤◌, List, [], ◌∷◌, ◌++◌, length, refl, ap, ◌∙◌, arith}
+use Rattle.std.proofs.Common.{◌≡◌, ℕ, ◌+◌, ◌≤◌, List, [], ◌∷◌, ◌++◌, length, refl, ap, ◌∙◌, arith}
 use Rattle.std.proofs.lemmas.List.Sums.{sum_by-cons}
 use Rattle.data_model.specs.Lists.{Each}
 use Rattle.u_terms.specs.Syntax.{U, Val}
@@ -38,6 +38,17 @@ nodes-spine (x ∷ xs) last = omega (arith, nodes-Mul x (spine xs last), nodes-s
 pub depth-behind : (xs : List U) (last : U) → length xs + depth last ≤ depth (spine xs last)
 depth-behind [] last = omega arith
 depth-behind (x ∷ xs) last = omega (arith, depth-Mul x (spine xs last), depth-behind xs last)
+
+-- a last factor that is deeper by some levels makes no spine deeper by more
+pub depth-near : (more : ℕ) (xs : List U) (y z : U) → depth y ≤ depth z + more → depth (spine xs y) ≤ depth (spine xs z) + more
+depth-near more [] y z le = le
+depth-near more (x ∷ xs) y z le = omega (arith, depth-Mul x (spine xs y), depth-Mul x (spine xs z), depth-near more xs y z le)
+
+-- nor does one factor less
+pub depth-fewer : (front : List U) (x : U) (back : List U) (last : U) → depth (spine (front ++ back) last) ≤ depth (spine (front ++ x ∷ back) last)
+depth-fewer [] x back last = omega (arith, depth-Mul x (spine back last))
+depth-fewer (y ∷ front) x back last =
+    omega (arith, depth-Mul y (spine (front ++ back) last), depth-Mul y (spine (front ++ x ∷ back) last), depth-fewer front x back last)
 
 -- what code that puts spines together needs
 pub spine-pop : (refs : List (Bor U)) (r : Bor U) (last : U) → spine (terms (refs ++ r ∷ [])) last ≡ spine (terms refs) (r.now ⊗ last)

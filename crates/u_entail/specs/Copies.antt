@@ -6,20 +6,20 @@ use Rattle.u_terms.specs.Products.{product_of}
 use Rattle.u_terms.specs.declared.facts.Facts.{Facts}
 use Rattle.u_rules.specs.Terms.{◌≐◌, neg, mul_leaves}
 use Rattle.u_moves.specs.Derivations.{Derivation}
-use Rattle.u_equal.specs.declared.link.Link.{Link}
-use Rattle.u_equal.specs.Links.{LeadsEach, HasCountEach, HasNoCall, is_equality}
+use Rattle.u_equal.specs.Links.{HasNoCall, is_equality}
 use Rattle.u_equal.specs.Standing.{standing}
-use Rattle.u_entail.specs.Carrying.{Carries, Follows, MarkCourse, points}
+use Rattle.u_entail.specs.Carrying.{AreDistances, Carries, Follows, MarkCourse, points}
 use Rattle.u_entail.specs.Following.{IsBounded}
-use Rattle.u_entail.specs.Gaining.{LeadsBetween}
+use Rattle.u_entail.specs.Gaining.{IsLean, LeadsBetween}
 use Rattle.u_entail.specs.Hops.{HopsLead, Lead, StayWithin}
+use Rattle.u_entail.specs.Small.{AreBasic}
 use Rattle.u_entail.specs.declared.hops.Hop.{Hop}
 
--- one step for each link of the chains that lead from point to point, and a few more
+-- at most one step for each link from point to point, and a few more
 pub record HasStepsEach (product first last : U) (more : ℕ) (d : Derivation) : Type 0 where
-  pub pairs : List (List Link)
-  pub chains : LeadsEach product (points first) pairs (points last)
-  pub each : (n : ℕ) → HasCountEach pairs n → length d.steps ≤ n + more
+  pub number : ℕ
+  pub distances : AreDistances product (points first) (points last) number
+  pub few : length d.steps ≤ number + more
   pub short : HasNoCall (standing product) → length d.steps ≤ length (points last) * count_by is_equality (mul_leaves product) + more
 
 -- No term on the way is much larger than the product and the wanted mark; through calls in calls, of which there are no more levels than values,
@@ -38,6 +38,7 @@ pub record IsCopy (facts : Facts) (outs : ℕ) (product : U) (factors : List U) 
   pub carries : Carries product first wanted
   pub steps : HasStepsEach product first wanted 5 d
   pub small : IsCopySmall product factors wanted d
+  pub lean : AreBasic factors → IsLean (product_of (factors ++ wanted ∷ [])) 1 d
 
 abbrev pub IsCopyAt : Facts → ℕ → U → List U → ℕ → U → Option Derivation → Type 0
 IsCopyAt facts outs product factors place wanted None = (mark : U) → slice_get factors place ≡ Some mark → Follows product mark wanted → ⊥
@@ -53,14 +54,13 @@ pub record CopiesAlong (facts : Facts) (outs : ℕ) (course : MarkCourse) (facto
 pub record IsReady (F : Facts) (names : ℕ) (factors : List U) (last : U) (more : ℕ) (d : Derivation) : Type 0 where
   pub leads : LeadsBetween F names (product_of factors) (product_of (factors ++ last ∷ [])) d
   pub steps : length d.steps ≤ more
-  pub nodes : d.nodes ≤ 2 * size.nodes (product_of factors) + 2
-  pub depth : d.depth ≤ length factors + size.depth (product_of factors) + 1
+  pub lean : IsLean (product_of (factors ++ last ∷ [])) 1 d
 
 pub record IsCopiedBy (facts : Facts) (outs : ℕ) (factors : List U) (first : U) (hops : List Hop) (more : ℕ) (d : Derivation) : Type 0 where
   pub leads : (last : U) → HopsLead factors first hops last → LeadsBetween facts outs (product_of factors) (product_of (factors ++ last ∷ [])) d
   pub steps : length d.steps ≤ length hops + more
-  pub within : (nodes depth : ℕ) (last : U) → StayWithin nodes depth factors first hops last → 2 * size.nodes (product_of factors) + 2 ≤ nodes → length factors + size.depth (product_of factors) + 1 ≤ depth
-      → IsBounded nodes depth d
+  pub within : (nodes depth : ℕ) (last : U) → StayWithin nodes depth factors first hops last → size.nodes (product_of (factors ++ first ∷ [])) + 1 ≤ nodes
+      → size.depth (product_of (factors ++ first ∷ [])) + 1 ≤ depth → IsBounded nodes depth d
 
 -- the hops lead from the mark, a negated equality, with its sides exchanged
 pub record LeadExchanged (factors : List U) (mark : U) (hops : List Hop) : Type 0 where

@@ -6,15 +6,15 @@ use Rattle.u_terms.specs.Products.{product_of}
 use Rattle.u_terms.specs.declared.facts.Facts.{Facts}
 use Rattle.u_rules.specs.Terms.{◌⊗◌, ◌≐◌, I, mul_leaves}
 use Rattle.u_moves.specs.Derivations.{Derivation, HasPlainSteps, IsJoined, IsWithin}
-use Rattle.u_equal.specs.declared.link.Link.{Link}
 use Rattle.u_equal.specs.Standing.{standing}
 use Rattle.u_equal.specs.Entails.{Entails}
-use Rattle.u_equal.specs.Links.{Leads, HasCount, HasNoCall, is_equality}
+use Rattle.u_equal.specs.Links.{HasNoCall, is_equality}
+use Rattle.u_equal.specs.Routes.{IsDistance}
 use Rattle.u_entail.specs.Spines.{spine}
 use Rattle.u_entail.specs.declared.hops.Hop.{Hop}
 use Rattle.u_entail.specs.Following.{IsBounded}
 use Rattle.u_entail.specs.Hops.{HopsLead, StayWithin}
-use Rattle.u_entail.specs.Small.{AreSmall, IsSmall}
+use Rattle.u_entail.specs.Small.{AreBasic, AreSmall, IsSmall}
 
 -- where the right side of an equality stands
 abbrev pub right_side : List ℕ
@@ -106,13 +106,15 @@ pub record IsGainedBy (facts : Facts) (outs : ℕ) (factors : List U) (first las
   pub steps : length d.steps ≤ length hops + more
   pub nodes : (n : ℕ) → StaysSmall factors n a hops b → d.nodes ≤ 2 * (size.nodes first + size.nodes (a ≐ b)) + 2 * (n * size.nodes first)
   pub depth : (n : ℕ) → StaysSmall factors n a hops b → d.depth ≤ length factors + max (size.depth first) (size.depth (a ≐ b)) + 1 + n
+  pub within : (nodes depth : ℕ) → StayWithin nodes depth factors (a ≐ a) hops (a ≐ b) → IsWithin nodes depth first → IsWithin nodes depth last → IsWithin nodes depth (spine factors (a ≐ b))
+      → IsBounded nodes depth d
 
 -- ---- how many steps, and how large
--- One step for each link of a chain, those of the arguments of calls too, and a few more.
+-- At most one step for each link from a to b, those of the arguments of calls too, and a few more.
 pub record HasStepsOf (product : U) (a b : Val) (more : ℕ) (d : Derivation) : Type 0 where
-  pub links : List Link
-  pub leads : Leads product a links b
-  pub each : (n : ℕ) → HasCount links n → length d.steps ≤ n + more
+  pub number : ℕ
+  pub distance : IsDistance product a b number
+  pub few : length d.steps ≤ number + more
 
 -- Where no call stands in the product whose equalities are used, a chain has no more links than it has equalities, and no term on the way is
 -- much larger than the first one with the equality.
@@ -126,6 +128,12 @@ pub record IsShort (product : U) (factors : List U) (first : U) (a b : Val) (mor
 pub record IsModest (factors : List U) (first : U) (a b : Val) (d : Derivation) : Type 0 where
   pub nodes : d.nodes ≤ 2 * (size.nodes first + size.nodes (a ≐ b)) + 2 * (size.nodes first * size.nodes first)
   pub depth : d.depth ≤ length factors + max (size.depth first) (size.depth (a ≐ b)) + 1 + size.nodes first
+
+-- No term on the way has more nodes, or is deeper, than the last one, but for so many: of factors that are gained one after the other, none costs
+-- more than its own nodes.
+pub record IsLean (last : U) (more : ℕ) (d : Derivation) : Type 0 where
+  pub nodes : d.nodes ≤ size.nodes last + more
+  pub depth : d.depth ≤ size.depth last + more
 
 -- ---- the product times the equality
 pub record Derives (facts : Facts) (outs : ℕ) (product : U) (a b : Val) (d : Derivation) : Type 0 where
@@ -151,6 +159,7 @@ pub record Appends (facts : Facts) (outs : ℕ) (product : U) (factors : List U)
   pub links : HasStepsOf product a b 2 d
   pub short : IsShort product factors (product_of factors) a b 2 d
   pub modest : IsModest factors (product_of factors) a b d
+  pub lean : AreBasic factors → IsLean (product_of (factors ++ (a ≐ b) ∷ [])) 0 d
 
 abbrev pub IsAppended : Facts → ℕ → U → List U → Val → Val → Option Derivation → Type 0
 IsAppended facts outs product factors a b None = Entails product a b → ⊥

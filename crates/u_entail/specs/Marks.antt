@@ -7,7 +7,7 @@ use Rattle.u_terms.specs.declared.facts.Facts.{Facts}
 use Rattle.u_rules.specs.Terms.{◌⊗◌, P, neg}
 use Rattle.u_moves.specs.Derivations.{Derivation}
 use Rattle.u_entail.specs.Spines.{spine}
-use Rattle.u_entail.specs.Gaining.{LeadsBetween}
+use Rattle.u_entail.specs.Gaining.{IsLean, LeadsBetween}
 
 -- a predicate or a negation: each is its own square
 pub data IsMark : U → Type 0 where
@@ -26,6 +26,7 @@ pub record IsAgain (facts : Facts) (outs : ℕ) (factors : List U) (mark : U) (d
   pub steps : length d.steps ≡ 4
   pub nodes : d.nodes ≤ 2 * size.nodes (product_of factors) + 2
   pub depth : d.depth ≤ length factors + size.depth (product_of factors) + 1
+  pub lean : IsLean (product_of (factors ++ mark ∷ [])) 1 d
 
 pub record StandsAgain (facts : Facts) (outs : ℕ) (factors : List U) (place : ℕ) (d : Derivation) : Type 0 where
   pub each : (mark : U) → slice_get factors place ≡ Some mark → IsAgain facts outs factors mark d
@@ -51,5 +52,4 @@ pub record IsDoubled (facts : Facts) (outs : ℕ) (mark : U) (d : Derivation) : 
 pub record IsDoubledBehind (facts : Facts) (outs : ℕ) (factors others : List U) (mark : U) (d : Derivation) : Type 0 where
   pub leads : LeadsBetween facts outs (product_of factors) (spine others (mark ⊗ mark)) d
   pub steps : length d.steps ≡ 3
-  pub nodes : d.nodes ≤ 2 * size.nodes (product_of factors) + 2
-  pub depth : d.depth ≤ length factors + size.depth (product_of factors) + 1
+  pub lean : IsLean (spine factors mark) 1 d

@@ -3,7 +3,7 @@
 ghost use Rattle.std.specs.Prelude.{◌≡◌, ◌∷◌, [], IfOk, MatchOption, length};
 ghost use Rattle.u_equal.specs.Links.{told};
 ghost use Rattle.u_rules.specs.Terms.{◌≐◌, P};
-ghost use Rattle.u_entail.specs.Carrying.{AreFew, AreRouted, AreShortCourses, Follows, IsDifferenceRouted, IsExchangedRouted, IsMarkFrom, IsMarkRouted, IsRouted, LeadsEither, links_of};
+ghost use Rattle.u_entail.specs.Carrying.{AreEntailed, AreFew, AreMarkPairs, ArePaired, AreShortCourses, Follows, IsDifferencePaired, IsExchangedPaired, IsMarkFrom, IsMarkPaired, IsPaired, LeadAlong, PairsEither, links_of};
 ghost use Rattle.u_entail.specs.Carrying as spec;
 
 use crate::NoMemory;
@@ -38,9 +38,58 @@ impl<'c, 'a> Model for MarkRoute<'c, 'a> {
     ghost invariant = { λ route. IsMarkRoute route.classes.now route.mark.now route.wanted.now route.exchanged route.points.items route.links };
 }
 
+/// A point of a mark, and the one in its place, which is equal to it.
+#[derive(Debug, Clone, Copy)]
+pub struct Pair<'c> {
+    pub from: &'c Val,
+    pub to: &'c Val,
+}
+
+/// The points of a mark, each paired with that of the wanted one in its place.
+#[derive(Drop)]
+pub struct MarkPairs<'c> {
+    pub mark: &'c U,
+    /// Whether it is a negated equality, and its points stand here with its sides exchanged.
+    pub exchanged: bool,
+    pub points: Vec<Pair<'c>>,
+}
+
+impl<'c> MarkPairs<'c> {
+    /// The pairs of points; `None` where the wanted mark does not follow. The sides of a negated equality may be exchanged.
+    pub fn of(
+        alloc: Global,
+        classes: &Classes<'_>,
+        mark: &'c U,
+        wanted: &'c U,
+    ) -> Result<Option<MarkPairs<'c>>, NoMemory>
+        ensures { IfOk result (λ found. MatchOption found (Follows classes.now mark.now wanted.now → ⊥) (λ pairs. AreMarkPairs classes.now mark.now wanted.now pairs)) }
+    {
+        let mut points = Vec::new(alloc);
+        if push_mark(classes, mark, wanted, &mut points)? {
+            let exchanged = false;
+            return Ok(Some(MarkPairs {
+                mark,
+                exchanged,
+                points,
+            }));
+        }
+        let mut points = Vec::new(alloc);
+        if push_difference(classes, mark, wanted, &mut points)? {
+            let exchanged = true;
+            return Ok(Some(MarkPairs {
+                mark,
+                exchanged,
+                points,
+            }));
+        }
+        Ok(None)
+    }
+}
+
 impl<'c, 'a> MarkRoute<'c, 'a> {
     /// The chains from the points of the mark to those of the wanted one; `None` where this does not follow from the mark. The sides of a negated
-    /// equality may be exchanged. For each point all edges of the classes are counted anew.
+    /// equality may be exchanged. Counting takes a walk for each argument of each two calls that the classes joined, once for all points, even
+    /// where the chains have no links; it comes after each point is known to be equal to the one in its place.
     pub fn between(
         alloc: Global,
         classes: &'c Classes<'a>,
@@ -49,38 +98,44 @@ impl<'c, 'a> MarkRoute<'c, 'a> {
     ) -> Result<Option<MarkRoute<'c, 'a>>, NoMemory>
         ensures { IfOk result (λ found. MatchOption found (Follows classes.now mark.now wanted.now → ⊥) (λ route. IsMarkFrom route classes.now mark.now wanted.now)) }
     {
-        let mut points = Vec::new(alloc);
-        if push_mark(alloc, classes, mark, wanted, &mut points)? {
-            let route = MarkRoute::along(classes, mark, wanted, false, points);
-            return Ok(Some(route));
+        match MarkPairs::of(alloc, classes, mark, wanted)? {
+            None => Ok(None),
+            Some(pairs) => {
+                let points = pairs.points.as_slice();
+                let route = MarkRoute::along(
+                    alloc,
+                    classes,
+                    mark,
+                    wanted,
+                    pairs.exchanged,
+                    points,
+                )?;
+                Ok(Some(route))
+            }
         }
-        let mut points = Vec::new(alloc);
-        if push_difference(alloc, classes, mark, wanted, &mut points)? {
-            let route = MarkRoute::along(classes, mark, wanted, true, points);
-            return Ok(Some(route));
-        }
-        Ok(None)
     }
 
     fn along(
+        alloc: Global,
         classes: &'c Classes<'a>,
         mark: &'c U,
         wanted: &'c U,
         exchanged: bool,
-        points: Vec<Route<'c, 'a>>,
-    ) -> MarkRoute<'c, 'a>
-        requires { LeadsEither classes.now mark.now wanted.now exchanged points.items }
-        ensures { IsMarkFrom result classes.now mark.now wanted.now }
+        pairs: &[Pair<'c>],
+    ) -> Result<MarkRoute<'c, 'a>, NoMemory>
+        requires { PairsEither classes.now mark.now wanted.now exchanged pairs.now }
+        ensures { IfOk result (λ route. IsMarkFrom route classes.now mark.now wanted.now) }
     {
+        let points = routes_of(alloc, classes, pairs)?;
         let links = sum_of_links(points.as_slice());
-        MarkRoute {
+        Ok(MarkRoute {
             classes,
             mark,
             wanted,
             exchanged,
             points,
             links,
-        }
+        })
     }
 
     /// How many links the chains have together, those of arguments of calls too, or `u64::MAX` where there are more.
@@ -90,6 +145,26 @@ impl<'c, 'a> MarkRoute<'c, 'a> {
     {
         self.links
     }
+}
+
+// The chains between the points of each pair.
+fn routes_of<'c, 'a>(
+    alloc: Global,
+    classes: &'c Classes<'a>,
+    pairs: &[Pair<'c>],
+) -> Result<Vec<Route<'c, 'a>>, NoMemory>
+    requires { AreEntailed classes.now pairs.now }
+    ensures { IfOk result (λ routes. LeadAlong classes.now pairs.now routes.items) }
+{
+    let counted = classes.routes(alloc)?;
+    let mut routes = Vec::with_capacity(alloc, pairs.len())?;
+    for pair in pairs {
+        let Some(route) = counted.between(alloc, pair.from, pair.to)? else {
+            unreachable!()
+        };
+        routes.push(route)?;
+    }
+    Ok(routes)
 }
 
 fn sum_of_links(routes: &[Route<'_, '_>]) -> u64
@@ -103,140 +178,131 @@ fn sum_of_links(routes: &[Route<'_, '_>]) -> u64
     total
 }
 
-// Pushes the chains from the points of the mark to those of the wanted one, and answers whether there are any. If there are none, some chains
-// may have been pushed.
-fn push_mark<'c, 'a>(
-    alloc: Global,
-    classes: &'c Classes<'a>,
+// Pushes the pairs of points of the mark and of the wanted one, and answers whether all are equal. If one is not, some pairs may have been
+// pushed.
+fn push_mark<'c>(
+    classes: &Classes<'_>,
     mark: &'c U,
     wanted: &'c U,
-    routes: &mut Vec<Route<'c, 'a>>,
+    pairs: &mut Vec<Pair<'c>>,
 ) -> Result<bool, NoMemory>
-    ensures { IfOk result (IsMarkRouted classes.now mark.now wanted.now routes.old.items routes.new.items) }
+    ensures { IfOk result (IsMarkPaired classes.now mark.now wanted.now pairs.old.items pairs.new.items) }
 {
     match mark {
         U::Pred(symbol, points) => {
-            push_predicate(alloc, classes, *symbol, points.as_slice(), wanted, routes)
+            push_predicate(classes, *symbol, points.as_slice(), wanted, pairs)
         }
-        U::Eq(a, b) => push_equality(alloc, classes, a, b, wanted, routes),
+        U::Eq(a, b) => push_equality(classes, a, b, wanted, pairs),
         U::Not(inner) => match wanted {
-            U::Not(other) => push_mark(alloc, classes, inner.get(), other.get(), routes),
+            U::Not(other) => push_mark(classes, inner.get(), other.get(), pairs),
             _ => Ok(false),
         },
         _ => Ok(false),
     }
 }
 
-fn push_predicate<'c, 'a>(
-    alloc: Global,
-    classes: &'c Classes<'a>,
+fn push_predicate<'c>(
+    classes: &Classes<'_>,
     symbol: u32,
     points: &'c [Val],
     wanted: &'c U,
-    routes: &mut Vec<Route<'c, 'a>>,
+    pairs: &mut Vec<Pair<'c>>,
 ) -> Result<bool, NoMemory>
-    ensures { IfOk result (IsMarkRouted classes.now (P symbol points.now) wanted.now routes.old.items routes.new.items) }
+    ensures { IfOk result (IsMarkPaired classes.now (P symbol points.now) wanted.now pairs.old.items pairs.new.items) }
 {
     match wanted {
         U::Pred(other, others) => {
             if symbol != *other {
                 return Ok(false);
             }
-            push_points(alloc, classes, points, others.as_slice(), routes)
+            push_points(classes, points, others.as_slice(), pairs)
         }
         _ => Ok(false),
     }
 }
 
-fn push_equality<'c, 'a>(
-    alloc: Global,
-    classes: &'c Classes<'a>,
+fn push_equality<'c>(
+    classes: &Classes<'_>,
     a: &'c Val,
     b: &'c Val,
     wanted: &'c U,
-    routes: &mut Vec<Route<'c, 'a>>,
+    pairs: &mut Vec<Pair<'c>>,
 ) -> Result<bool, NoMemory>
-    ensures { IfOk result (IsMarkRouted classes.now (a.now ≐ b.now) wanted.now routes.old.items routes.new.items) }
+    ensures { IfOk result (IsMarkPaired classes.now (a.now ≐ b.now) wanted.now pairs.old.items pairs.new.items) }
 {
     match wanted {
         U::Eq(c, d) => {
-            if !push_point(alloc, classes, a, c, routes)? {
+            if !push_point(classes, a, c, pairs)? {
                 return Ok(false);
             }
-            push_point(alloc, classes, b, d, routes)
+            push_point(classes, b, d, pairs)
         }
         _ => Ok(false),
     }
 }
 
 // The same for a negated equality with its sides exchanged.
-fn push_difference<'c, 'a>(
-    alloc: Global,
-    classes: &'c Classes<'a>,
+fn push_difference<'c>(
+    classes: &Classes<'_>,
     mark: &'c U,
     wanted: &'c U,
-    routes: &mut Vec<Route<'c, 'a>>,
+    pairs: &mut Vec<Pair<'c>>,
 ) -> Result<bool, NoMemory>
-    ensures { IfOk result (IsDifferenceRouted classes.now mark.now wanted.now routes.old.items routes.new.items) }
+    ensures { IfOk result (IsDifferencePaired classes.now mark.now wanted.now pairs.old.items pairs.new.items) }
 {
     match mark {
         U::Not(inner) => match wanted {
-            U::Not(other) => push_exchanged(alloc, classes, inner.get(), other.get(), routes),
+            U::Not(other) => push_exchanged(classes, inner.get(), other.get(), pairs),
             _ => Ok(false),
         },
         _ => Ok(false),
     }
 }
 
-fn push_exchanged<'c, 'a>(
-    alloc: Global,
-    classes: &'c Classes<'a>,
+fn push_exchanged<'c>(
+    classes: &Classes<'_>,
     equality: &'c U,
     wanted: &'c U,
-    routes: &mut Vec<Route<'c, 'a>>,
+    pairs: &mut Vec<Pair<'c>>,
 ) -> Result<bool, NoMemory>
-    ensures { IfOk result (IsExchangedRouted classes.now equality.now wanted.now routes.old.items routes.new.items) }
+    ensures { IfOk result (IsExchangedPaired classes.now equality.now wanted.now pairs.old.items pairs.new.items) }
 {
     match equality {
-        U::Eq(a, b) => push_equality(alloc, classes, b, a, wanted, routes),
+        U::Eq(a, b) => push_equality(classes, b, a, wanted, pairs),
         _ => Ok(false),
     }
 }
 
-fn push_points<'c, 'a>(
-    alloc: Global,
-    classes: &'c Classes<'a>,
+fn push_points<'c>(
+    classes: &Classes<'_>,
     xs: &'c [Val],
     ys: &'c [Val],
-    routes: &mut Vec<Route<'c, 'a>>,
+    pairs: &mut Vec<Pair<'c>>,
 ) -> Result<bool, NoMemory>
-    ensures { IfOk result (AreRouted classes.now xs.now ys.now routes.old.items routes.new.items) }
+    ensures { IfOk result (ArePaired classes.now xs.now ys.now pairs.old.items pairs.new.items) }
 {
     if xs.len() != ys.len() {
         return Ok(false);
     }
     for (k, x) in xs.iter().enumerate() {
-        if !push_point(alloc, classes, x, &ys[k], routes)? {
+        if !push_point(classes, x, &ys[k], pairs)? {
             return Ok(false);
         }
     }
     Ok(true)
 }
 
-fn push_point<'c, 'a>(
-    alloc: Global,
-    classes: &'c Classes<'a>,
+fn push_point<'c>(
+    classes: &Classes<'_>,
     x: &'c Val,
     y: &'c Val,
-    routes: &mut Vec<Route<'c, 'a>>,
+    pairs: &mut Vec<Pair<'c>>,
 ) -> Result<bool, NoMemory>
-    ensures { IfOk result (IsRouted classes.now x.now y.now routes.old.items routes.new.items) }
+    ensures { IfOk result (IsPaired classes.now x.now y.now pairs.old.items pairs.new.items) }
 {
-    match classes.route(alloc, x, y)? {
-        None => Ok(false),
-        Some(route) => {
-            routes.push(route)?;
-            Ok(true)
-        }
+    if !classes.entails(x, y) {
+        return Ok(false);
     }
+    pairs.push(Pair { from: x, to: y })?;
+    Ok(true)
 }

@@ -5,17 +5,18 @@ ghost use Rattle.u_terms.specs.Size.{depth as depth_of};
 ghost use Rattle.u_deriv.specs.Turns.{turns};
 ghost use Rattle.u_deriv.specs.declared.run.Turn.TheVariants as turn;
 ghost use Rattle.u_rules.specs.Terms.{◌≐◌, neg, terms};
-ghost use Rattle.u_entail.specs.Copies.{CopiesAlong, IsCopiedBy, IsCopyAt, IsDifferenceCopied, IsReady, LeadExchanged};
+ghost use Rattle.u_entail.specs.Copies.{CopiesAlong, IsCopiedBy, IsCopy, IsCopyAt, IsDifferenceCopied, IsReady, LeadExchanged};
+ghost use Rattle.u_entail.specs.Carrying.{AreMarkPairs};
 ghost use Rattle.u_entail.specs.Gaining.{Begins, IsRegrouped};
 ghost use Rattle.u_entail.specs.Hops.{Lead};
 ghost use Rattle.u_entail.specs.Marks.{HasMark, IsMark};
 ghost use Rattle.u_entail.specs.Sides.{AreFactors};
 
 use crate::NoMemory;
-use crate::carrying::MarkRoute;
+use crate::carrying::{MarkPairs, MarkRoute};
 use crate::following::Front;
 use crate::gaining::equality;
-use crate::hops::{Hop, hops_along};
+use crate::hops::{Hop, hops_along, hops_between};
 use crate::spine::then_behind;
 use std::alloc::Global;
 use u_deriv::{Path, Run};
@@ -26,7 +27,8 @@ use u_terms::{Boxed, U, Val};
 /// From the product of the factors to that with the wanted mark behind them; `None` where it does not follow from the factor at the place, which
 /// counts from 0 and has to be a mark. It follows where both are the same predicate or equality under the same negations, and the first factors,
 /// which are those of the classes, entail that each point is equal to the one in its place; the sides of a negated equality may be exchanged. No
-/// chain is made before each point is known to be entailed.
+/// chain is made before each point is known to be entailed, and none is counted: through calls in calls they may have exponentially many links.
+/// They are made by recursion, a level for each call on the way.
 pub fn copy_mark<'f>(
     moves: Moves<'f>,
     classes: &Classes<'_>,
@@ -40,17 +42,43 @@ pub fn copy_mark<'f>(
     requires mark { HasMark (terms factors.now) place }
     ensures { IfOk result (IsCopyAt moves.entry.facts.now moves.entry.outs classes.now (terms factors.now) place wanted.now) }
 {
-    match MarkRoute::between(moves.alloc, classes, factors[place], wanted)? {
+    match MarkPairs::of(moves.alloc, classes, factors[place], wanted)? {
         None => Ok(None),
-        Some(route) => {
-            let deriv = copy_mark_along(moves, &route, factors, place)?;
+        Some(pairs) => {
+            let deriv = copy_mark_between(moves, classes, &pairs, wanted, factors, place)?;
             Ok(Some(deriv))
         }
     }
 }
 
+// From the mark of the pairs to the wanted one.
+fn copy_mark_between<'f>(
+    moves: Moves<'f>,
+    classes: &Classes<'_>,
+    pairs: &MarkPairs<'_>,
+    wanted: &U,
+    factors: &[&U],
+    place: usize,
+) -> Result<Deriv<'f>, NoMemory>
+    requires factors { AreFactors moves.outs (terms factors.now) }
+    requires begins { Begins classes.now (terms factors.now) }
+    requires shallow { moves.outs + depth_of (product_of (terms factors.now)) < 2 ^ 32 }
+    requires at { slice_get (terms factors.now) place ≡ Some pairs.now.mark.now }
+    requires is { IsMark pairs.now.mark.now }
+    requires pairs { AreMarkPairs classes.now pairs.now.mark.now wanted.now pairs.now }
+    ensures { IfOk result (IsCopy moves.entry.facts.now moves.entry.outs classes.now (terms factors.now) pairs.now.mark.now wanted.now) }
+{
+    let hops = hops_between(moves.alloc, classes, pairs.points.as_slice())?;
+    let front = Front { moves, factors };
+    if pairs.exchanged {
+        front.copied_difference(place, pairs.mark, hops.as_slice())
+    } else {
+        front.copied(place, pairs.mark, hops.as_slice())
+    }
+}
+
 /// As `copy_mark`, from the mark of a route to the wanted one along chains that were counted: whoever does not want so many steps as they have
-/// links does not call this. The mark is the factor at the place.
+/// links does not call this. The mark is the factor at the place. The counting, which `copy_mark` does without, is what the route cost.
 pub fn copy_mark_along<'f>(
     moves: Moves<'f>,
     route: &MarkRoute<'_, '_>,

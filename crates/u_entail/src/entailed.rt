@@ -5,7 +5,7 @@ ghost use Rattle.u_terms.specs.Size.{depth as depth_of};
 ghost use Rattle.u_rules.specs.Terms.{◌⊗◌, ◌≐◌, mul_leaves, terms};
 ghost use Rattle.u_moves.specs.Derivations.{IsKnown};
 ghost use Rattle.u_moves.specs.Moving.{IsKnownValue};
-ghost use Rattle.u_equal.specs.Links.{IsChain};
+ghost use Rattle.u_equal.specs.Routes.{IsChain};
 ghost use Rattle.u_entail.specs.Appending.{AppendsAlong, IsAppendedBy};
 ghost use Rattle.u_entail.specs.Sides.{AreFactors, LeadsBy};
 ghost use Rattle.u_entail.specs.Hops.{HopsLead, Lead};
@@ -26,7 +26,7 @@ const RIGHT_SIDE: [usize; 1] = [1];
 
 /// From a product to the product times the equality of two values; `None` where its equalities do not entail that they are equal. Each link of a
 /// chain between them is one step, and through calls in calls there may be exponentially many: `append_along` is for whoever wants them counted
-/// before.
+/// before. The chain is made and made flat by recursion, a level for each call on the way.
 pub fn derive<'f>(
     alloc: Global,
     facts: &'f Facts,
@@ -74,7 +74,7 @@ fn derive_by<'f>(
 }
 
 /// From the product of the factors to that with the equality of two values behind them; `None` where the first factors, which are those of the
-/// classes, do not entail that they are equal.
+/// classes, do not entail that they are equal. The chain is made as `derive` makes it, uncounted.
 pub fn append<'f>(
     moves: Moves<'f>,
     classes: &Classes<'_>,

@@ -1,12 +1,14 @@
 //! Chains of links made flat: one step for each equality, at its place, however deep in calls it stands.
 ghost use Rattle.std.specs.Prelude.{◌≡◌, ◌∷◌, [], ◌++◌, IfOk, OnOk};
-ghost use Rattle.u_entail.specs.Carrying.{AlongCourses, PushesRoute};
+ghost use Rattle.u_entail.specs.Carrying.{AlongCourses, AlongPairs, AreEntailed, PushesChain, PushesRoute};
+ghost use Rattle.u_equal.specs.Entails.{Entails};
 ghost use Rattle.u_entail.specs.Hops.{AreHops, PushesHops, PushesPairHops};
 
 use crate::NoMemory;
+use crate::carrying::Pair;
 use std::alloc::Global;
-use u_equal::{Link, Route};
-use u_terms::List;
+use u_equal::{Classes, Link, Route};
+use u_terms::{List, Val};
 
 /// A step: at the place one side of this factor, an equality, becomes the other, the left one the right one or, turned, back.
 #[derive(Debug, Drop)]
@@ -46,6 +48,39 @@ fn push_route(
     ensures { OnOk result (PushesRoute argument route.now hops.old.items hops.new.items) }
 {
     let links = route.chain(alloc)?;
+    push_hops(alloc, links.as_slice(), &[argument], hops)
+}
+
+/// The steps along the chains between the points of each pair. Nothing counts their links before they are made.
+pub fn hops_between(
+    alloc: Global,
+    classes: &Classes<'_>,
+    pairs: &[Pair<'_>],
+) -> Result<Vec<Hop>, NoMemory>
+    requires { AreEntailed classes.now pairs.now }
+    ensures { IfOk result (λ hops. AlongPairs classes.now 0 pairs.now hops.items) }
+{
+    let mut hops = Vec::new(alloc);
+    for (k, pair) in pairs.iter().enumerate() {
+        push_chain(alloc, classes, pair.from, pair.to, k, &mut hops)?;
+    }
+    Ok(hops)
+}
+
+fn push_chain(
+    alloc: Global,
+    classes: &Classes<'_>,
+    from: &Val,
+    to: &Val,
+    argument: usize,
+    hops: &mut Vec<Hop>,
+) -> Result<(), NoMemory>
+    requires { Entails classes.now from.now to.now }
+    ensures { OnOk result (PushesChain argument classes.now from.now to.now hops.old.items hops.new.items) }
+{
+    let Some(links) = classes.chain(alloc, from, to)? else {
+        unreachable!()
+    };
     push_hops(alloc, links.as_slice(), &[argument], hops)
 }
 

@@ -2,8 +2,8 @@ use Rattle.std.proofs.Common.{◌≡◌, ap, sym, ◌∙◌, subst}
 use Rattle.std.proofs.lemmas.Result.{IfOk-weaker}
 use Rattle.u_terms.specs.Syntax.{U}
 use Rattle.u_rules.specs.Terms.{neg}
-use Rattle.u_entail.specs.Carrying.{IsMarkRouted}
-use Rattle.u_entail.proofs.Carried.{not-routed}
+use Rattle.u_entail.specs.Carrying.{IsMarkPaired}
+use Rattle.u_entail.proofs.Carried.{not-paired}
 use Rattle.u_entail.proofs.carrying.+push_mark.Goals as goal
 
 pub returns-in-Not-wanted : goal.returns-in-Not-wanted
@@ -14,7 +14,7 @@ returns-in-Not-wanted t c =
     let is : c.args.mark.now ≡ neg inner = c.in-Not.is ∙ ap (λ (x : U). neg x) (sym c.get.ensures) in
     let wanted_is : c.args.wanted.now ≡ neg other = c.in-Not-wanted.is ∙ ap (λ (x : U). neg x) (sym c.get-in-Not-wanted.ensures) in
     IfOk-weaker c.push_mark.result _ _
-    (λ answer h. subst (λ (x : U). IsMarkRouted product x c.args.wanted.now c.args.routes.now.items c.push_mark.new.routes.items answer) (sym is)
-    (subst (λ (x : U). IsMarkRouted product (neg inner) x c.args.routes.now.items c.push_mark.new.routes.items answer) (sym wanted_is)
-    (not-routed product inner other c.args.routes.now.items c.push_mark.new.routes.items answer h)))
+    (λ answer h. subst (λ (x : U). IsMarkPaired product x c.args.wanted.now c.args.pairs.now.items c.push_mark.new.pairs.items answer) (sym is)
+    (subst (λ (x : U). IsMarkPaired product (neg inner) x c.args.pairs.now.items c.push_mark.new.pairs.items answer) (sym wanted_is)
+    (not-paired product inner other c.args.pairs.now.items c.push_mark.new.pairs.items answer h)))
     c.push_mark.ensures

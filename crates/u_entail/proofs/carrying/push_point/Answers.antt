@@ -1,9 +1,13 @@
-use Rattle.u_entail.proofs.Carried.{point-from}
+use Rattle.std.proofs.Common.{refl, sym, ◌∙◌}
+use Rattle.std.proofs.lemmas.Bool.{true≢false}
 use Rattle.u_entail.proofs.carrying.push_point.Goals as goal
 
-pub returns-in_ok-push-in-Some : goal.returns-in_ok-push-in-Some
-returns-in_ok-push-in-Some c = (
-  c.in-Some.route,
-  c.in_ok-push-in-Some.ensures.items,
-  point-from c.args.classes.now c.args.x.now c.args.y.now c.in_ok-route.field-0 (c.in_ok-route.ensures {u = tt}) c.in-Some.route c.in-Some.is,
+pub returns-then-not-entails : goal.returns-then-not-entails
+returns-then-not-entails c = λ entailed. true≢false (sym (c.entails.ensures.1 entailed) ∙ c.if-not-entails.true)
+
+pub returns : goal.returns
+returns c = (
+  record { from = c.args.x; to = c.args.y },
+  c.in_ok-push.ensures.items,
+  record { from_is = refl; to_is = refl; entailed = c.entails.ensures.0 c.if-not-entails.false },
 )

@@ -2,8 +2,7 @@ use Rattle.std.proofs.Common.{List, Some, length, sym, subst}
 use Rattle.std.proofs.lemmas.Result.{IfOk-weaker}
 use Rattle.u_rules.specs.Terms.{terms}
 use Rattle.u_equal.specs.declared.link.Link.{Link}
-use Rattle.u_equal.specs.Links.{IsChain}
-use Rattle.u_equal.specs.Routes.{AreCounted}
+use Rattle.u_equal.specs.Routes.{AreCounted, IsChain}
 use Rattle.u_equal.specs.Standing.{standing}
 use Rattle.u_entail.proofs.Along.{along, course-by}
 use Rattle.u_entail.proofs.entailed.append_along.Goals as goal

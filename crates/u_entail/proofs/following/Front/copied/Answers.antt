@@ -40,5 +40,5 @@ returns c =
     let stands = c.in_ok-again.ensures {u = tt} in
     let h = stands.each c.args.mark.now c.requires.at in
     IfOk-weaker c.led.result _ _
-    (λ d l. copied-by m.facts.now m.outs factors c.args.mark.now c.args.hops.now 4 c.in_ok-again.again d h.leads (omega (arith, h.steps)) h.nodes h.depth (subst (λ (x : U). IsLed m.facts.now m.outs factors x c.args.hops.now c.in_ok-again.again d) is l))
+    (λ d l. copied-by m.facts.now m.outs factors c.args.mark.now c.args.hops.now 4 c.in_ok-again.again d h.leads (omega (arith, h.steps)) h.lean (subst (λ (x : U). IsLed m.facts.now m.outs factors x c.args.hops.now c.in_ok-again.again d) is l))
     c.led.ensures

@@ -29,6 +29,6 @@ returns c =
     let factors = terms c.args.self.now.factors.now in
     let h = c.in_ok-ready.ensures {u = tt} in
     IfOk-weaker c.led.result _ _
-    (λ d l. copied-by m.facts.now m.outs factors (neg (c.args.b.now ≐ c.args.a.now)) c.args.hops.now 5 c.in_ok-ready.ready d h.leads h.steps h.nodes h.depth
+    (λ d l. copied-by m.facts.now m.outs factors (neg (c.args.b.now ≐ c.args.a.now)) c.args.hops.now 5 c.in_ok-ready.ready d h.leads h.steps h.lean
     (subst (λ (x : U). IsLed m.facts.now m.outs factors x c.args.hops.now c.in_ok-ready.ready d) (c.in_ok-last.ensures {u = tt}) l))
     c.led.ensures

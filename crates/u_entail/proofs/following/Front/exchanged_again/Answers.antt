@@ -44,5 +44,5 @@ returns c =
     let stands = c.in_ok-again.ensures {u = tt} in
     IfOk-weaker c.then_behind.result _ _
     (λ d made. exchange-ready m.facts.now m.outs (terms c.args.self.now.factors.now) c.args.a.now c.args.b.now c.in_ok-again.again c.in_ok-turned.turned (stands.each (neg (c.args.a.now ≐ c.args.b.now)) c.requires.at)
-    (c.in_ok-turned.ensures {u = tt}) c.args.place c.requires.at d made)
+    (c.in_ok-turned.ensures {u = tt}) d made)
     c.then_behind.ensures
