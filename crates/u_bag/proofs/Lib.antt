@@ -7,3 +7,9 @@ pub mod Meets
 pub mod Partners
 pub mod SumBlocks
 pub mod Paired
+pub mod Numbers
+pub mod Weights
+pub mod FactorsOf
+pub mod GainedCosts
+pub mod TurnedCosts
+pub mod SumCosts

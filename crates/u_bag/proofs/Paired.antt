@@ -21,17 +21,18 @@ use Rattle.u_bag.specs.declared.blocks.Matched.TheVariants.{Found, Nothing, Spen
 use Rattle.u_bag.specs.declared.pairs.Pair.{Pair}
 use Rattle.u_bag.specs.Matching.{IsMade, IsMatched, IsNotPaired}
 use Rattle.u_bag.specs.Pairs.{ArePairs, CanBePaired, lefts_of, rights_of}
-use Rattle.u_bag.specs.Shapes.{KeepsBudget, SomeHasTooManySums}
+use Rattle.u_bag.specs.Shapes.{StaysWithinBudget, SomeHasTooManySums}
 use Rattle.u_bag.specs.Sums.{AreKnownPairs, AreMade, IsSumsMatch}
 use Rattle.u_bag.proofs.Factors.{term-known}
 use Rattle.u_bag.proofs.Partners.{alike-by}
+use Rattle.u_bag.proofs.SumCosts.{sum-costs}
 
 -- ---- two blocks
 same-shape : (outs : ℕ) (u : U) (s t : Shape) → HasShape outs u s → HasShape outs u t → s ≡ t
 same-shape outs u s t h k = same_Some s t (sym h ∙ k)
 
 module _ (outs : ℕ) (left right : U) (budget : ℕ) (s t : Shape) (l : HasShape outs left s) (r : HasShape outs right t) where
-  pub keeps : tried s t ≤ budget → KeepsBudget outs left right budget
+  pub keeps : tried s t ≤ budget → StaysWithinBudget outs left right budget
   keeps less = record {
     within = λ x y h. subst (λ (z : Shape). tried z y ≤ budget) (same-shape outs left s x l h.left_has)
         (subst (λ (z : Shape). tried s z ≤ budget) (same-shape outs right t y r h.right_has) less);
@@ -47,9 +48,10 @@ module _ (outs : ℕ) (left right : U) (budget : ℕ) (s t : Shape) (l : HasShap
   -- the derivation that was made by a pairing
   pub made-matched : (F : Facts) (list : List ℕ) → tried s t ≤ budget → IsPairing s t list → (m : Matched) → IsMade F outs left right m → IsMatched F outs left right budget m
   made-matched F list less pairing (Found d) h = record {
-    leads = h;
+    leads = h.0;
     alike = record { s = s; t = t; shapes = record { left_has = l; right_has = r }; alike = alike-by s t list pairing };
     within = keeps less;
+    costs = h.1;
   }
   made-matched F list less pairing Nothing h = record { apart = λ a. h; within = keeps less }
   made-matched F list less pairing Spent h = absurd h
@@ -81,11 +83,16 @@ module _ (left right : U) (pairs : List Pair) (h : ArePairs (add_leaves left) (a
       (IsPermutation-sym (add_leaves right) (rights_of pairs) h.rights_are)
 
 -- ---- pair by pair
-first-and-others : (pairs : List Pair) (pair : Pair) → 1 ≤ length pairs → pair ≡ get_or pairs 0 pair → pairs ≡ pair ∷ take (length pairs - 1) (drop 1 pairs)
+pub first-and-others : (pairs : List Pair) (pair : Pair) → 1 ≤ length pairs → pair ≡ get_or pairs 0 pair → pairs ≡ pair ∷ take (length pairs - 1) (drop 1 pairs)
 first-and-others [] pair some is = absurd (omega (arith, some))
 first-and-others (first ∷ pairs) pair some is =
     let n : length pairs ≡ length (first ∷ pairs) - 1 = omega arith in
     ap (λ (p : Pair). p ∷ pairs) (sym is) ∙ ap (λ (ps : List Pair). pair ∷ ps) (sym (take-length pairs) ∙ ap (λ (k : ℕ). take k pairs) n)
+
+pub only-pair : (pairs : List Pair) (pair : Pair) → length pairs ≡ 1 → pair ≡ get_or pairs 0 pair → pairs ≡ pair ∷ []
+only-pair [] pair one is = absurd (omega (arith, one))
+only-pair (first ∷ []) pair one is = ap (λ (p : Pair). p ∷ []) (sym is)
+only-pair (first ∷ second ∷ pairs) pair one is = absurd (omega (arith, one))
 
 module _ (pairs : List Pair) (pair : Pair) (some : 1 ≤ length pairs) (is : pair ≡ get_or pairs 0 pair) where
   pub others-too-many : SomeHasTooManySums (lefts_of (take (length pairs - 1) (drop 1 pairs))) → SomeHasTooManySums (lefts_of pairs)
@@ -93,7 +100,8 @@ module _ (pairs : List Pair) (pair : Pair) (some : 1 ≤ length pairs) (is : pai
       (record { block = h.block; is_in = (suc h.is_in.0, (let low = h.is_in.1 in omega (arith, low)), h.is_in.2); many = h.many })
 
 -- the derivation of the whole
-pub made-sums : (F : Facts) (outs : ℕ) (left right : U) (budget : ℕ) → CanBePaired outs (add_leaves left) (add_leaves right) → (m : Matched) → AreMade F outs left right m → IsSumsMatch F outs left right budget m
-made-sums F outs left right budget can (Found d) h = record { leads = h; paired = can }
-made-sums F outs left right budget can Nothing h = λ p. h
-made-sums F outs left right budget can Spent h = absurd h
+pub made-sums : (F : Facts) (outs : ℕ) (left right : U) (budget : ℕ) (found : List Pair) → ArePairs (add_leaves left) (add_leaves right) found → CanBePaired outs (add_leaves left) (add_leaves right) → (m : Matched)
+    → AreMade F outs left right found m → IsSumsMatch F outs left right budget m
+made-sums F outs left right budget found pairs can (Found d) h = record { leads = h.0; paired = can; costs = sum-costs outs left right found d pairs can h.1 }
+made-sums F outs left right budget found pairs can Nothing h = λ p. h
+made-sums F outs left right budget found pairs can Spent h = absurd h

@@ -12,8 +12,8 @@ use Rattle.std.proofs.lemmas.List.{get_or-map, get_or_default, length-map, map-a
 use Rattle.std.proofs.lemmas.List.Elements.{All-append, All-contains, All-drop, All-head, All-tail, All-take, All-weaker, Contains-get_or}
 use Rattle.std.proofs.lemmas.List.Sorted.{IsPermutation-map, IsPermutation-more, IsPermutation-sym, IsPermutation-trans}
 use Rattle.std.proofs.lemmas.Option.{none-some, same_Some}
-use Rattle.shapes.specs.Shapes.{Entry, Point, Shape, entry_of}
-use Rattle.shapes.specs.Alike.{Alike, Pairwise, none, one_more}
+use Rattle.shapes.specs.Shapes.{Entry, Shape, entry_of}
+use Rattle.shapes.specs.Alike.{Alike}
 use Rattle.shapes.specs.Tests.{entry_at, place_of}
 use Rattle.shapes.specs.Tried.{IsPairing}
 use Rattle.shapes.specs.Unions.{AllAlike, no_blocks, one_block, AreShapes, TakenOut, the_first, a_later}
@@ -23,7 +23,7 @@ use Rattle.shape_entails.proofs.Turned.{last-or-later}
 use Rattle.u_rules.proofs.OneOrder.{one_order}
 use Rattle.u_bag.specs.declared.pairs.Block.{Block}
 use Rattle.u_bag.specs.declared.pairs.Pair.{Pair}
-use Rattle.u_bag.specs.Pairs.{AreTables, IsWholeBlock, lefts_of, rights_of, shapes_of, table_of, table_order, terms_of}
+use Rattle.u_bag.specs.Pairs.{AreTables, IsOfWholeShape, lefts_of, rights_of, shapes_of, table_of, table_order, terms_of}
 use Rattle.u_terms.specs.Syntax.{U}
 
 -- ---- tables
@@ -83,17 +83,10 @@ alike-tables s t xs ys l r a =
     (IsPermutation-trans xs (map table_of s.entries) ys (IsPermutation-sym (map table_of s.entries) xs l.are)
     (IsPermutation-trans (map table_of s.entries) (map table_of t.entries) ys (IsPermutation-map table_of s.entries t.entries (alike-entries s t a)) r.are))
 
-pairwise-long : (P : Point → Point → Type 0) (ps qs : List Point) → Pairwise P ps qs → length ps ≡ length qs
-pairwise-long P ps qs none = refl
-pairwise-long P ps qs (one_more {ps = more} {qs = others} h rest) = ap suc (pairwise-long P more others rest)
-
-pub alike-outputs : (s t : Shape) → Alike s t → length s.outputs ≡ length t.outputs
-alike-outputs s t a = pairwise-long _ s.outputs t.outputs a.paired.outputs
-
 -- ---- lists of blocks
-pub are-shapes : (blocks : List Block) → All IsWholeBlock blocks → AreShapes (shapes_of blocks)
+pub are-shapes : (blocks : List Block) → All IsOfWholeShape blocks → AreShapes (shapes_of blocks)
 are-shapes [] all = tt
-are-shapes (block ∷ blocks) all = ((All-head IsWholeBlock block blocks all).whole.shape, are-shapes blocks (All-tail IsWholeBlock block blocks all))
+are-shapes (block ∷ blocks) all = ((All-head IsOfWholeShape block blocks all).whole.shape, are-shapes blocks (All-tail IsOfWholeShape block blocks all))
 
 taken-long : (t : Shape) (ts rest : List Shape) → TakenOut t ts rest → length ts ≡ suc (length rest)
 taken-long t ts rest the_first = refl
@@ -131,7 +124,7 @@ no-partner s ss blocks apart all is ts are (one_block {s = s'} {t = t} {rest = r
     apart k.block k.is_in (subst (λ (x : Shape). Alike x k.block.shape) same (subst (Alike s') k.is a))
 
 -- where all can be paired, so can those that are left over
-pub others-alike : (lefts blocks : List Block) (left block : Block) (place : ℕ) → IsWholeBlock left → All IsWholeBlock lefts → All IsWholeBlock blocks → place < length blocks
+pub others-alike : (lefts blocks : List Block) (left block : Block) (place : ℕ) → IsOfWholeShape left → All IsOfWholeShape lefts → All IsOfWholeShape blocks → place < length blocks
     → get_or blocks place block ≡ block → Alike left.shape block.shape → AllAlike (shapes_of (left ∷ lefts)) (shapes_of blocks) → AllAlike (shapes_of lefts) (shapes_of (remove blocks place))
 others-alike lefts blocks left block place is_left are_lefts are_blocks less is a h =
     any-alike left.shape block.shape (shapes_of lefts) (shapes_of blocks) (shapes_of (remove blocks place)) is_left.whole.shape (are-shapes lefts are_lefts) (are-shapes blocks are_blocks)
@@ -192,10 +185,10 @@ module _ (lefts rights rest : List Block) (found more : List Pair) (i place : �
       subst (λ (us : List U). IsPermutation (terms_of rights) (us ++ terms_of (remove rest place))) done
       (subst (λ (us : List U). IsPermutation (terms_of rights) ((rights_of found ++ right.term.now ∷ []) ++ us)) (sym (map-removed (λ (b : Block). b.term.now) rest place)) step)
 
-  pub next-alike : All IsWholeBlock lefts → All IsWholeBlock rest → IsWholeBlock left → Alike left.shape right.shape → AllAlike (shapes_of (drop i lefts)) (shapes_of rest)
+  pub next-alike : All IsOfWholeShape lefts → All IsOfWholeShape rest → IsOfWholeShape left → Alike left.shape right.shape → AllAlike (shapes_of (drop i lefts)) (shapes_of rest)
       → AllAlike (shapes_of (drop (i + 1) lefts)) (shapes_of (remove rest place))
   next-alike are_lefts are_rest is_left a h =
-      others-alike (drop (i + 1) lefts) rest left right place is_left (All-drop IsWholeBlock (i + 1) lefts are_lefts) are_rest within (sym right_is) a
+      others-alike (drop (i + 1) lefts) rest left right place is_left (All-drop IsOfWholeShape (i + 1) lefts are_lefts) are_rest within (sym right_is) a
       (subst (λ (bs : List Block). AllAlike (shapes_of bs) (shapes_of rest)) (first-left lefts i left less left_is) h)
 
   -- and where those that are left over then can be paired, so can all

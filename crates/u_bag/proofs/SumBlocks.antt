@@ -1,8 +1,9 @@
 -- The blocks of a sum with their shapes, and what the search for partners says of two sums.
-use Rattle.std.proofs.Common.{◌≡◌, ℕ, zero, suc, ◌+◌, ◌<◌, List, [], ◌∷◌, ◌++◌, length, get_or, map, take, Option, Some, None, refl, ap, sym, ◌∙◌, subst, arith}
+use Rattle.std.proofs.Common.{◌≡◌, ℕ, zero, suc, ◌+◌, ◌<◌, List, [], ◌∷◌, ◌++◌, length, get_or, map, take, Option, Some, refl, ap, sym, ◌∙◌, subst, arith}
 use Rattle.std.specs.Prelude.{All, Contains, IsPermutation}
 use denote.Ref.{Bor}
 use Rattle.std.proofs.lemmas.List.{length-map, map-append, take_more}
+use Rattle.std.proofs.lemmas.Option.{none-some}
 use Rattle.std.proofs.lemmas.List.Elements.{All-contains, All-head, All-push, All-tail, All-weaker}
 use Rattle.shapes.specs.Shapes.{Shape}
 use Rattle.shapes.specs.Unions.{AllAlike}
@@ -14,8 +15,9 @@ use Rattle.u_bag.specs.declared.pairs.Block.{Block}
 use Rattle.u_bag.specs.declared.pairs.Pair.{Pair}
 use Rattle.u_bag.specs.declared.pairs.Partners.{Partners}
 use Rattle.u_bag.specs.declared.pairs.Partners.TheVariants as partners
-use Rattle.u_bag.specs.Pairs.{AreBlocks, AreFoundAmong, ArePartners, CanBePaired, IsBlock, IsFoundAmong, HasPairing, IsWholeBlock, SomeShapeless, rights_of, shapes_of, terms_of}
+use Rattle.u_bag.specs.Pairs.{AreBlocks, AreFoundAmong, ArePartners, CanBePaired, IsBlock, IsFoundAmong, HasPairing, IsOfWholeShape, SomeShapeless, rights_of, shapes_of, terms_of}
 use Rattle.u_bag.proofs.Partners.{alike-long}
+use Rattle.u_bag.proofs.SumCosts.{shape_at, shaped-at}
 
 -- ---- terms that are lent
 pub term-in : (refs : List (Bor U)) (k : ℕ) (r : Bor U) → k < length refs → r ≡ get_or refs k r → Contains (terms refs) r.now
@@ -38,8 +40,8 @@ module _ (outs : ℕ) where
   }
 
   -- ---- whole blocks
-  pub are-whole : (us : List U) (blocks : List Block) → AreBlocks outs us blocks → All IsWholeBlock blocks
-  are-whole us blocks h = All-weaker (IsBlock outs) IsWholeBlock (λ b i. record { whole = shapes-whole outs b.term.now b.shape i.shape; tables = i.tables }) blocks h.each
+  pub are-whole : (us : List U) (blocks : List Block) → AreBlocks outs us blocks → All IsOfWholeShape blocks
+  are-whole us blocks h = All-weaker (IsBlock outs) IsOfWholeShape (λ b i. record { whole = shapes-whole outs b.term.now b.shape i.shape; tables = i.tables }) blocks h.each
 
   blocks-have : (blocks : List Block) → All (IsBlock outs) blocks → map (term_shape outs) (terms_of blocks) ≡ map Some (shapes_of blocks)
   blocks-have [] all = refl
@@ -63,13 +65,7 @@ module _ (outs : ℕ) where
       ∙ length-map vs (term_shape outs)
 
   all-shaped : (us : List U) (ss : List Shape) → map (term_shape outs) us ≡ map Some ss → SomeShapeless outs us → ⊥
-  all-shaped us ss have h = at us ss have h.is_in.0 h.is_in.1 h.is_in.2
-    where
-      at : (xs : List U) (ts : List Shape) → map (term_shape outs) xs ≡ map Some ts → (k : ℕ) → k < length xs → get_or xs k h.term ≡ h.term → ⊥
-      at [] ts e k less is = absurd (omega (arith, less))
-      at (x ∷ xs) [] e k less is = absurd (cc)
-      at (x ∷ xs) (t ∷ ts) e zero less is = let shaped : term_shape outs x ≡ Some t = cc in let shapeless : term_shape outs x ≡ None = ap (term_shape outs) is ∙ h.shapeless in cc
-      at (x ∷ xs) (t ∷ ts) e (suc k) less is = at xs ts (cc) k (omega (arith, less)) is
+  all-shaped us ss have h = none-some (shape_at outs h.term) (sym h.shapeless ∙ shaped-at outs us ss have h.term h.is_in)
 
   pub left-shapeless : (us vs : List U) → SomeShapeless outs us → CanBePaired outs us vs → ⊥
   left-shapeless us vs some h = all-shaped us h.ss h.lefts_have some

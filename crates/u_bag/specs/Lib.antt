@@ -5,3 +5,4 @@ pub mod Meeting
 pub mod Order
 pub mod Pairs
 pub mod Sums
+pub mod Costs

@@ -54,7 +54,7 @@ pub record IsBlock (outs : ℕ) (block : Block) : Type 0 where
   pub tables : AreTables block.shape.entries block.tables.items
 
 -- the same, whatever the term
-pub record IsWholeBlock (block : Block) : Type 0 where
+pub record IsOfWholeShape (block : Block) : Type 0 where
   pub whole : IsWhole block.shape
   pub tables : AreTables block.shape.entries block.tables.items
 
@@ -109,7 +109,7 @@ pub record IsPartnerAt (s : Shape) (blocks : List Block) (place : ℕ) (list : L
   pub pairing : (block : Block) → get_or blocks place block ≡ block → IsPairing s block.shape list
 
 -- a shape whose search with this one was ended by the budget
-pub record IsAbove (s : Shape) (blocks : List Block) (budget : ℕ) : Type 0 where
+pub record SomeSpendsBudget (s : Shape) (blocks : List Block) (budget : ℕ) : Type 0 where
   pub block : Block
   pub is_in : Contains blocks block
   pub above : budget < tried s block.shape
@@ -117,7 +117,7 @@ pub record IsAbove (s : Shape) (blocks : List Block) (budget : ℕ) : Type 0 whe
 abbrev pub IsPartner : Shape → List Block → ℕ → Partner → Type 0
 IsPartner s blocks budget (partner.At place list) = IsPartnerAt s blocks place list
 IsPartner s blocks budget partner.Nowhere = (block : Block) → Contains blocks block → Alike s block.shape → ⊥
-IsPartner s blocks budget partner.Spent = IsAbove s blocks budget
+IsPartner s blocks budget partner.Spent = SomeSpendsBudget s blocks budget
 
 -- two of these blocks
 pub record IsFoundAmong (lefts rights : List Block) (pair : Pair) : Type 0 where

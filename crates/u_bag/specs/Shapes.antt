@@ -27,7 +27,7 @@ pub record PassesBudget (outs : ℕ) (left right : U) (budget : ℕ) : Type 0 wh
   pub above : budget < tried s t
 
 -- it does not, whatever shapes the terms have
-pub record KeepsBudget (outs : ℕ) (left right : U) (budget : ℕ) : Type 0 where
+pub record StaysWithinBudget (outs : ℕ) (left right : U) (budget : ℕ) : Type 0 where
   pub within : (s t : Shape) → HaveShapes outs left right s t → tried s t ≤ budget
 
 -- there are more sums around it than a step exchanges

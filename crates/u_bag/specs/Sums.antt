@@ -9,6 +9,7 @@ use Rattle.u_congruence.specs.Congruence.{IsFromTo}
 use Rattle.u_bag.specs.declared.blocks.Matched.{Matched}
 use Rattle.u_bag.specs.declared.blocks.Matched.TheVariants.{Found, Nothing, Spent}
 use Rattle.u_bag.specs.declared.pairs.Pair.{Pair}
+use Rattle.u_bag.specs.Costs.{KeepsPairsCosts, KeepsSumCosts}
 use Rattle.u_bag.specs.Pairs.{CanBePaired, SomePassBudget, lefts_of, rights_of}
 use Rattle.u_bag.specs.Shapes.{SomeHasTooManySums}
 
@@ -16,6 +17,7 @@ use Rattle.u_bag.specs.Shapes.{SomeHasTooManySums}
 pub record AreSumsPaired (F : Facts) (names : ℕ) (left right : U) (d : Derivation) : Type 0 where
   pub leads : IsFromTo F names left right d
   pub paired : CanBePaired names (add_leaves left) (add_leaves right)
+  pub costs : KeepsSumCosts names left right paired.ss paired.ts d
 
 -- `Nothing` only where the blocks cannot be paired, unless one has more sums than a step exchanges
 abbrev pub IsSumsMatch : Facts → ℕ → U → U → ℕ → Matched → Type 0
@@ -35,7 +37,7 @@ AreKnownPairs outs found = All (IsKnownPair outs) found
 abbrev pub IsFromPairs : Facts → ℕ → List Pair → Derivation → Type 0
 IsFromPairs facts outs found d = IsFromTo facts outs (sum_of (lefts_of found)) (sum_of (rights_of found)) d
 
-abbrev pub AreMade : Facts → ℕ → U → U → Matched → Type 0
-AreMade facts outs left right (Found deriv) = IsFromTo facts outs left right deriv
-AreMade facts outs left right Nothing = SomeHasTooManySums (add_leaves left)
-AreMade facts outs left right Spent = ⊥
+abbrev pub AreMade : Facts → ℕ → U → U → List Pair → Matched → Type 0
+AreMade facts outs left right found (Found deriv) = IsFromTo facts outs left right deriv × KeepsPairsCosts outs left right found deriv
+AreMade facts outs left right found Nothing = SomeHasTooManySums (add_leaves left)
+AreMade facts outs left right found Spent = ⊥

@@ -1,14 +1,16 @@
 //! The search for a pairing of the entries of two blocks, and the derivation that it gives.
-ghost use Rattle.std.specs.Prelude.{IfOk, MatchOption};
+ghost use Rattle.std.specs.Prelude.{IfOk, IfSome, MatchOption};
 ghost use Rattle.term_shapes.specs.TermShape.{HasShape};
 ghost use Rattle.u_congruence.specs.Congruence.{IsFromTo};
 ghost use Rattle.u_moves.specs.Derivations.{IsKnown};
+ghost use Rattle.u_bag.specs.Costs.{KeepsPairingCosts};
 ghost use Rattle.u_bag.specs.Matching.{IsMade, IsMatched};
 ghost use Rattle.u_bag.specs.Shapes.{ArePairedBy, HasTooManySums};
 
 use crate::NoMemory;
 use crate::meeting::meeting;
 use crate::order::turns;
+use crate::regrouping::start_of;
 use bag_search::{Match, match_shapes};
 use shapes::Shape;
 use std::alloc::Global;
@@ -96,10 +98,16 @@ pub fn paired<'f>(
     requires left { IsKnown 0 moves.outs left.now }
     requires right { IsKnown 0 moves.outs right.now }
     requires paired { ArePairedBy entries.now left.now right.now }
-    ensures { IfOk result (λ found. MatchOption found (HasTooManySums left.now) (IsFromTo moves.entry.facts.now moves.entry.outs left.now right.now)) }
+    ensures leads { IfOk result (λ found. MatchOption found (HasTooManySums left.now) (IsFromTo moves.entry.facts.now moves.entry.outs left.now right.now)) }
+    ensures costs { IfOk result (λ found. IfSome found (KeepsPairingCosts moves.entry.outs left.now right.now)) }
 {
-    match turns(moves.alloc, left, right, entries)? {
-        Some(turns) => meeting(moves, left, right, turns.as_slice()),
-        None => Ok(None),
-    }
+    let Some(turns) = turns(moves.alloc, left, right, entries)? else {
+        return Ok(None);
+    };
+    let Some(deriv) = meeting(moves, left, right, turns.as_slice())? else {
+        return Ok(None);
+    };
+    // (its soundness, which the bound on its bytes rests on, is told where it is lent)
+    start_of(&deriv);
+    Ok(Some(deriv))
 }

@@ -1,5 +1,5 @@
 //! Products that meet: each gains the factors of the other one that it lacks.
-ghost use Rattle.std.specs.Prelude.{◌≡◌, ◌<◌, ◌+◌, ◌^◌, ◌∷◌, ◌↔◌, [], IfOk, IsPermutation, IsTrue};
+ghost use Rattle.std.specs.Prelude.{◌≡◌, ◌<◌, ◌+◌, ◌^◌, ◌∷◌, ◌++◌, ◌↔◌, [], IfOk, IfSome, IsPermutation, IsTrue};
 ghost use Rattle.data_model.specs.Lists.{Each};
 ghost use Rattle.u_terms.specs.Products as products;
 ghost use Rattle.u_terms.specs.Size.{depth as depth_of};
@@ -9,6 +9,8 @@ ghost use Rattle.u_congruence.specs.Congruence.{IsBy, IsFromTo};
 ghost use Rattle.u_entail.specs.Gaining.{Begins};
 ghost use Rattle.u_entail.specs.Marks.{IsMark};
 ghost use Rattle.u_entail.specs.Sides.{AreFactors};
+ghost use Rattle.u_entail.specs.Small.{AreBasic};
+ghost use Rattle.u_bag.specs.Costs.{FactorCosts, GainCosts, IsOneStepAtMost, KeepsProductCosts, MetCosts, RowCosts};
 ghost use Rattle.u_bag.specs.Rows.{AreMet, GoesOn, IsFactorGained, IsGaining, IsMarkGained, IsRowWith, IsSingle, LeadsToRow};
 
 use crate::NoMemory;
@@ -42,7 +44,8 @@ pub fn products_meet<'f>(
 ) -> Result<Option<Derived<'f>>, NoMemory>
     requires left { IsKnown 0 moves.outs left.now }
     requires right { IsKnown 0 moves.outs right.now }
-    ensures { IfOk result (AreMet moves.entry.facts.now moves.entry.outs left.now right.now) }
+    ensures leads { IfOk result (AreMet moves.entry.facts.now moves.entry.outs left.now right.now) }
+    ensures costs { IfOk result (λ found. IfSome found (KeepsProductCosts left.now right.now)) }
 {
     let lefts = leaves(moves.alloc, left, true)?;
     let rights = leaves(moves.alloc, right, true)?;
@@ -61,7 +64,8 @@ fn met<'f>(moves: Moves<'f>, down: Derived<'f>, up: Derived<'f>) -> Result<Deriv
     requires down { IsBy moves.facts.now moves.outs down }
     requires up { IsBy moves.facts.now moves.outs up }
     requires leaves { IsPermutation (mul_leaves down.to) (mul_leaves up.to) }
-    ensures { IfOk result (IsFromTo moves.entry.facts.now moves.entry.outs down.entry.from up.entry.from) }
+    ensures ends { IfOk result (IsFromTo moves.entry.facts.now moves.entry.outs down.entry.from up.entry.from) }
+    ensures costs { IfOk result (MetCosts down.entry up.entry) }
 {
     let between = rearranged(moves, end_of(&down), end_of(&up))?;
     let back = turned_back(moves.alloc, up)?;
@@ -73,7 +77,8 @@ fn gained<'f>(moves: Moves<'f>, u: &U, wanted: &[&U]) -> Result<Option<Derived<'
     requires known { IsKnown 0 moves.outs u.now }
     requires wanted { Each (IsKnown 0 moves.outs) (terms wanted.now) }
     requires leaves { Each IsSingle (terms wanted.now) }
-    ensures { IfOk result (IsGaining moves.entry.facts.now moves.entry.outs u.now (terms wanted.now)) }
+    ensures leads { IfOk result (IsGaining moves.entry.facts.now moves.entry.outs u.now (terms wanted.now)) }
+    ensures costs { IfOk result (λ found. IfSome found (λ d. AreBasic (mul_leaves u.now ++ terms wanted.now) → GainCosts u.now (terms wanted.now) d)) }
 {
     if wanted.is_empty() {
         return Ok(Some(still(moves, copied(moves.alloc, u)?)?));
@@ -100,7 +105,8 @@ fn classes_of<'a>(alloc: Global, u: &'a U) -> Result<Classes<'a>, NoMemory>
 // From a product to its factors in a row.
 fn in_row<'f, 'a>(moves: Moves<'f>, u: &'a U) -> Result<Row<'f, 'a>, NoMemory>
     requires { IsKnown 0 moves.outs u.now }
-    ensures { IfOk result (GoesOn moves.entry.facts.now moves.entry.outs u.now (mul_leaves u.now) []) }
+    ensures leads { IfOk result (GoesOn moves.entry.facts.now moves.entry.outs u.now (mul_leaves u.now) []) }
+    ensures costs { IfOk result (λ row. IsOneStepAtMost u.now (products.product_of (mul_leaves u.now)) row.deriv) }
 {
     let factors = leaves(moves.alloc, u, true)?.into_vec();
     let row = Boxed::new(moves.alloc, product_of(moves.alloc, factors.as_slice())?)?;
@@ -113,7 +119,8 @@ fn rearranged<'f>(moves: Moves<'f>, u: &U, row: &U) -> Result<Derived<'f>, NoMem
     requires u { IsKnown 0 moves.outs u.now }
     requires row { IsKnown 0 moves.outs row.now }
     requires leaves { IsPermutation (mul_leaves u.now) (mul_leaves row.now) }
-    ensures { IfOk result (IsFromTo moves.entry.facts.now moves.entry.outs u.now row.now) }
+    ensures ends { IfOk result (IsFromTo moves.entry.facts.now moves.entry.outs u.now row.now) }
+    ensures costs { IfOk result (IsOneStepAtMost u.now row.now) }
 {
     if same(u, row) {
         still(moves, copied(moves.alloc, u)?)
@@ -142,7 +149,8 @@ fn with_all<'f, 'a>(
 ) -> Result<Option<Row<'f, 'a>>, NoMemory>
     requires row { LeadsToRow moves.facts.now moves.outs classes.now row }
     requires wanted { Each (IsKnown 0 moves.outs) (terms wanted.now) }
-    ensures { IfOk result (IsRowWith moves.entry.facts.now moves.entry.outs classes.now (terms row.entry.factors.items) (terms wanted.now)) }
+    ensures leads { IfOk result (IsRowWith moves.entry.facts.now moves.entry.outs classes.now (terms row.entry.factors.items) (terms wanted.now)) }
+    ensures costs { IfOk result (λ found. IfSome found (λ more. AreBasic (terms more.factors.items) → RowCosts classes.now row.entry (terms wanted.now) more)) }
 {
     match wanted {
         [] => Ok(Some(row)),
@@ -162,7 +170,8 @@ fn with_one<'f, 'a>(
 ) -> Result<Option<Row<'f, 'a>>, NoMemory>
     requires row { LeadsToRow moves.facts.now moves.outs classes.now row }
     requires known { IsKnown 0 moves.outs factor.now }
-    ensures { IfOk result (IsRowWith moves.entry.facts.now moves.entry.outs classes.now (terms row.entry.factors.items) (factor.now ∷ [])) }
+    ensures leads { IfOk result (IsRowWith moves.entry.facts.now moves.entry.outs classes.now (terms row.entry.factors.items) (factor.now ∷ [])) }
+    ensures costs { IfOk result (λ found. IfSome found (λ more. AreBasic (terms more.factors.items) → RowCosts classes.now row.entry (factor.now ∷ []) more)) }
 {
     let Row { deriv, mut factors } = row;
     if !has_room(moves, end_of(&deriv), factors.len()) {
@@ -197,7 +206,8 @@ fn factor_gained<'f>(
     requires begins { Begins classes.now (terms factors.now) }
     requires shallow { moves.outs + depth_of (products.product_of (terms factors.now)) < 2 ^ 32 }
     requires wanted { IsKnown 0 moves.outs wanted.now }
-    ensures { IfOk result (IsFactorGained moves.entry.facts.now moves.entry.outs classes.now (terms factors.now) wanted.now) }
+    ensures leads { IfOk result (IsFactorGained moves.entry.facts.now moves.entry.outs classes.now (terms factors.now) wanted.now) }
+    ensures costs { IfOk result (λ found. IfSome found (λ d. AreBasic (terms factors.now) → FactorCosts classes.now (terms factors.now) wanted.now d)) }
 {
     match wanted {
         U::Eq(a, b) => equality_gained(moves, classes, factors, a, b),
@@ -216,7 +226,8 @@ fn equality_gained<'f>(
     requires begins { Begins classes.now (terms factors.now) }
     requires shallow { moves.outs + depth_of (products.product_of (terms factors.now)) < 2 ^ 32 }
     requires wanted { IsKnown 0 moves.outs (a.now ≐ b.now) }
-    ensures { IfOk result (IsFactorGained moves.entry.facts.now moves.entry.outs classes.now (terms factors.now) (a.now ≐ b.now)) }
+    ensures leads { IfOk result (IsFactorGained moves.entry.facts.now moves.entry.outs classes.now (terms factors.now) (a.now ≐ b.now)) }
+    ensures costs { IfOk result (λ found. IfSome found (λ d. AreBasic (terms factors.now) → FactorCosts classes.now (terms factors.now) (a.now ≐ b.now) d)) }
 {
     match append(moves, classes, factors, a, b)? {
         Some(deriv) => Ok(Some(Boxed::new(moves.alloc, deriv)?)),
@@ -234,7 +245,8 @@ fn mark_gained<'f>(
     requires factors { AreFactors moves.outs (terms factors.now) }
     requires begins { Begins classes.now (terms factors.now) }
     requires shallow { moves.outs + depth_of (products.product_of (terms factors.now)) < 2 ^ 32 }
-    ensures { IfOk result (IsMarkGained moves.entry.facts.now moves.entry.outs classes.now (terms factors.now) wanted.now) }
+    ensures leads { IfOk result (IsMarkGained moves.entry.facts.now moves.entry.outs classes.now (terms factors.now) wanted.now) }
+    ensures costs { IfOk result (λ found. IfSome found (λ d. AreBasic (terms factors.now) → FactorCosts classes.now (terms factors.now) wanted.now d)) }
 {
     for (place, factor) in factors.iter().enumerate() {
         if is_mark(factor) {

@@ -1,8 +1,9 @@
 //! Two blocks that meet: their sums come into one order, and each gains what the other one says.
-ghost use Rattle.std.specs.Prelude.{◌≡◌, ◌<◌, ◌≤◌, ◌+◌, ◌∷◌, IfOk, length};
+ghost use Rattle.std.specs.Prelude.{◌≡◌, ◌<◌, ◌≤◌, ◌+◌, ◌∷◌, IfOk, IfSome, length};
 ghost use Rattle.u_rules.specs.Terms.{S};
 ghost use Rattle.u_moves.specs.Derivations.{IsKnown};
 ghost use Rattle.u_congruence.specs.Congruence.{IsBy};
+ghost use Rattle.u_bag.specs.Costs.{KeepsMeetingCosts, KeepsMeetingCostsAfter, OutwardCosts};
 ghost use Rattle.u_bag.specs.Meeting.{IsInsideSums, IsMeeting, IsMeetingAfter, IsMeetingInside, IsOutward};
 
 use crate::NoMemory;
@@ -26,7 +27,8 @@ pub fn meeting<'f>(
     requires left { IsKnown 0 moves.outs left.now }
     requires right { IsKnown 0 moves.outs right.now }
     requires few { length turns.now ≤ 2048 }
-    ensures { IfOk result (IsMeeting moves.entry.facts.now moves.entry.outs turns.now left.now right.now) }
+    ensures leads { IfOk result (IsMeeting moves.entry.facts.now moves.entry.outs turns.now left.now right.now) }
+    ensures costs { IfOk result (λ found. IfSome found (KeepsMeetingCosts (length turns.now) (length turns.now) left.now right.now)) }
 {
     match turns {
         [] => products_meet(moves, left, right),
@@ -49,7 +51,8 @@ fn turned<'f>(
     requires f { IsKnown 1 moves.outs f.now }
     requires g { IsKnown 1 moves.outs g.now }
     requires few { length turns.now < 2048 }
-    ensures { IfOk result (IsMeeting moves.entry.facts.now moves.entry.outs (turn ∷ turns.now) (S f.now) (S g.now)) }
+    ensures leads { IfOk result (IsMeeting moves.entry.facts.now moves.entry.outs (turn ∷ turns.now) (S f.now) (S g.now)) }
+    ensures costs { IfOk result (λ found. IfSome found (KeepsMeetingCosts (length turns.now + 1) (length turns.now + 1) (S f.now) (S g.now))) }
 {
     if turn == 0 {
         return under_sum(moves, f, g, turns);
@@ -74,7 +77,8 @@ fn then_under_sum<'f>(
     requires first { IsBy moves.facts.now moves.outs first }
     requires g { IsKnown 1 moves.outs g.now }
     requires few { length turns.now < 2048 }
-    ensures { IfOk result (IsMeetingAfter moves.entry.facts.now moves.entry.outs turns.now first.entry g.now) }
+    ensures leads { IfOk result (IsMeetingAfter moves.entry.facts.now moves.entry.outs turns.now first.entry g.now) }
+    ensures costs { IfOk result (λ found. IfSome found (KeepsMeetingCostsAfter first.entry (length turns.now + 1) (length turns.now) (S g.now))) }
 {
     match first.get().to() {
         U::Sum(f) => match under_sum(moves, f.get(), g, turns)? {
@@ -96,7 +100,8 @@ fn under_sum<'f>(
     requires f { IsKnown 1 moves.outs f.now }
     requires g { IsKnown 1 moves.outs g.now }
     requires few { length turns.now < 2048 }
-    ensures { IfOk result (IsMeetingInside moves.entry.facts.now moves.entry.outs turns.now f.now g.now) }
+    ensures leads { IfOk result (IsMeetingInside moves.entry.facts.now moves.entry.outs turns.now f.now g.now) }
+    ensures costs { IfOk result (λ found. IfSome found (KeepsMeetingCosts (length turns.now + 1) (length turns.now) (S f.now) (S g.now))) }
 {
     let inner = inside(moves)?;
     let left = Boxed::new(moves.alloc, opened(moves.alloc, f, moves.outs)?)?;
@@ -112,7 +117,8 @@ fn outward<'f>(moves: Moves<'f>, turn: u32, f: &U) -> Result<Option<Derived<'f>>
     requires f { IsKnown 1 moves.outs f.now }
     requires some { 0 < turn }
     requires few { turn < 2048 }
-    ensures { IfOk result (IsOutward moves.entry.facts.now moves.entry.outs turn f.now) }
+    ensures leads { IfOk result (IsOutward moves.entry.facts.now moves.entry.outs turn f.now) }
+    ensures costs { IfOk result (λ found. IfSome found (OutwardCosts f.now)) }
 {
     match inside_sums(f, turn) {
         Some(body) => {

@@ -3,7 +3,7 @@ ghost use Rattle.std.specs.Prelude.{◌≡◌, All, IfOk, MatchOption, None, len
 ghost use Rattle.u_rules.specs.Terms as spec;
 ghost use Rattle.u_rules.specs.Terms.{add_leaves};
 ghost use Rattle.term_shapes.specs.TermShape.{term_shape};
-ghost use Rattle.u_bag.specs.Pairs.{AreBlocks, AreFoundAmong, ArePartners, AreTables, IsAnswer, IsBlock, IsPartner, IsWholeBlock, SomeShapeless};
+ghost use Rattle.u_bag.specs.Pairs.{AreBlocks, AreFoundAmong, ArePartners, AreTables, IsAnswer, IsBlock, IsPartner, IsOfWholeShape, SomeShapeless};
 
 use crate::NoMemory;
 use bag_search::{Match, match_shapes};
@@ -120,8 +120,8 @@ fn pair_all<'a>(
     rights: Vec<Block<'a>>,
     budget: u64,
 ) -> Result<Partners<'a>, NoMemory>
-    requires lefts { All IsWholeBlock lefts.now }
-    requires rights { All IsWholeBlock rights.items }
+    requires lefts { All IsOfWholeShape lefts.now }
+    requires rights { All IsOfWholeShape rights.items }
     requires as_many { length lefts.now ≡ length rights.items }
     ensures { IfOk result (AreFoundAmong lefts.now rights.entry.items budget) }
 {
@@ -151,8 +151,8 @@ fn first_partner(
     rights: &[Block<'_>],
     budget: u64,
 ) -> Result<Partner, NoMemory>
-    requires left { IsWholeBlock left.now }
-    requires rights { All IsWholeBlock rights.now }
+    requires left { IsOfWholeShape left.now }
+    requires rights { All IsOfWholeShape rights.now }
     ensures { IfOk result (IsPartner left.now.shape rights.now budget) }
 {
     let mut spent = false;
@@ -172,11 +172,11 @@ fn first_partner(
 
 // How the entries of two blocks are paired. Blocks of other tables are told apart without a search.
 fn alike(alloc: Global, left: &Block<'_>, right: &Block<'_>, budget: u64) -> Result<Match, NoMemory>
-    requires left { IsWholeBlock left.now }
-    requires right { IsWholeBlock right.now }
+    requires left { IsOfWholeShape left.now }
+    requires right { IsOfWholeShape right.now }
     ensures { IfOk result (IsAnswer left.now.shape right.now.shape budget) }
 {
-    if left.tables == right.tables && left.shape.outputs.len() == right.shape.outputs.len() {
+    if left.tables == right.tables {
         match_shapes(alloc, &left.shape, &right.shape, budget)
     } else {
         Ok(Match::Nothing)

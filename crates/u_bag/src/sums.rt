@@ -1,8 +1,9 @@
 //! Sums of blocks: each block of the one is paired with a block of its own of the other.
-ghost use Rattle.std.specs.Prelude.{All, IfOk, MatchOption};
+ghost use Rattle.std.specs.Prelude.{All, IfOk, IfSome, MatchOption};
 ghost use Rattle.u_rules.specs.Terms.{add_leaves};
 ghost use Rattle.u_moves.specs.Derivations.{IsKnown};
 ghost use Rattle.u_congruence.specs.Congruence.{IsFromTo};
+ghost use Rattle.u_bag.specs.Costs.{KeepsAddedCosts, KeepsPairsCosts};
 ghost use Rattle.u_bag.specs.Pairs.{ArePairs, HasPairing, lefts_of};
 ghost use Rattle.u_bag.specs.Shapes.{SomeHasTooManySums};
 ghost use Rattle.u_bag.specs.Sums.{AreKnownPairs, AreMade, IsFromPairs, IsSumsMatch};
@@ -48,7 +49,7 @@ fn made<'f>(
     requires left { IsKnown 0 moves.outs left.now }
     requires right { IsKnown 0 moves.outs right.now }
     requires pairs { ArePairs (add_leaves left.now) (add_leaves right.now) pairs.now }
-    ensures { IfOk result (AreMade moves.entry.facts.now moves.entry.outs left.now right.now) }
+    ensures { IfOk result (AreMade moves.entry.facts.now moves.entry.outs left.now right.now pairs.now) }
 {
     match by_pairs(moves, left, right, pairs)? {
         Some(deriv) => Ok(Matched::Found {
@@ -68,7 +69,8 @@ fn by_pairs<'f>(
     requires left { IsKnown 0 moves.outs left.now }
     requires right { IsKnown 0 moves.outs right.now }
     requires pairs { ArePairs (add_leaves left.now) (add_leaves right.now) pairs.now }
-    ensures { IfOk result (λ found. MatchOption found (SomeHasTooManySums (add_leaves left.now)) (IsFromTo moves.entry.facts.now moves.entry.outs left.now right.now)) }
+    ensures leads { IfOk result (λ found. MatchOption found (SomeHasTooManySums (add_leaves left.now)) (IsFromTo moves.entry.facts.now moves.entry.outs left.now right.now)) }
+    ensures costs { IfOk result (λ found. IfSome found (KeepsPairsCosts moves.entry.outs left.now right.now pairs.now)) }
 {
     let Some(between) = added_pairs(moves, pairs)? else {
         return Ok(None);
@@ -82,7 +84,8 @@ fn by_pairs<'f>(
 fn added_pairs<'f>(moves: Moves<'f>, pairs: &[Pair<'_>]) -> Result<Option<Derived<'f>>, NoMemory>
     requires known { AreKnownPairs moves.outs pairs.now }
     requires paired { All HasPairing pairs.now }
-    ensures { IfOk result (λ found. MatchOption found (SomeHasTooManySums (lefts_of pairs.now)) (IsFromPairs moves.entry.facts.now moves.entry.outs pairs.now)) }
+    ensures leads { IfOk result (λ found. MatchOption found (SomeHasTooManySums (lefts_of pairs.now)) (IsFromPairs moves.entry.facts.now moves.entry.outs pairs.now)) }
+    ensures costs { IfOk result (λ found. IfSome found (KeepsAddedCosts moves.entry.outs pairs.now)) }
 {
     match pairs {
         [] => Ok(Some(still(moves, Boxed::new(moves.alloc, U::Zero)?)?)),

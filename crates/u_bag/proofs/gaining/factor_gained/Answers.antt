@@ -4,12 +4,12 @@ use Rattle.u_bag.specs.Rows.{IsFactorGained, IsMarkGained}
 use Rattle.u_bag.proofs.Marked.{as-factor}
 use Rattle.u_bag.proofs.gaining.factor_gained.Goals as goal
 
-pub returns-in_default : goal.returns-in_default
-returns-in_default c =
+pub returns-in_default-clause-leads : goal.returns-in_default-clause-leads
+returns-in_default-clause-leads c =
     let F = c.args.moves.facts.now in
     let names = c.args.moves.outs in
     let product = c.args.classes.now in
     let factors = terms c.args.factors.now in
     let wanted = c.args.wanted.now in
     IfOk-weaker c.mark_gained.result (IsMarkGained F names product factors wanted) (IsFactorGained F names product factors wanted)
-    (as-factor F names product factors wanted c.in_default.not-Eq) c.mark_gained.ensures
+    (as-factor F names product factors wanted c.in_default.not-Eq) c.mark_gained.ensures.leads

@@ -7,7 +7,7 @@ use Rattle.std.proofs.lemmas.List.Sorted.{IsPermutation-refl}
 use Rattle.shapes.specs.Unions.{AllAlike, no_blocks}
 use Rattle.u_bag.specs.declared.pairs.Block.{Block}
 use Rattle.u_bag.specs.declared.pairs.Pair.{Pair}
-use Rattle.u_bag.specs.Pairs.{IsAbove, IsFoundAmong, IsPartner, IsPartnerAt, IsWholeBlock, lefts_of, rights_of, shapes_of, terms_of}
+use Rattle.u_bag.specs.Pairs.{SomeSpendsBudget, IsFoundAmong, IsPartner, IsPartnerAt, IsOfWholeShape, lefts_of, rights_of, shapes_of, terms_of}
 use Rattle.u_bag.proofs.Partners.{alike-by, before-alike, all-among, all-here, all-left_over, first-left, next-alike, next-lefts, next-rights, no-partner}
 use Rattle.u_bag.proofs.pairs.pair_all.Goals as goal
 
@@ -26,7 +26,7 @@ loop-left-init c =
 
 pub first_partner-requires-clause-rights : goal.first_partner-requires-clause-rights
 first_partner-requires-clause-rights c =
-    subst (All IsWholeBlock) (sym c.as_slice.ensures.value) (all-among IsWholeBlock c.args.rights.items c.loop-left.rest.items c.requires.rights c.loop-left.invariant.rest_in)
+    subst (All IsOfWholeShape) (sym c.as_slice.ensures.value) (all-among IsOfWholeShape c.args.rights.items c.loop-left.rest.items c.requires.rights c.loop-left.invariant.rest_in)
 
 pub loop-left-preserved : goal.loop-left-preserved
 loop-left-preserved c =
@@ -62,8 +62,8 @@ loop-left-preserved c =
       rest_in = all-left_over R rest c.in-At.place h.rest_in;
       alike = (
         λ a. next-alike c.args.lefts.now c.args.rights.items rest c.loop-left.pairs.items c.push.new.self.items i c.in-At.place left right pair less c.left-item.is within c.remove-right.ensures.value more
-            c.requires.lefts (all-among IsWholeBlock c.args.rights.items rest c.requires.rights h.rest_in)
-            (All-contains IsWholeBlock c.args.lefts.now left c.requires.lefts (i, less, sym c.left-item.is)) alike (h.alike.0 a),
+            c.requires.lefts (all-among IsOfWholeShape c.args.rights.items rest c.requires.rights h.rest_in)
+            (All-contains IsOfWholeShape c.args.lefts.now left c.requires.lefts (i, less, sym c.left-item.is)) alike (h.alike.0 a),
         λ a. h.alike.1 (before-alike c.args.lefts.now c.args.rights.items rest c.loop-left.pairs.items c.push.new.self.items i c.in-At.place left right pair less c.left-item.is within c.remove-right.ensures.value more alike a),
       );
     })
@@ -79,7 +79,7 @@ returns-in-Nowhere c a =
 
 pub returns-in-Spent : goal.returns-in-Spent
 returns-in-Spent c =
-    let a : IsAbove c.left-item.result.shape c.as_slice.result.now c.args.budget =
+    let a : SomeSpendsBudget c.left-item.result.shape c.as_slice.result.now c.args.budget =
     subst (IsPartner c.left-item.result.shape c.as_slice.result.now c.args.budget) c.in-Spent.is (c.in_ok-place.ensures {u = tt}) in
     let there : Contains c.loop-left.rest.items a.block = subst (λ (bs : List Block). Contains bs a.block) c.as_slice.ensures.value a.is_in in
     record {

@@ -5,7 +5,7 @@ use Rattle.std.proofs.lemmas.Option.{MatchOption-at_none, MatchOption-at_some}
 use Rattle.std.proofs.lemmas.Result.{IfOk-weaker}
 use Rattle.u_terms.specs.Syntax.{U}
 use Rattle.u_rules.specs.Terms.{add_leaves, terms}
-use Rattle.u_bag.specs.Pairs.{AreBlocks, AreFoundAmong, ArePartners, IsWholeBlock, SomeShapeless}
+use Rattle.u_bag.specs.Pairs.{AreBlocks, AreFoundAmong, ArePartners, IsOfWholeShape, SomeShapeless}
 use Rattle.u_bag.proofs.SumBlocks.{are-whole, left-shapeless, pairable-long, partners-of, right-shapeless}
 use Rattle.u_bag.proofs.pairs.pair_sums.Goals as goal
 
@@ -33,7 +33,7 @@ pair_all-requires-clause-lefts c =
     let l : terms c.as_slice.result.now ≡ add_leaves c.args.left.now = ap terms c.as_slice.ensures ∙ c.in_ok-lefts.ensures {u = tt} in
     let ls : AreBlocks c.args.outs (add_leaves c.args.left.now) c.in-Some.lefts.items =
     subst (λ (us : List U). AreBlocks c.args.outs us c.in-Some.lefts.items) l (MatchOption-at_some (SomeShapeless c.args.outs (terms c.as_slice.result.now)) (λ bs. AreBlocks c.args.outs (terms c.as_slice.result.now) bs.items) c.in-Some.lefts c.in-Some.is (c.in_ok-lefts-2.ensures {u = tt})) in
-    subst (All IsWholeBlock) (sym c.as_slice-3.ensures.value) (are-whole c.args.outs (add_leaves c.args.left.now) c.in-Some.lefts.items ls)
+    subst (All IsOfWholeShape) (sym c.as_slice-3.ensures.value) (are-whole c.args.outs (add_leaves c.args.left.now) c.in-Some.lefts.items ls)
 
 pub pair_all-requires-clause-rights : goal.pair_all-requires-clause-rights
 pair_all-requires-clause-rights c =

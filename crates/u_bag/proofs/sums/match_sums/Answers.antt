@@ -20,4 +20,5 @@ returns-in-All c =
     let left = c.args.left.now in
     let right = c.args.right.now in
     let found = subst (ArePartners c.args.outs (add_leaves c.args.left.now) (add_leaves c.args.right.now) c.args.budget) c.in-All.is (c.in_ok-pairs.ensures {u = tt}) in
-    IfOk-weaker c.made.result (AreMade F outs left right) (IsSumsMatch F outs left right c.args.budget) (made-sums F outs left right c.args.budget found.1) c.made.ensures
+    let pairs : ArePairs (add_leaves c.args.left.now) (add_leaves c.args.right.now) c.as_slice.result.now = subst (ArePairs (add_leaves c.args.left.now) (add_leaves c.args.right.now)) (sym c.as_slice.ensures.value) found.0 in
+    IfOk-weaker c.made.result (AreMade F outs left right c.as_slice.result.now) (IsSumsMatch F outs left right c.args.budget) (made-sums F outs left right c.args.budget c.as_slice.result.now pairs found.1) c.made.ensures
