@@ -1,17 +1,17 @@
 -- The text of a derivation that keeps the limits is a proof of its ends.
-use Rattle.std.proofs.Common.{ℕ, ◌≤◌, List, length, subst}
+use Rattle.std.proofs.Common.{ℕ, List, subst}
 use Rattle.std.specs.Prelude.{Option}
 use Rattle.u_terms.specs.Syntax.{U}
 use Rattle.u_terms.specs.declared.facts.Facts.{Facts}
 use Rattle.u_moves.specs.Derivations.{Derivation}
 use Rattle.u_prover.specs.Proving.{IsFound, KeepsLimits}
-use Rattle.proof_text.specs.Written.{ProofText}
+use Rattle.proof_text.specs.Written.{ProofText, proof_text}
 use Rattle.prove_run.specs.declared.proving.Searched.{Searched}
-use Rattle.prove_run.specs.Proving.{IsProof, IsSearched, most_proof_bytes}
+use Rattle.prove_run.specs.Proving.{IsProof, IsSearched}
 
-pub derivation-proof : (d : Derivation) (text : List ℕ) → KeepsLimits d → ProofText text d.outs d.steps → length text ≤ most_proof_bytes → IsProof d.facts d.outs d.from d.to text
-derivation-proof d text keeps spelled short = record {
-  short = short;
+pub derivation-proof : (d : Derivation) → KeepsLimits d → ProofText (proof_text d.outs d.steps) d.outs d.steps → IsProof d.facts d.outs d.from d.to (proof_text d.outs d.steps)
+derivation-proof d keeps spelled = record {
+  short = keeps.short;
   accepted = record { steps = d.steps; text = spelled; few = keeps.few; fit = keeps.fit };
 }
 

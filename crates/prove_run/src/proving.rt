@@ -4,8 +4,7 @@ ghost use Rattle.u_moves.specs.Derivations.{IsKnown};
 ghost use Rattle.u_prover.specs.Proving.{KeepsLimits};
 ghost use Rattle.prove_run.specs.Proving.{IsSearched};
 
-use crate::PROOF_LIMIT;
-use proof_text::{proof_bytes, write_proof};
+use proof_text::write_proof;
 use std::alloc::Global;
 use u_moves::Deriv;
 use u_prover::{Outcome, prove};
@@ -17,7 +16,7 @@ use udp_io::Sink;
 pub enum Searched {
     /// The text of a proof was written.
     Proved,
-    /// No proof is known, or none that is short enough, and nothing was written.
+    /// No proof within the limits is known, and nothing was written.
     Unknown {
         /// Whether the budget ended a search.
         spent: bool,
@@ -28,15 +27,12 @@ pub enum Searched {
     NoMemory,
 }
 
-// Writes the text of the derivation, where it is not too long.
+// Writes the text of the derivation.
 fn write_derivation<K: Sink>(deriv: &Deriv<'_>, out: &mut K) -> Searched
     requires { KeepsLimits deriv.now }
     ensures { (budget : ℕ) → IsSearched deriv.now.facts deriv.now.outs deriv.now.from deriv.now.to budget
         (K.written out.old) (K.written out.new) (K.faults out.old) (K.faults out.new) result }
 {
-    if proof_bytes(deriv.outs(), deriv.steps()) > PROOF_LIMIT as u64 {
-        return Searched::Unknown { spent: false };
-    }
     match write_proof(out, deriv.outs(), deriv.steps()) {
         Ok(()) => Searched::Proved,
         Err(_) => Searched::WriteFault,

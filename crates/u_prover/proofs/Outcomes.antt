@@ -1,56 +1,55 @@
 -- What a search comes to, by what was found on the way.
-use Rattle.std.proofs.Common.{◌≡◌, ℕ, List, length, Bool, ap, sym, subst, ◌∙◌, inl, inr, arith}
-use Rattle.std.specs.Prelude.{true, false}
-use Rattle.data_model.specs.Lists.{Each}
+use Rattle.std.proofs.Common.{◌≡◌, ℕ, Bool, Option, Some, None, ap, sym, subst, ◌∙◌, inl, inr}
+use Rattle.std.specs.Prelude.{MatchOption, true, false}
 use Rattle.u_terms.specs.Syntax.{U}
-use Rattle.u_terms.specs.Size as size
 use Rattle.u_terms.specs.declared.facts.Facts.{Facts}
-use Rattle.u_deriv.specs.declared.step.Step.{Step}
 use Rattle.u_deriv.specs.Steps.{Replays}
-use Rattle.u_moves.specs.Derivations.{Derivation, IsSound, IsStill}
+use Rattle.u_moves.specs.Derivations.{Derivation, IsSound}
 use Rattle.u_moves.proofs.Sound.{sound-plain}
 use Rattle.u_congruence.specs.Congruence.{IsFromTo}
-use Rattle.proof_check.specs.Limits.{IsWithin}
-use Rattle.u_prover.specs.declared.proving.Outcome.{Outcome}
-use Rattle.u_prover.specs.declared.proving.Outcome.TheVariants.{Found, Unknown}
+use Rattle.u_prover.specs.declared.deciding.Outcome.{Outcome}
+use Rattle.u_prover.specs.declared.deciding.Outcome.TheVariants.{Found, Unknown}
 use Rattle.u_rules.specs.Terms.{add_leaves}
-use Rattle.u_bag.specs.declared.blocks.Matched.{Matched}
-use Rattle.u_bag.specs.declared.blocks.Matched.TheVariants as matched
 use Rattle.u_bag.specs.Pairs.{SomePassBudget}
-use Rattle.u_bag.specs.Sums.{IsSumsMatch}
-use Rattle.u_prover.specs.Proving.{AreApart, IsBetween, IsFound, IsMissed, IsNormalEnd, IsNormalOf, IsOutcome, IsSmallStep, IsSpent, IsUnknown, IsWithinLimits, KeepsBounds, normal_terms_differ}
+use Rattle.u_prover.specs.Costs.{IsCheap}
+use Rattle.u_prover.specs.Proving.{AreApart, AreNoSmallTerm, IsEnding, IsFound, IsKept, IsMissed, IsNone, IsNormalEnd, IsNormalOf, IsOutcome, IsPassing, IsSpent, IsWithinLimits, normal_terms_differ}
+use Rattle.u_prover.proofs.Promised.{never-promised}
 
 -- ---- a derivation that was found
-bounds-still : (F : Facts) (outs : ℕ) (t : U) (d : Derivation) → IsStill F outs t d → IsWithin (size.nodes t) (size.depth t) → KeepsBounds d
-bounds-still F outs t d still within = record {
-  few = omega (arith, ap length still.steps);
-  within = record { few = omega (arith, still.nodes, within.few); flat = omega (arith, still.depth, within.flat) };
-  small = subst (λ (steps : List Step). Each (IsSmallStep d.facts) steps) (sym still.steps) tt;
-}
-
 unspent : (F : Facts) (outs : ℕ) (left right : U) (budget : ℕ) (spent : Bool) → spent ≡ false → spent ≡ true → IsSpent F outs left right budget
 unspent F outs left right budget spent off on = let e : false ≡ true = sym off ∙ on in absurd (cc)
 
-module _ (F : Facts) (outs : ℕ) (left right : U) (budget : ℕ) (d : Derivation) where
-  outcome-of : (o : Outcome) → IsWithinLimits d o → IsFromTo F outs left right d → (left ≡ right → IsWithin (size.nodes left) (size.depth left) → KeepsBounds d) → IsOutcome F outs left right budget o
-  outcome-of (Found deriv) h leads small =
-      subst (λ (e : Derivation). IsFound F outs left right e) (sym h.0) (record { facts = leads.facts; outs = leads.outs; from = leads.from; to = leads.to; limits = h.1 })
-  outcome-of (Unknown spent) h leads small = record {
-    spends = unspent F outs left right budget spent h.0;
-    differ = λ same within. h.2 (small same within);
-    cause = inr (h.0, record { deriv = d; leads = leads; sound = h.1; passes = h.2 });
+module _ (F : Facts) (outs : ℕ) (left right : U) (d : Derivation) where
+  pub found-of : (e : Derivation) → IsKept d e → IsFromTo F outs left right d → IsFound F outs left right e
+  found-of e kept leads = record {
+    facts = ap (λ (x : Derivation). x.facts) kept.is ∙ leads.facts;
+    outs = ap (λ (x : Derivation). x.outs) kept.is ∙ leads.outs;
+    from = ap (λ (x : Derivation). x.from) kept.is ∙ leads.from;
+    to = ap (λ (x : Derivation). x.to) kept.is ∙ leads.to;
+    limits = kept.limits;
   }
 
-  pub outcome-joined : (left ≡ right → ⊥) → (o : Outcome) → IsWithinLimits d o → IsFromTo F outs left right d → IsOutcome F outs left right budget o
-  outcome-joined differ o h leads = outcome-of o h leads (λ same. absurd (differ same))
+  pub ending-of : (budget : ℕ) (o : Outcome) → IsWithinLimits d o → IsFromTo F outs left right d → IsCheap outs left right d → IsEnding F outs left right budget o
+  ending-of budget (Found deriv) h leads cheap = found-of deriv h leads
+  ending-of budget (Unknown spent) h leads cheap = record {
+    spends = unspent F outs left right budget spent h.0;
+    cause = let passing = h.1 in inr (h.0, record { deriv = d; leads = leads; sound = passing.sound; passes = passing.passes; costs = cheap });
+  }
 
-pub outcome-still : (F : Facts) (outs : ℕ) (t : U) (budget : ℕ) (d : Derivation) → IsStill F outs t d → (o : Outcome) → IsWithinLimits d o → IsOutcome F outs t t budget o
-outcome-still F outs t budget d still o h =
-    outcome-of F outs t t budget d o h (record { facts = still.facts; outs = still.outs; from = still.from; to = still.to }) (λ same within. bounds-still F outs t d still within)
+-- without a step, or by one
+pub at-once : (F : Facts) (outs : ℕ) (left right : U) (d : Derivation) (o : Option Derivation) → MatchOption o (IsPassing d) (IsKept d) → IsFromTo F outs left right d
+    → (IsPassing d → AreNoSmallTerm left right) → MatchOption o (AreNoSmallTerm left right) (IsFound F outs left right)
+at-once F outs left right d None passing leads differ = differ passing
+at-once F outs left right d (Some e) kept leads differ = found-of F outs left right d e kept leads
 
-pub missed-unknown : (F : Facts) (outs : ℕ) (left right : U) (budget : ℕ) (spent : Bool) → (left ≡ right → ⊥) → IsMissed F outs left right budget spent
-    → (spent ≡ true → IsSpent F outs left right budget) → IsUnknown F outs left right budget spent
-missed-unknown F outs left right budget spent differ missed spends = record { spends = spends; differ = λ same. absurd (differ same); cause = inl missed }
+pub outcome-of : (F : Facts) (outs : ℕ) (left right : U) (budget : ℕ) → AreNoSmallTerm left right → (o : Outcome) → IsEnding F outs left right budget o → IsOutcome F outs left right budget o
+outcome-of F outs left right budget differ (Found deriv) h = h
+outcome-of F outs left right budget differ (Unknown spent) h =
+    record { spends = h.spends; differ = differ; unpromised = never-promised F outs left right budget spent h.cause; cause = h.cause }
+
+pub missed-none : (F : Facts) (outs : ℕ) (left right : U) (budget : ℕ) (spent : Bool) → IsMissed F outs left right budget spent
+    → (spent ≡ true → IsSpent F outs left right budget) → IsNone F outs left right budget spent
+missed-none F outs left right budget spent missed spends = record { spends = spends; cause = inl missed }
 
 -- ---- normal terms
 pub normal-of : (F : Facts) (outs : ℕ) (d : Derivation) → IsNormalEnd F outs d → IsSound d → IsNormalOf F outs d.from d.to
@@ -59,6 +58,10 @@ normal-of F outs d end sound = record {
   replays = subst (λ (n : ℕ). Replays F n d.from d.steps d.to) end.outs (subst (λ (G : Facts). Replays G d.outs d.from d.steps d.to) end.facts (sound-plain d sound));
   normal = end.normal;
 }
+
+-- a derivation from its first term
+pub by-ends : (F : Facts) (outs : ℕ) (down : Derivation) (right : U) (d : Derivation) → IsNormalEnd F outs down → IsFromTo down.facts down.outs down.from right d → IsFromTo F outs down.from right d
+by-ends F outs down right d end leads = record { facts = leads.facts ∙ end.facts; outs = leads.outs ∙ end.outs; from = leads.from; to = leads.to }
 
 pub ends-apart : (F : Facts) (outs : ℕ) (down up : Derivation) → IsNormalEnd F outs down → IsNormalEnd F outs up → IsSound down → IsSound up → (down.to ≡ up.to → ⊥) → AreApart F outs down.from up.from
 ends-apart F outs down up end_down end_up sound_down sound_up differ =
@@ -73,9 +76,3 @@ ends-spent F outs down up budget end_down end_up sound_down sound_up passes = re
   right_leads = normal-of F outs up end_up sound_up;
   passes = passes;
 }
-
--- what a pairing of the blocks comes to
-pub by-blocks : (F : Facts) (outs : ℕ) (left right : U) (budget : ℕ) (m : Matched) → IsSumsMatch F outs left right budget m → IsBetween F outs left right budget m
-by-blocks F outs left right budget (matched.Found d) h = h.leads
-by-blocks F outs left right budget matched.Nothing h = h
-by-blocks F outs left right budget matched.Spent h = h

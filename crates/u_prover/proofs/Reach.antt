@@ -1,7 +1,8 @@
 -- Normal terms keep the shapes of a sum of blocks, so where its blocks cannot be paired the first terms are no sums that are alike, and where the
 -- budget ends a search among them it does so for two of the shapes.
-use Rattle.std.proofs.Common.{◌≡◌, ℕ, zero, suc, ◌<◌, true, false, List, [], ◌∷◌, ◌++◌, length, get_or, map, Option, Some, None, refl, ap, sym, ◌∙◌, subst, arith}
-use Rattle.std.specs.Prelude.{Contains, MatchOption}
+use Rattle.std.proofs.Common.{◌≡◌, ℕ, zero, suc, ◌<◌, true, false, List, [], ◌∷◌, ◌++◌, length, get_or, map, Option, Some, None, refl, ap, sym, ◌∙◌, subst, inl, inr, arith}
+use Rattle.std.specs.Prelude.{Contains, IfOk, MatchOption, Result}
+use Rattle.std.specs.declared.alloc.AllocError.{AllocError as NoMemory}
 use Rattle.std.proofs.lemmas.List.{map-append}
 use Rattle.std.proofs.lemmas.Option.{same_Some}
 use Rattle.shapes.specs.Shapes.{Shape}
@@ -15,12 +16,16 @@ use Rattle.term_shapes.specs.Factors.{factors, sum_count, under_sums}
 use Rattle.term_shapes.specs.TermShape.{HasShape, term_shape}
 use Rattle.u_moves.specs.Derivations.{Derivation}
 use Rattle.normal_form.specs.NormalTerms.{IsNormal}
-use Rattle.shape_entails.proofs.Columns.{sums-columns}
+use Rattle.term_shapes.proofs.Columns.{sums-columns}
+use Rattle.u_congruence.specs.Congruence.{IsFromTo}
 use Rattle.u_normal.specs.Leading.{Leads}
 use Rattle.u_normal.specs.Shaped.{KeepsShapes, sum_of_shapes}
 use Rattle.u_bag.specs.Pairs.{CanBePaired, SomePassBudget}
 use Rattle.u_bag.specs.Shapes.{SomeHasTooManySums}
-use Rattle.u_prover.specs.Proving.{AreAlikeSums, AreApart, HasNoNormal, IsMadeNormal, IsMissed, IsNormalEnd, SomeSearchPasses, left_too_large, right_too_large}
+use Rattle.u_prover.specs.declared.deciding.Outcome.{Outcome}
+use Rattle.u_prover.specs.declared.simplifying.Ends.{Ends}
+use Rattle.u_prover.specs.Proving.{AreAlikeSums, AreApart, AreEnds, HasNoNormal, IsEnding, IsMadeNormal, IsMissed, IsNone, IsNormalEnd, SomeHasNoNormal, SomeSearchPasses, left_too_large, right_too_large}
+use Rattle.u_prover.proofs.Outcomes.{missed-none}
 
 -- ---- the blocks of a sum
 -- what has a shape is no sum
@@ -37,7 +42,7 @@ one-leaf outs (Rel table shape arguments) s h = refl
 one-leaf outs (Eq a b) s h = refl
 one-leaf outs (Pred symbol shape arguments) s h = refl
 
-blocks-shaped : (outs : ℕ) (t : U) (ss : List Shape) → HaveShapes outs t ss → map (term_shape outs) (add_leaves t) ≡ map Some ss
+pub blocks-shaped : (outs : ℕ) (t : U) (ss : List Shape) → HaveShapes outs t ss → map (term_shape outs) (add_leaves t) ≡ map Some ss
 blocks-shaped outs t ss (one_block {s = s} h) = ap (map (term_shape outs)) (one-leaf outs t s h) ∙ ap (λ (o : Option Shape). o ∷ []) h
 blocks-shaped outs t ss (two_sums {a = a} {b = b} {ss = ls} {ts = rs} h k) =
     ap (map (term_shape outs)) (add_leaves-Add a b) ∙ map-append (term_shape outs) (add_leaves a) (add_leaves b)
@@ -103,35 +108,59 @@ made-normal F outs u d leads keeps = record {
     facts = leads.facts;
     outs = leads.outs;
     normal = leads.reached;
-    shapes = λ ss h. (keeps.sum ss (subst (λ (t : U). HaveShapes outs t ss) leads.from h)).shapes;
+    keeps = λ ss h. keeps.sum ss (subst (λ (t : U). HaveShapes outs t ss) leads.from h);
   };
 }
 
 -- a sum of blocks that have shapes has its normal form
-pub left-missed : (F : Facts) (outs : ℕ) (left right : U) (budget : ℕ) → HasNoNormal F outs left → IsMissed F outs left right budget false
+left-missed : (F : Facts) (outs : ℕ) (left right : U) (budget : ℕ) → HasNoNormal F outs left → IsMissed F outs left right budget false
 left-missed F outs left right budget none = record {
   apart = left_too_large none.nodes none.large;
   beyond = λ h. let large = none.large in absurd (large.shapeless (sum_of_shapes h.ss h.left_has));
   above = λ e. absurd (cc);
 }
 
-pub right-missed : (F : Facts) (outs : ℕ) (left right : U) (budget : ℕ) → HasNoNormal F outs right → IsMissed F outs left right budget false
+right-missed : (F : Facts) (outs : ℕ) (left right : U) (budget : ℕ) → HasNoNormal F outs right → IsMissed F outs left right budget false
 right-missed F outs left right budget none = record {
   apart = right_too_large none.nodes none.large;
   beyond = λ h. let large = none.large in absurd (large.shapeless (sum_of_shapes h.ts h.right_has));
   above = λ e. absurd (cc);
 }
 
-pub none-large : (F : Facts) (outs : ℕ) (t : U) (o : Option Derivation) → ((d : Derivation) → o ≡ Some d → ⊥) → MatchOption o (HasNoNormal F outs t) (IsMadeNormal F outs t) → HasNoNormal F outs t
-none-large F outs t None never h = h
-none-large F outs t (Some d) never h = absurd (never d refl)
+pub ends-missed : (F : Facts) (outs : ℕ) (left right : U) (budget : ℕ) → SomeHasNoNormal F outs left right → IsNone F outs left right budget false
+ends-missed F outs left right budget some = missed-none F outs left right budget false (elim some [
+  | inl none ↦ left-missed F outs left right budget none
+  | inr none ↦ right-missed F outs left right budget none
+]) (λ e. absurd (cc))
+
+-- what is told where none was made
+pub none-told : {A : Type 0} (P : Type 0) (Q : A → Type 0) (o : Option A) → ((x : A) → o ≡ Some x → ⊥) → MatchOption o P Q → P
+none-told P Q None never h = h
+none-told P Q (Some x) never h = absurd (never x refl)
+
+-- ---- two of them
+pub ends-told : (F : Facts) (outs : ℕ) (left right : U) (o : Option Ends) (ends : Ends) → o ≡ Some ends → MatchOption o (SomeHasNoNormal F outs left right) (AreEnds F outs left right) → AreEnds F outs left right ends
+ends-told F outs left right o ends is told = subst (λ (x : Option Ends). MatchOption x (SomeHasNoNormal F outs left right) (AreEnds F outs left right)) is told
+
+module _ (F : Facts) (outs : ℕ) (left right : U) (ends : Ends) (are : AreEnds F outs left right ends) where
+  pub from-ends : (d : Derivation) → IsFromTo ends.down.facts ends.down.outs ends.down.from ends.up.from d → IsFromTo F outs left right d
+  from-ends d leads =
+      let down = are.down in
+      let up = are.up in
+      record { facts = leads.facts ∙ down.end.facts; outs = leads.outs ∙ down.end.outs; from = leads.from ∙ down.from; to = leads.to ∙ up.from }
+
+  pub ending-from : (budget : ℕ) (r : Result Outcome NoMemory) → IfOk r (IsEnding F outs ends.down.from ends.up.from budget) → IfOk r (IsEnding F outs left right budget)
+  ending-from budget r ending =
+      let down = are.down in
+      let up = are.up in
+      subst (λ (t : U). IfOk r (IsEnding F outs t right budget)) down.from (subst (λ (t : U). IfOk r (IsEnding F outs ends.down.from t budget)) up.from ending)
 
 -- ---- what is missed
 module _ (F : Facts) (outs : ℕ) (down up : Derivation) (budget : ℕ) (end_down : IsNormalEnd F outs down) (end_up : IsNormalEnd F outs up) (apart : AreApart F outs down.from up.from) where
   pub missed-apart : (CanBePaired outs (add_leaves down.to) (add_leaves up.to) → SomeHasTooManySums (add_leaves down.to)) → IsMissed F outs down.from up.from budget false
   missed-apart nothing = record {
     apart = apart;
-    beyond = λ h. absurd (not-alike outs down.from up.from h down.to up.to (end_down.shapes h.ss h.left_has) (end_up.shapes h.ts h.right_has) nothing);
+    beyond = λ h. absurd (not-alike outs down.from up.from h down.to up.to (end_down.keeps h.ss h.left_has).shapes (end_up.keeps h.ts h.right_has).shapes nothing);
     above = λ e. absurd (cc);
   }
 
@@ -139,5 +168,5 @@ module _ (F : Facts) (outs : ℕ) (down up : Derivation) (budget : ℕ) (end_dow
   missed-spent passes = record {
     apart = apart;
     beyond = λ h. refl;
-    above = λ e ss ts left right. search-passes outs budget ss ts down.to up.to (end_down.shapes ss left) (end_up.shapes ts right) passes;
+    above = λ e ss ts left right. search-passes outs budget ss ts down.to up.to (end_down.keeps ss left).shapes (end_up.keeps ts right).shapes passes;
   }

@@ -1,12 +1,13 @@
 //! The limits that a proof keeps, told of the derivation that it is to be the text of.
-ghost use Rattle.std.specs.Prelude.{◌↔◌, IsTrue};
+ghost use Rattle.std.specs.Prelude.{◌↔◌, ◌≤◌, IsTrue, MatchBool, length};
 ghost use Rattle.data_model.specs.Lists.{Each};
 ghost use Rattle.proof_check.specs.Limits.{IsWithin, SidesAreSmall};
-ghost use Rattle.proof_text.specs.Written.{IsSmall};
+ghost use Rattle.proof_text.specs.Written.{IsSmall, IsWritable, proof_text};
 ghost use Rattle.u_moves.specs.Derivations.{IsSound};
-ghost use Rattle.u_prover.specs.Proving.{IsSmallStep, KeepsBounds, KeepsLimits};
+ghost use Rattle.u_prover.specs.Proving.{IsSmallStep, KeepsCounts, KeepsLimits, PassesOne, most_proof_bytes};
 ghost use Rattle.u_terms.specs.Size as size;
 
+use proof_text::proof_bytes;
 use u_deriv::Step;
 use u_moves::Deriv;
 use u_rules::{Arg, Rule, Sizes, sizes};
@@ -21,15 +22,34 @@ const MOST_NODES: u64 = 200_000;
 /// The greatest depth of a term.
 const MOST_DEPTH: u64 = 2_048;
 
-/// Whether the derivation's proof keeps each limit but that on bytes. One with inner steps is not told to.
+/// The most bytes of a proof.
+const MOST_BYTES: u64 = 1_073_741_824;
+
+/// Whether the derivation's proof keeps each limit. One with inner steps is not told to.
 pub fn keeps_limits(d: &Deriv<'_>) -> bool
-    ensures exact { IsTrue result ↔ KeepsBounds d.now }
-    ensures kept { IsTrue result → KeepsLimits d.now }
+    ensures exact { MatchBool result (KeepsLimits d.now) (PassesOne d.now) }
+    ensures sound { IsSound d.now }
+{
+    keeps_counts(d) && has_short_text(d)
+}
+
+// Whether it keeps the limits that are seen without its text.
+fn keeps_counts(d: &Deriv<'_>) -> bool
+    ensures exact { IsTrue result ↔ KeepsCounts d.now }
     ensures sound { IsSound d.now }
 {
     d.steps().len() <= MOST_STEPS
         && is_within(d.nodes(), d.depth())
         && are_small(d.facts(), d.steps().as_slice())
+}
+
+// Whether the text of the proof is within its length. This walks all steps.
+fn has_short_text(d: &Deriv<'_>) -> bool
+    requires { KeepsCounts d.now }
+    ensures exact { IsTrue result ↔ (length (proof_text d.now.outs d.now.steps) ≤ most_proof_bytes) }
+    ensures writable { Each IsWritable d.now.steps }
+{
+    proof_bytes(d.outs(), d.steps()) <= MOST_BYTES
 }
 
 // Whether no step has inner steps, or an argument or a side that passes a limit.

@@ -2,10 +2,11 @@
 ghost use Rattle.std.specs.Prelude.{◌≡◌, ◌↔◌, IfOk, IfSome, IsTrue, MatchOption};
 ghost use Rattle.u_congruence.specs.Congruence.{IsBy, IsFromTo};
 ghost use Rattle.u_moves.specs.Derivations.{IsKnown, IsSound};
-ghost use Rattle.u_prover.specs.Proving.{HasNoNormal, IsBetween, IsMadeNormal, IsMet, IsNormalEnd};
+ghost use Rattle.u_prover.specs.Proving.{AreEnds, HasNoNormal, IsEnding, IsMadeNormal, IsNormalEnd, IsThere, IsThrough, SomeHasNoNormal};
 ghost use Rattle.u_simple.specs.Passes.{IsFrom};
 
 use crate::NoMemory;
+use crate::deciding::{Outcome, kept, within_limits};
 use std::alloc::{AllocError, Global};
 use u_bag::{Matched, match_sums};
 use u_congruence::{Derived, joined};
@@ -14,35 +15,70 @@ use u_normal::{NormalFault, normal};
 use u_simple::{in_order, without_points};
 use u_terms::{Boxed, U, same};
 
-/// Whether both terms lead to one.
+/// From two terms to their normal forms.
 #[derive(Drop)]
-pub enum Met<'f> {
-    /// From the left term to the right one.
-    Joined { deriv: Deriv<'f> },
-    /// They do not, as far as is known.
-    Apart,
-    /// The same, and the budget ended a search.
-    Spent,
+pub struct Ends<'f> {
+    pub down: Derived<'f>,
+    pub up: Derived<'f>,
 }
 
-/// From the left term to the right one by way of their normal forms, unless one is too large. The budget is that of each two blocks.
+/// From the left term to the right one by way of their normal forms, unless one is too large: where these differ, by order if no limit is
+/// passed so, and else by blocks. The budget is that of each two blocks.
 pub fn by_normal_forms<'f>(
     moves: Moves<'f>,
     left: &U,
     right: &U,
     budget: u64,
-) -> Result<Met<'f>, NoMemory>
+) -> Result<Outcome<'f>, NoMemory>
     requires left { IsKnown 0 moves.outs left.now }
     requires right { IsKnown 0 moves.outs right.now }
-    ensures { IfOk result (IsMet moves.entry.facts.now moves.entry.outs left.now right.now budget) }
+    ensures { IfOk result (IsEnding moves.entry.facts.now moves.entry.outs left.now right.now budget) }
+{
+    let Some(ends) = normal_ends(moves, left, right)? else {
+        return Ok(Outcome::Unknown { spent: false });
+    };
+    let Ends { down, up } = ends;
+    match by_order(moves, down.get().to(), up.get().to())? {
+        Some(between) => match kept(through(moves.alloc, down, between.into_inner(), up)?) {
+            Some(deriv) => Ok(Outcome::Found { deriv }),
+            None => by_blocks(moves, left, right, budget),
+        },
+        None => from_normal_terms(moves, down, up, budget),
+    }
+}
+
+// The same but by order: the way to the normal forms has gone into a derivation that passes a limit, so it is found anew.
+fn by_blocks<'f>(
+    moves: Moves<'f>,
+    left: &U,
+    right: &U,
+    budget: u64,
+) -> Result<Outcome<'f>, NoMemory>
+    requires left { IsKnown 0 moves.outs left.now }
+    requires right { IsKnown 0 moves.outs right.now }
+    ensures { IfOk result (IsEnding moves.entry.facts.now moves.entry.outs left.now right.now budget) }
+{
+    let Some(ends) = normal_ends(moves, left, right)? else {
+        return Ok(Outcome::Unknown { spent: false });
+    };
+    let Ends { down, up } = ends;
+    from_normal_terms(moves, down, up, budget)
+}
+
+// From both terms to their normal forms, unless one is too large.
+fn normal_ends<'f>(moves: Moves<'f>, left: &U, right: &U) -> Result<Option<Ends<'f>>, NoMemory>
+    requires left { IsKnown 0 moves.outs left.now }
+    requires right { IsKnown 0 moves.outs right.now }
+    ensures { IfOk result (λ found. MatchOption found (SomeHasNoNormal moves.entry.facts.now moves.entry.outs left.now right.now)
+        (AreEnds moves.entry.facts.now moves.entry.outs left.now right.now)) }
 {
     let Some(down) = made_normal(moves, left)? else {
-        return Ok(Met::Apart);
+        return Ok(None);
     };
     let Some(up) = made_normal(moves, right)? else {
-        return Ok(Met::Apart);
+        return Ok(None);
     };
-    from_normal_terms(moves, down, up, budget)
+    Ok(Some(Ends { down, up }))
 }
 
 // From a term to its normal form, unless that is too large.
@@ -57,52 +93,44 @@ fn made_normal<'f>(moves: Moves<'f>, u: &U) -> Result<Option<Derived<'f>>, NoMem
     }
 }
 
-// From the first term of the one derivation to that of the other: both end in normal form, and go on only where these differ.
+// From the first term of the one derivation to that of the other: both end in normal form, which is the same, or its blocks are paired.
 fn from_normal_terms<'f>(
     moves: Moves<'f>,
     down: Derived<'f>,
     up: Derived<'f>,
     budget: u64,
-) -> Result<Met<'f>, NoMemory>
+) -> Result<Outcome<'f>, NoMemory>
     requires down { IsNormalEnd moves.facts.now moves.outs down }
     requires up { IsNormalEnd moves.facts.now moves.outs up }
-    ensures { IfOk result (IsMet moves.entry.facts.now moves.entry.outs down.entry.from up.entry.from budget) }
+    ensures { IfOk result (IsEnding moves.entry.facts.now moves.entry.outs down.entry.from up.entry.from budget) }
 {
     if end_alike(&down, &up) {
         let whole = joined_back(moves.alloc, down, up)?;
-        return Ok(Met::Joined {
-            deriv: whole.into_inner(),
-        });
+        return Ok(within_limits(whole.into_inner()));
     }
-    match between(moves, down.get().to(), up.get().to(), budget)? {
-        Matched::Found { deriv } => Ok(Met::Joined {
-            deriv: through(moves.alloc, down, deriv, up)?,
-        }),
-        Matched::Nothing => Ok(Met::Apart),
-        Matched::Spent => Ok(Met::Spent),
-    }
-}
-
-// From the one term to the other, where both lead to the same simpler term, or are sums of blocks that are alike.
-fn between<'f>(moves: Moves<'f>, left: &U, right: &U, budget: u64) -> Result<Matched<'f>, NoMemory>
-    requires left { IsKnown 0 moves.outs left.now }
-    requires right { IsKnown 0 moves.outs right.now }
-    ensures { IfOk result (IsBetween moves.entry.facts.now moves.entry.outs left.now right.now budget) }
-{
-    match by_order(moves, left, right)? {
-        Some(d) => Ok(Matched::Found {
-            deriv: d.into_inner(),
-        }),
-        None => match_sums(moves.alloc, moves.facts, moves.outs, left, right, budget),
+    match match_sums(
+        moves.alloc,
+        moves.facts,
+        moves.outs,
+        down.get().to(),
+        up.get().to(),
+        budget,
+    )? {
+        Matched::Found { deriv } => Ok(within_limits(through(moves.alloc, down, deriv, up)?)),
+        Matched::Nothing => Ok(Outcome::Unknown { spent: false }),
+        Matched::Spent => Ok(Outcome::Unknown { spent: true }),
     }
 }
 
-// From the one term to the other by way of these in order, so that which value a sum has does not depend on how its factors were written.
+// From the one term to another by way of these in order, so that which value a sum has does not depend on how its factors were written.
 fn by_order<'f>(moves: Moves<'f>, left: &U, right: &U) -> Result<Option<Derived<'f>>, NoMemory>
     requires left { IsKnown 0 moves.outs left.now }
     requires right { IsKnown 0 moves.outs right.now }
     ensures { IfOk result (λ found. IfSome found (IsFromTo moves.entry.facts.now moves.entry.outs left.now right.now)) }
 {
+    if same(left, right) {
+        return Ok(None);
+    }
     let down = in_order(moves, left)?;
     let up = in_order(moves, right)?;
     if end_alike(&down, &up) {
@@ -175,7 +203,8 @@ fn joined_back<'f>(
     requires joins { first.to ≡ other.to }
     requires facts { first.facts ≡ other.facts }
     requires outs { first.outs ≡ other.outs }
-    ensures { IfOk result (IsFromTo first.entry.facts first.entry.outs first.entry.from other.entry.from) }
+    ensures ends { IfOk result (IsFromTo first.entry.facts first.entry.outs first.entry.from other.entry.from) }
+    ensures steps { IfOk result (IsThere first.entry other.entry) }
 {
     let rest = other.into_inner().back(alloc)?;
     Boxed::new(alloc, first.into_inner().then(alloc, rest)?)
@@ -191,7 +220,8 @@ fn through<'f>(
     requires between { IsFromTo first.facts first.outs first.to other.to between }
     requires facts { first.facts ≡ other.facts }
     requires outs { first.outs ≡ other.outs }
-    ensures { IfOk result (IsFromTo first.entry.facts first.entry.outs first.entry.from other.entry.from) }
+    ensures ends { IfOk result (IsFromTo first.entry.facts first.entry.outs first.entry.from other.entry.from) }
+    ensures steps { IfOk result (IsThrough first.entry between.entry other.entry) }
 {
     let first = first.into_inner().then(alloc, between)?;
     let rest = other.into_inner().back(alloc)?;

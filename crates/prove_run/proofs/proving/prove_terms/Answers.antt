@@ -1,6 +1,5 @@
 use Rattle.std.proofs.Common.{refl}
 use Rattle.u_prover.specs.Proving.{IsFound, IsUnknown}
-use Rattle.prove_run.specs.Proving.{none_known}
 use Rattle.prove_run.proofs.Written.{found-searched}
 use Rattle.prove_run.proofs.proving.prove_terms.Goals as goal
 
@@ -12,4 +11,4 @@ returns-in-Ok-Found g c =
 pub returns-in-Ok-Unknown : goal.returns-in-Ok-Unknown
 returns-in-Ok-Unknown g c =
     let unknown : IsUnknown c.args.facts.now c.args.outs c.args.left.now c.args.right.now c.args.budget c.in-Ok-Unknown.spent = rw c.in-Ok-Unknown.field-0-is at c.in-Ok-Unknown.ensures in
-    (refl, refl, none_known unknown)
+    (refl, refl, unknown)

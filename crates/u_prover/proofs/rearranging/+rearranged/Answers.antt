@@ -44,7 +44,7 @@ under_sum-returns-in-Some t c =
     let k : c.get-2.result.now ≡ opened c.args.g.now outs = c.get-2.ensures ∙ c.in_ok-right.ensures {u = tt} ∙ c.in_ok-opened-2.ensures {u = tt} in
     let part : IsFromTo c.in_ok-inner.inner.facts.now c.in_ok-inner.inner.outs c.get.result.now c.get-2.result.now c.in-Some.part =
     subst (λ o. IfSome o (IsFromTo c.in_ok-inner.inner.facts.now c.in_ok-inner.inner.outs c.get.result.now c.get-2.result.now)) c.in-Some.is (c.in_ok-part.ensures {u = tt}) in
-    let sum = c.in_ok-summed-in-Some.ensures {u = tt} in
+    let sum = c.in_ok-summed-in-Some.ensures.ends in
     record {
       facts = sum.facts;
       outs = sum.outs;
