@@ -1,3 +1,4 @@
 pub mod WordForms
 pub mod Searched
 pub mod Provings
+pub mod SmallCases

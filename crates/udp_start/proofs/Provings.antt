@@ -18,7 +18,7 @@ use Rattle.udp_run.specs.declared.answer.Status.TheVariants as status
 use Rattle.udp_run.specs.declared.answer.Verdict.{Verdict}
 use Rattle.udp_run.specs.declared.answer.Verdict.TheVariants.{Proved, StepFails, EndDiffers, CaseRefused, TermRefused, ProofRefused, NoSuchForm, CaseUnread, ProofUnread, CaseTooLong, ProofTooLong, OutOfMemory}
 use Rattle.udp_run.specs.Cases.{size_fault}
-use Rattle.udp_run.specs.Answer.{HasFailed, HasTerms, IsAnswer, IsCause, IsJust, IsProved, IsSaid, OfAny, Told, status_of, text_of}
+use Rattle.udp_run.specs.Answer.{HasFailed, HasTerms, IsAnswer, IsCause, IsJust, IsProved, OfAny, Told, status_of, text_of}
 use Rattle.udp_run.specs.Output.{case_status, case_text, read_status, read_text, size_status, size_text}
 use Rattle.udp_start.specs.Proving.{HasNoTerms, IsProving, IsWritten, PassesCaseLimit, not_known, not_sought, proved_by, unknown}
 use Rattle.udp_run.proofs.Exact.{is-found, just-usage, no-refusal, no-write_fault, said-answer, said-fault, said-status}

@@ -1,5 +1,5 @@
 -- From what a search for a proof of two terms came to, to what it says of the case.
-use Rattle.std.proofs.Common.{◌≡◌, ℕ, ◌≤◌, Bool, List, Option, Some, None, length, refl, sym, subst, inl, inr}
+use Rattle.std.proofs.Common.{◌≡◌, ℕ, Bool, List, Option, Some, None, refl, sym, subst, inl, inr}
 use Rattle.udp_io.specs.Faults.{Rose}
 use Rattle.udp_io.specs.Writing.{Grows, GrowsByPrefix}
 use Rattle.prove_run.specs.Proving as of_terms

@@ -1,2 +1,3 @@
 pub mod Words
 pub mod Proving
+pub mod SmallCases

@@ -4,7 +4,7 @@ use Rattle.sql_to_u.specs.Limits.{IsCause as IsSizeCause}
 use Rattle.sql_model.specs.declared.schema.Schema.{Schema}
 use Rattle.case_core.specs.declared.fault.CaseFault.{CaseFault}
 use Rattle.case_core.specs.declared.text.CaseText.{CaseText}
-use Rattle.prove_run.specs.Proving.{IsInVain}
+use Rattle.u_prover.specs.Proving.{IsUnknown}
 use Rattle.udp_io.specs.Faults.{Rose}
 use Rattle.udp_io.specs.Writing.{Grows, GrowsByPrefix}
 use Rattle.udp_run.specs.declared.answer.Status.{Status}
@@ -39,9 +39,9 @@ abbrev pub unknown : Bool → List ℕ
 unknown false = line (codes "unknown")
 unknown true = line (codes "unknown: budget spent")
 
--- no proof of the claim is written, for these reasons
+-- no proof of the claim is known, for these reasons
 abbrev pub SoughtInVain : ℕ → Bool → Claim → Type 0
-SoughtInVain budget spent claim = IsInVain claim.facts claim.outs claim.left claim.right budget spent
+SoughtInVain budget spent claim = IsUnknown claim.facts claim.outs claim.left claim.right budget spent
 
 abbrev pub IsNotKnown : ℕ → Bool → Schema → CaseText → Type 0
 IsNotKnown budget spent schema written = SoughtInVain budget spent (claim_of schema written)

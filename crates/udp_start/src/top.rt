@@ -1,13 +1,15 @@
 //! The top call.
-ghost use Rattle.std.specs.Prelude.{◌≡◌, ◌⊎◌, List, [], ℕ, codes};
+ghost use Rattle.std.specs.Prelude.{◌≡◌, ◌⊎◌, Bool, List, [], ℕ, codes};
+ghost use Rattle.alike_unions.specs.Unknown.{IsUnknownOf};
 ghost use Rattle.udp_io.specs.Faults.{Rose};
 ghost use Rattle.udp_io.specs.Writing.{Grows};
 ghost use Rattle.udp_run.specs.Answer.{AsksCheck, HasFailed, HasReadFault, IsAnswer, IsCause, IsCheck, IsFound, IsProof, IsProved, IsSaid, PassesLimit, TellsBoth, both_told};
 ghost use Rattle.udp_run.specs.Output.{line};
 ghost use Rattle.udp_run.specs.declared.answer.Verdict.{Verdict as TheVerdict};
 ghost use Rattle.udp_run.specs.declared.answer.Verdict.TheVariants.{NoSuchForm, Proved};
-ghost use Rattle.udp_start.specs.Proving.{IsProving, PassesCaseLimit, told_of};
-ghost use Rattle.udp_start.specs.Words.{AsksNoProof, AsksProof, IsNoForm, IsProve};
+ghost use Rattle.udp_start.specs.Proving.{IsProving, PassesCaseLimit, told_of, unknown};
+ghost use Rattle.udp_start.specs.SmallCases.{IsDoneOrFault, IsPromisedCase, IsSmallAlikeCase, IsUnionCase};
+ghost use Rattle.udp_start.specs.Words.{AsksNoProof, AsksProof, IsNoForm, IsProve, default_budget};
 
 use crate::proving::prove_case;
 use crate::words::proof_words;
@@ -60,6 +62,21 @@ pub fn start<S: Store, K: Sink>(
     // And with those that the case alone gives cause for, where a proof is asked for.
     ensures exact_case { (verdict : TheVerdict) → AsksProof words.now (λ case. IsCause verdict (S.text store.old case) None) →
         IsAnswer verdict (K.written out.old) (K.written out.new) result }
+
+    // The prover's promise. Of a case of two small filtered unions that are alike, with a budget for all lists of the entries of each block of the
+    // left one, a proof is written, unless the store or the sink fails or memory runs out.
+    ensures promised { (case : List ℕ) (budget : ℕ) → IsProve words.now case budget → IsPromisedCase budget (S.text store.old case) →
+        IsDoneOrFault result }
+
+    // The budget that is taken where the words say none is enough for each of them.
+    ensures by_default { (case : List ℕ) → IsProve words.now case default_budget → IsSmallAlikeCase (S.text store.old case) → IsDoneOrFault result }
+
+    // Where no proof is known of a case of two filtered unions, that the budget is spent is written only where a search for a pairing of two of
+    // their blocks passes it, and `unknown` only where they are not small or not alike.
+    ensures unknown { result ≡ Status.NotProved → (case : List ℕ) (budget : ℕ) → IsProve words.now case budget →
+        (text : List ℕ) → S.text store.old case ≡ Some text → (unions : IsUnionCase text) →
+        (spent : Bool) × IsUnknownOf unions.of_left.shapes unions.of_right.shapes budget spent
+        × Grows (K.written out.old) (K.written out.new) (unknown spent) }
 
     // `Usage` is answered exactly where the words are no form.
     ensures usage { result ≡ Status.Usage → IsNoForm words.now }

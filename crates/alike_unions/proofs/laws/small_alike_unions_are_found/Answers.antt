@@ -1,5 +1,8 @@
-use Rattle.alike_unions.proofs.Found.{small-limits}
+use Rattle.alike_unions.proofs.Found.{most-never, never-unknown}
 use Rattle.alike_unions.proofs.laws.small_alike_unions_are_found.Goals as goal
 
-pub returns : goal.returns
-returns c = small-limits
+pub returns-clause-enough : goal.returns-clause-enough
+returns-clause-enough c = never-unknown
+
+pub returns-clause-most : goal.returns-clause-most
+returns-clause-most c = most-never

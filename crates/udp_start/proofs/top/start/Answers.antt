@@ -1,8 +1,12 @@
-use Rattle.std.proofs.Common.{ℕ, List, None, Some, inl, inr, sym, subst}
+use Rattle.std.proofs.Common.{ℕ, ◌≤◌, List, None, Some, inl, inr, sym, subst, arith}
+use Rattle.shapes.specs.Small.{most_entries}
+use Rattle.shapes.specs.Tried.{tries}
 use Rattle.udp_io.specs.Writing.{Grows}
 use Rattle.udp_run.specs.Answer.{IsCause, IsProved}
 use Rattle.udp_start.specs.Proving.{IsProving, told_of}
 use Rattle.udp_start.proofs.Provings.{proving-done, proving-exact, proving-limit, proving-memory, proving-read_fault, proving-usage, proving-write_fault}
+use Rattle.udp_start.specs.Words.{default_budget}
+use Rattle.udp_start.proofs.SmallCases.{most-promised, proving-promised, proving-unknown}
 use Rattle.udp_start.proofs.WordForms.{budget_once, not_check, prove_once}
 use Rattle.udp_start.proofs.top.start.Goals as goal
 
@@ -66,6 +70,22 @@ pub returns-in-Some-clause-memory : goal.returns-in-Some-clause-memory
 returns-in-Some-clause-memory g c is =
     proving-memory (told_of (g.S.Store.text c.args.store.now) (g.S.Store.faults c.args.store.now) (g.S.Store.faults c.prove_case.new.store) c.in-Some.asked.case.now) c.in-Some.asked.budget (g.K.Sink.written c.args.out.now) (g.K.Sink.written c.prove_case.new.out) (g.K.Sink.faults c.args.out.now) (g.K.Sink.faults c.prove_case.new.out) c.prove_case.result is c.prove_case.ensures
 
+-- of filtered unions
+pub returns-in-Some-clause-promised : goal.returns-in-Some-clause-promised
+returns-in-Some-clause-promised g c case budget is promised =
+    proving-promised (told_of (g.S.Store.text c.args.store.now) (g.S.Store.faults c.args.store.now) (g.S.Store.faults c.prove_case.new.store) case) budget promised (g.K.Sink.written c.args.out.now) (g.K.Sink.written c.prove_case.new.out) (g.K.Sink.faults c.args.out.now) (g.K.Sink.faults c.prove_case.new.out) c.prove_case.result
+    (returns-in-Some-clause-proving g c case budget is)
+
+pub returns-in-Some-clause-by_default : goal.returns-in-Some-clause-by_default
+returns-in-Some-clause-by_default g c case is small =
+    let most : tries most_entries ≤ default_budget = omega arith in
+    returns-in-Some-clause-promised g c case default_budget is (most-promised default_budget most (g.S.Store.text c.args.store.now case) small)
+
+pub returns-in-Some-clause-unknown : goal.returns-in-Some-clause-unknown
+returns-in-Some-clause-unknown g c unproved case budget is =
+    proving-unknown (told_of (g.S.Store.text c.args.store.now) (g.S.Store.faults c.args.store.now) (g.S.Store.faults c.prove_case.new.store) case) budget (g.K.Sink.written c.args.out.now) (g.K.Sink.written c.prove_case.new.out) (g.K.Sink.faults c.args.out.now) (g.K.Sink.faults c.prove_case.new.out) c.prove_case.result unproved
+    (returns-in-Some-clause-proving g c case budget is)
+
 -- ---- none is
 pub returns-in-None-clause-answer : goal.returns-in-None-clause-answer
 returns-in-None-clause-answer g c nothing = c.run.ensures.answer
@@ -105,3 +125,12 @@ returns-in-None-clause-write_fault g c = c.run.ensures.write_fault
 
 pub returns-in-None-clause-memory : goal.returns-in-None-clause-memory
 returns-in-None-clause-memory g c = c.run.ensures.memory
+
+pub returns-in-None-clause-promised : goal.returns-in-None-clause-promised
+returns-in-None-clause-promised g c case budget is promised = absurd (c.in-None.ensures case budget is)
+
+pub returns-in-None-clause-by_default : goal.returns-in-None-clause-by_default
+returns-in-None-clause-by_default g c case is small = absurd (c.in-None.ensures case default_budget is)
+
+pub returns-in-None-clause-unknown : goal.returns-in-None-clause-unknown
+returns-in-None-clause-unknown g c unproved case budget is = absurd (c.in-None.ensures case budget is)

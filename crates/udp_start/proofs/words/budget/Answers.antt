@@ -1,4 +1,4 @@
-use Rattle.std.proofs.Common.{rules, ◌≡◌, ◌<◌, ◌^◌, ℕ, Ok, sym, ◌∙◌}
+use Rattle.std.proofs.Common.{rules, ◌≡◌, Ok}
 use Rattle.std.proofs.lemmas.Fmt.{parse-decimal}
 use Rattle.udp_start.proofs.words.budget.Goals as goal
 

@@ -1,4 +1,4 @@
-use Rattle.std.proofs.Common.{rules, ◌≡◌, ℕ, List, codes, string_bytes, inl, inr, refl, arith, length, sym, ◌∙◌}
+use Rattle.std.proofs.Common.{rules, ◌≡◌, codes, string_bytes, inl, inr, refl, arith, length, sym, ◌∙◌}
 use Rattle.std.specs.Prelude.{◌⊎◌}
 use Rattle.udp_start.proofs.WordForms.{two, four, prove_long, prove_verb, prove_option}
 use Rattle.udp_start.proofs.words.proof_words.Goals as goal
