@@ -8,7 +8,7 @@ use Rattle.sql_read.specs.Eating.{IsNextAt, is_next}
 use Rattle.sql_grammar.specs.Kinds.{among}
 use Rattle.sql_grammar.specs.Numbering.{Built}
 use Rattle.sql_grammar.specs.QueryCopies.{most_copies}
-use Rattle.sql_read.specs.Refusals.{refusal}
+use Rattle.sql_read.specs.Refusals.{IsLeftOut, refusal}
 use Rattle.case_core.specs.declared.fault.CaseFault.{CaseFault}
 use Rattle.case_core.specs.declared.fault.CaseFault.TheVariants.{Read, Schema, Scope, QueriesDiffer, NotTwoQueries, NoMemory}
 use Rattle.case_core.specs.declared.text.CaseText.{CaseText}
@@ -50,11 +50,11 @@ pub record IsTrailing (cursor : Cursor) (refused : ReadFault) : Type 0 where
   pub no_query : is_next (among query_kinds) cursor.tokens ≡ false
   pub refusal : refused ≢ read_refusal.NoMemory → refused ≡ refusal cursor
 
--- why a text does not end here
+-- Why a text does not end here. Memory is wanted for the word of a left-out token alone.
 abbrev pub IsNoEnd : Cursor → CaseFault → Type 0
 IsNoEnd cursor (Read refused) = IsTrailing cursor refused × (refused ≢ read_refusal.NoMemory)
 IsNoEnd cursor (Schema refused) = ⊥
 IsNoEnd cursor (Scope refused) = ⊥
 IsNoEnd cursor (QueriesDiffer left right) = ⊥
 IsNoEnd cursor (NotTwoQueries count at) = (count ≡ 3) × IsThird cursor at
-IsNoEnd cursor NoMemory = Unit {0}
+IsNoEnd cursor NoMemory = IsLeftOut (refusal cursor)
