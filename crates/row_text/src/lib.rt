@@ -2,9 +2,11 @@
 #![tactic(auto)]
 
 mod fault;
+mod outcome;
 mod tally;
 mod template;
 
 pub use fault::TextFault;
+pub use outcome::Outcome;
 pub use tally::Tally;
 pub use template::{MOST_BYTES, Template};

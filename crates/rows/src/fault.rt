@@ -9,6 +9,8 @@ use thiserror::Error;
 pub enum RowFault {
     #[error("{0}")]
     Text(TextFault),
+    #[error("a row has no name")]
+    NoName,
     #[error("no field begins with this word")]
     NoSuchField,
     #[error("an indented line belongs to no field")]

@@ -1,10 +1,10 @@
 //! Runs the rows of a file, and writes a line of each that comes out otherwise.
 
-use crate::outcome::Outcome;
+use crate::line::Line;
 use crate::row::{Row, RowReader};
 use crate::runs::run_row;
 use anyhow::{Context, Result};
-use row_text::Tally;
+use row_text::{Outcome, Tally};
 use std::rt::Files;
 use std::{fs, io};
 
@@ -29,11 +29,9 @@ fn report_row(
 ) -> Result<()> {
     if let Some(row) = reader.row()? {
         let found = run_row(rt.alloc(), row)?;
-        let is_as_expected = found == row.expected;
-        if !is_as_expected {
+        if !tally.count(&found, &row.expected) {
             tell(rt, file, row, &found)?;
         }
-        tally.count(is_as_expected);
     }
     Ok(())
 }
@@ -49,7 +47,8 @@ pub fn report_file(
     let mut number = 0u64;
     for line in text.lines() {
         number = number.saturating_add(1);
-        if line.starts_with("row ") {
+        let line = Line::of(line);
+        if let Line::Row(_) = line {
             report_row(rt, file, &mut reader, tally).context(format_args!("{file}:{number}"))?;
         }
         reader

@@ -4,6 +4,7 @@
 mod fault;
 mod field;
 mod files;
+mod line;
 mod outcome;
 mod row;
 mod runs;

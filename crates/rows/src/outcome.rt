@@ -2,8 +2,11 @@
 ghost use Rattle.std.specs.Prelude.{◌≡◌, [], IfOk};
 
 use crate::row::Text;
+use row_text::Outcome;
 use std::alloc::{AllocError, Global};
-use udp_io::{MemSink, MemStore, Store};
+use udp_io::{MemSink, MemStore, Store, SureSink, SureStore};
+use udp_run::Status;
+use udp_run::laws::run_surely;
 use udp_start::start;
 
 /// The most bytes that the store gives and the sink takes at once, where a row does not say how many.
@@ -11,13 +14,6 @@ const PIECE: usize = 65_536;
 
 /// The most bytes that are written.
 const ROOM: usize = 1_048_576;
-
-/// How a run ended, and what it wrote.
-#[derive(Drop, PartialEq, Eq)]
-pub struct Outcome {
-    pub status: u8,
-    pub written: Vec<u8>,
-}
 
 /// How the store and the sink of a run behave: what they give and take at once, and the call of each that fails.
 #[derive(Clone, Copy)]
@@ -74,8 +70,34 @@ pub fn run_words(
         sink.fail_at(call)?;
     }
     let status = start(alloc, words, &mut store, &mut sink);
+    ended(alloc, status, sink.bytes())
+}
+
+/// Runs the words, which ask for a check, over the texts `case` and `proof` in a store and a sink that never fail.
+pub fn run_sure_words(
+    alloc: Global,
+    words: &[String],
+    texts: &[Text],
+) -> Result<Outcome, AllocError> {
+    let mut store = SureStore::new(alloc, PIECE)?;
+    store.add("case", bytes_of(texts, "case"))?;
+    store.add("proof", bytes_of(texts, "proof"))?;
+    let mut sink = SureSink::new(alloc, ROOM)?;
+    let status = run_surely(alloc, words, &mut store, &mut sink);
+    ended(alloc, status, sink.bytes())
+}
+
+// The bytes of the text of this name; none where it is not there.
+fn bytes_of<'a>(texts: &'a [Text], name: &str) -> &'a [u8] {
+    match texts.iter().find(|text| text.name.as_str() == name) {
+        Some(text) => text.bytes.as_slice(),
+        None => &[],
+    }
+}
+
+fn ended(alloc: Global, status: Status, written: &[u8]) -> Result<Outcome, AllocError> {
     Ok(Outcome {
         status: status.code(),
-        written: Vec::from_slice(alloc, sink.bytes())?,
+        written: Vec::from_slice(alloc, written)?,
     })
 }

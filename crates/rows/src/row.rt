@@ -2,7 +2,8 @@
 
 use crate::fault::RowFault;
 use crate::field::{Field, FieldKind};
-use crate::outcome::Outcome;
+use crate::line::Line;
+use row_text::Outcome;
 use std::alloc::{AllocError, Global};
 
 /// A text under a name.
@@ -30,6 +31,8 @@ pub struct Row {
 #[derive(Drop)]
 pub enum Often {
     Once,
+    /// Once, over a store and a sink that never fail.
+    Surely,
     /// Once for each front of the text of this name, of no byte first and of all at last.
     Cuts(String),
     /// Once for each of these calls of the store, which fails.
@@ -112,19 +115,22 @@ impl RowReader {
     }
 
     /// Reads the next line, which begins no row where one is not whole.
-    pub fn read_line(&mut self, line: &str) -> Result<(), RowFault> {
-        if let Some(part) = line.strip_prefix("  ") {
-            return match self.field.as_mut() {
+    pub fn read_line(&mut self, line: Line<'_>) -> Result<(), RowFault> {
+        match line {
+            Line::Nothing => Ok(()),
+            Line::Part(part) => match self.field.as_mut() {
                 Some(field) => field.read_line(part),
                 None => Err(RowFault::NoField),
-            };
+            },
+            Line::Row(name) => {
+                self.end_field()?;
+                self.begin_row(name)
+            }
+            Line::Field { word, rest } => {
+                self.end_field()?;
+                self.begin_field(word, rest)
+            }
         }
-        if line.is_empty() || line.starts_with('#') {
-            return Ok(());
-        }
-        self.end_field()?;
-        let (word, rest) = line.split_once(' ').unwrap_or((line, ""));
-        self.begin_field(word, rest)
     }
 
     /// The row that is read, if one has begun.
@@ -139,14 +145,19 @@ impl RowReader {
         Ok(Some(&self.row))
     }
 
+    fn begin_row(&mut self, name: &str) -> Result<(), RowFault> {
+        if name.is_empty() {
+            return Err(RowFault::NoName);
+        }
+        self.row.name = String::from_str(self.alloc, name)?;
+        self.row.often = Often::Once;
+        self.has_row = true;
+        self.has_output = false;
+        Ok(())
+    }
+
     fn begin_field(&mut self, word: &str, rest: &str) -> Result<(), RowFault> {
         match word {
-            "row" => {
-                self.row.name = String::from_str(self.alloc, rest)?;
-                self.row.often = Often::Once;
-                self.has_row = true;
-                self.has_output = false;
-            }
             "words" => {
                 self.row.words = words(self.alloc, rest)?;
                 self.row.then = Vec::new(self.alloc);
@@ -166,6 +177,7 @@ impl RowReader {
                 let name = String::from_str(self.alloc, rest)?;
                 self.field = Some(Field::new(self.alloc, FieldKind::Lines(name)));
             }
+            "surely" => self.row.often = Often::Surely,
             "cuts" => self.row.often = Often::Cuts(String::from_str(self.alloc, rest)?),
             "failing-store" => self.row.often = Often::FailingStore(failing(self.alloc, rest)?),
             "failing-sink" => self.row.often = Often::FailingSink(failing(self.alloc, rest)?),

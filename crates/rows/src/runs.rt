@@ -1,7 +1,8 @@
 //! Runs rows as often as they say.
 
-use crate::outcome::{Behaviour, Outcome, run_words};
+use crate::outcome::{Behaviour, run_sure_words, run_words};
 use crate::row::{Calls, Often, Row, Text};
+use row_text::Outcome;
 use std::alloc::{AllocError, Global};
 
 /// The name of what the first run of a row wrote.
@@ -11,6 +12,7 @@ const WRITTEN: &str = "written";
 pub fn run_row(alloc: Global, row: &Row) -> Result<Outcome, AllocError> {
     match &row.often {
         Often::Once => run_once(alloc, row),
+        Often::Surely => run_sure_words(alloc, &row.words, &row.texts),
         Often::Cuts(name) => run_cuts(alloc, row, name.as_str()),
         Often::FailingStore(calls) => run_failing(alloc, row, *calls, true),
         Often::FailingSink(calls) => run_failing(alloc, row, *calls, false),
