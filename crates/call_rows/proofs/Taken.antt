@@ -1,6 +1,6 @@
 -- The factors of a product that the calls take.
 use Rattle.std.proofs.Common.{◌≡◌, ◌⊎◌, ℕ, ◌<◌, ◌^◌, List, length, get_or, inl, inr, ap, sym, ◌∙◌, subst, arith}
-use Rattle.std.specs.Prelude.{Some, slice_get}
+use Rattle.std.specs.Prelude.{MatchOption, Option, Some, slice_get}
 use Rattle.std.proofs.lemmas.List.{length-map}
 use Rattle.std.proofs.lemmas.Option.{same_Some, slice_get_within}
 use denote.Bor.{Bor}
@@ -11,6 +11,7 @@ use Rattle.u_terms.specs.Products.{product_of}
 use Rattle.u_rules.specs.Terms.{◌⊗◌, mul_leaves, terms}
 use Rattle.u_moves.specs.Derivations.{IsKnown}
 use Rattle.u_equal.proofs.Listed.{item-here}
+use Rattle.u_entail.specs.Carrying.{Follows, IsMarkFrom, MarkCourse}
 use Rattle.u_entail.specs.Gaining.{Begins}
 use Rattle.u_entail.specs.Marks.{HasMark, IsMark, holds, fails}
 use Rattle.u_entail.specs.Sides.{AreFactors}
@@ -44,3 +45,8 @@ module _ (factors : List (Bor U)) (place : ℕ) (has : HasMark (terms factors) p
 pub seen-mark : (x : U) → ((symbol : ℕ) × (points : List Val) × (x ≡ u.Pred symbol points)) ⊎ ((inner : U) × (x ≡ u.Not inner)) → IsMark x
 seen-mark x (inl h) = subst IsMark (sym h.2) (holds h.0 h.1)
 seen-mark x (inr h) = subst IsMark (sym h.1) (fails h.0)
+
+-- the marks of a route that was found
+pub route-found : (product mark wanted : U) (found : Option MarkCourse) → MatchOption found (Follows product mark wanted → ⊥) (λ course. IsMarkFrom course product mark wanted) → (course : MarkCourse) → found ≡ Some course
+    → IsMarkFrom course product mark wanted
+route-found product mark wanted found h course is = subst (λ (o : Option MarkCourse). MatchOption o (Follows product mark wanted → ⊥) (λ c. IsMarkFrom c product mark wanted)) is h

@@ -12,8 +12,11 @@ use u_terms::{Boxed, Facts, U, Val};
 /// The names that terms may have are below this one.
 pub const OUTS: u32 = 1_000;
 
-/// The most links that are made.
+/// The most links along which anything is derived.
 pub const MOST_LINKS: u64 = 1_000;
+
+/// The most links that are made.
+const MOST_MADE: u64 = 40_000;
 
 /// A product, and two values.
 #[derive(Drop)]
@@ -70,7 +73,7 @@ pub fn links(alloc: Global, words: &str) -> Result<String, CallFault> {
 // The links, which are made where they are not too many.
 fn counted(alloc: Global, route: &Route<'_, '_>) -> Result<String, CallFault> {
     let links = route.links();
-    match route.chain_within(alloc, MOST_LINKS)? {
+    match route.chain_within(alloc, MOST_MADE)? {
         Some(_) => Ok(format!(in alloc; "{links}")?),
         None => Ok(format!(in alloc; "{links}, not made")?),
     }

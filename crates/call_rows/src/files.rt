@@ -4,7 +4,7 @@ use crate::call::answer;
 use crate::facts::{add_line, no_facts};
 use crate::fault::CallFault;
 use anyhow::{Context, Result};
-use row_text::{Tally, Template, TextFault};
+use row_text::{Outcome, Tally, Template, TextFault};
 use std::alloc::Global;
 use std::rt::Files;
 use std::{fs, io};
@@ -14,8 +14,8 @@ use u_terms::Facts;
 const MOST_SHOWN: usize = 200;
 
 // Tells what a call was answered.
-fn tell(rt: &impl Print, file: &str, number: u64, found: &str) -> io::Result<()> {
-    let found = found.as_bytes();
+fn tell(rt: &impl Print, file: &str, number: u64, found: &Outcome) -> io::Result<()> {
+    let found = found.written.as_slice();
     let shown = found.get(..MOST_SHOWN).unwrap_or(found).escape_ascii();
     println!(rt; "{file}:{number}: answered \"{shown}\"")
 }
@@ -27,18 +27,12 @@ fn expanded(alloc: Global, written: &str) -> Result<Vec<u8>, TextFault> {
     template.finish()
 }
 
-// What the call of a row is answered, and whether that is what it is to be answered.
-fn made(
-    alloc: Global,
-    facts: &Facts,
-    call: &str,
-    expected: &str,
-) -> Result<(String, bool), CallFault> {
+// What the call is answered.
+fn made(alloc: Global, facts: &Facts, call: &str) -> Result<Outcome, CallFault> {
     let call = expanded(alloc, call)?;
     let call = String::from_utf8_lossy(alloc, &call)?;
     let found = answer(alloc, facts, call.as_str())?;
-    let is_as_expected = found.as_bytes() == expanded(alloc, expected)?.as_slice();
-    Ok((found, is_as_expected))
+    Ok(Outcome::answered(found.into_bytes()))
 }
 
 /// Makes the calls of this file. A line that cannot be read ends them, and is told by its number.
@@ -75,10 +69,10 @@ fn report_line(
         add_line(rt.alloc(), facts, line)?;
         return Ok(());
     };
-    let (found, is_as_expected) = made(rt.alloc(), facts, call, expected)?;
-    if !is_as_expected {
-        tell(rt, file, number, found.as_str())?;
+    let found = made(rt.alloc(), facts, call)?;
+    let expected = Outcome::answered(expanded(rt.alloc(), expected)?);
+    if !tally.count(&found, &expected) {
+        tell(rt, file, number, &found)?;
     }
-    tally.count(is_as_expected);
     Ok(())
 }

@@ -4,6 +4,7 @@
 mod alike;
 mod behind;
 mod call;
+mod checks;
 mod entailed;
 mod facts;
 mod fault;
@@ -14,7 +15,9 @@ mod moves;
 mod normal;
 mod places;
 mod read;
+mod readers;
 mod rules;
+mod trees;
 mod write;
 
 use crate::files::report_file;

@@ -1,7 +1,6 @@
 use Rattle.std.proofs.Common.{refl, ap, ◌∙◌}
 use Rattle.u_rules.specs.Terms.{terms}
-use Rattle.u_entail.proofs.Copied.{route-found}
-use Rattle.call_rows.proofs.Taken.{mark-at, mark-is, taken-begins}
+use Rattle.call_rows.proofs.Taken.{mark-at, mark-is, route-found, taken-begins}
 use Rattle.call_rows.proofs.behind.copy_links.Goals as goal
 
 pub copy_mark_along-requires-clause-begins : goal.copy_mark_along-requires-clause-begins
