@@ -10,6 +10,7 @@ from pathlib import Path
 from bench import MEGABYTE, RUNS, UDP, cost
 
 MOST_BLOCKS = 64
+MOST_ENTRIES = 9
 TABLES = "CREATE TABLE r (a INT, b INT, c INT);\nCREATE TABLE s (a INT, b INT, c INT);\n"
 
 
@@ -73,6 +74,29 @@ def entries_not_alike(count):
     return union([left, block_of_three(last, "r x, r y, r z", "<=")]), union([block_of_three(last, other), right])
 
 
+def of_one_table(count, conditions, outputs):
+    """A block over so many entries of one table."""
+    entries = ", ".join(f"r x{number}" for number in range(count))
+    return f"SELECT {', '.join(outputs)} FROM {entries} WHERE {' AND '.join(conditions)}"
+
+
+def backwards(count, last):
+    """Each output of the left block is of one entry, and of the right one of its opposite: the last list of entries is the one that is found."""
+    outputs = [f"x{number}.a" for number in range(count)]
+    left = of_one_table(count, [f"x0.b < x{count - 1}.b"], outputs)
+    right = of_one_table(count, [f"x{count - 1}.b {last} x0.b"], outputs[::-1])
+    return left, right
+
+
+def entries_found_last(count):
+    return backwards(count, "<")
+
+
+def entries_found_nowhere(count):
+    """The same, but for the last condition: all lists are tried."""
+    return backwards(count, "<=")
+
+
 def alternatives(count):
     """Each OR doubles the sums under one squash: with so many the normal form is too large."""
     both = [f"(a = {number} OR b = {number})" for number in range(count)]
@@ -89,6 +113,8 @@ ROWS = [
     ("a union in FROM", a_union_in_from, MOST_BLOCKS // 2, FOUND),
     ("entries in another order", entries_in_another_order, MOST_BLOCKS, FOUND),
     ("entries not alike", entries_not_alike, MOST_BLOCKS, UNKNOWN),
+    ("nine entries found last", entries_found_last, MOST_ENTRIES, FOUND),
+    ("nine entries found nowhere", entries_found_nowhere, MOST_ENTRIES, UNKNOWN),
     ("6 alternatives", alternatives, 6, FOUND),
     ("20 alternatives", alternatives, 20, UNKNOWN),
 ]
