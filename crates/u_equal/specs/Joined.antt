@@ -1,4 +1,5 @@
--- Values that are joined by edges in order of time. Public clauses cite `AreSame`, `IsState` and `AreEdges`, by `IsDistance`; contracts of private functions cite the rest.
+-- Values that are joined by edges in order of time. Public clauses cite `State`, `AreSame`, `IsState` and `AreEdges`, by `IsDistance`, and so what these unfold to: `label_at`,
+-- `label_now`, `renamed`, `edge_at`, `FirstAt`, `Joined`, `Same`, `SameEach`, `AreCalls`, `IsApart`, `HasReason` and `IsEdge`. Contracts of private functions cite the rest.
 use Rattle.std.specs.Prelude.{◌≡◌, ◌⊎◌, ℕ, zero, suc, ◌+◌, ◌<◌, ◌≤◌, nat_eq, not, if◌then◌else◌, List, [], ◌∷◌, ◌++◌, length, get_or, take, Bool, true, false, Some, slice_get, count_by}
 use Rattle.u_terms.specs.Syntax.{U, Val}
 use Rattle.u_terms.specs.declared.term.Val.TheVariants as v

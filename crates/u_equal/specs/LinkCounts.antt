@@ -1,4 +1,5 @@
--- How many links lead from place to place, by recursion on the edges in order of time. Public clauses cite `links_of_values`, by `IsDistance`; contracts of private functions cite the rest.
+-- How many links lead from place to place, by recursion on the edges in order of time. Public clauses cite `links_of_values`, by `IsDistance`, and so what it unfolds to:
+-- `links_between`, `links_by`, `sum_of_pairs`, `place_in`, `value_of`, `arguments` and `row_values`. Contracts of private functions cite the rest.
 use Rattle.std.specs.Prelude.{ℕ, zero, suc, ◌+◌, ◌≤◌, nat_eq, if◌then◌else◌, List, [], ◌∷◌, length, get_or, sum_by, Some, slice_get, ◌≡◌}
 use Rattle.u_terms.specs.Syntax.{U, Val, Fun, Vals, NoVals, ValThen}
 use Rattle.u_terms.specs.declared.term.Val.TheVariants as v

@@ -81,8 +81,8 @@ impl<'a> Classes<'a> {
     }
 
     /// The chain from the one value to the other, counted and not made yet; `None` where the product's equalities do not entail that they are equal.
-    /// A value is 0 links away from itself. Else each call of this counts the links of all edges anew: a walk for each argument of each two calls that
-    /// were joined. Where several chains are wanted, `routes` counts them once.
+    /// A value is 0 links away from itself. Else each call of this counts the links of all edges anew, which may take quadratic time, as `routes` says.
+    /// Where several chains are wanted, `routes` counts them once.
     pub fn route<'c>(
         &'c self,
         alloc: Global,
@@ -98,8 +98,9 @@ impl<'a> Classes<'a> {
         Ok(Some(route))
     }
 
-    /// The chains between values, counted and not made yet, by numbers of links that are counted once for all of them: a walk for each argument of
-    /// each two calls that were joined.
+    /// The chains between values, counted and not made yet, by numbers of links that are counted once for all of them. Counting walks the way between
+    /// the arguments of every two calls that were joined, so it is quadratic where many calls were joined to one whose arguments are far from theirs:
+    /// of 10,000 calls `F(f_i)` of a chain `f_0 = .. = f_9999` it takes some 5 * 10^7 hops. `chain` does not count.
     pub fn routes<'c>(&'c self, alloc: Global) -> Result<Routes<'c, 'a>, NoMemory>
         ensures { IfOk result (λ routes. routes ≡ self.now) }
     {

@@ -22,7 +22,7 @@ impl<'a> Forest<'a> {
             return Ok(0);
         }
         let numbers = self.numbers(alloc)?;
-        self.number_of_values(alloc, numbers.as_slice(), a, b)
+        self.count_links_by(alloc, numbers.as_slice(), a, b)
     }
 
     /// How many links each edge stands for.
@@ -34,14 +34,14 @@ impl<'a> Forest<'a> {
         let count = self.edges.len();
         let mut numbers = Vec::with_capacity(alloc, count)?;
         for _time in 0..count {
-            let number = self.number_of_edge(alloc, numbers.as_slice())?;
+            let number = self.count_links_of_edge(alloc, numbers.as_slice())?;
             numbers.push(number)?;
         }
         Ok(numbers)
     }
 
     // How many links the edge stands for that comes after those with these numbers.
-    fn number_of_edge(&self, alloc: Global, numbers: &[u64]) -> Result<u64, NoMemory>
+    fn count_links_of_edge(&self, alloc: Global, numbers: &[u64]) -> Result<u64, NoMemory>
         requires tree { IsTree self.now }
         requires state { IsState (seen self.now) }
         requires numbers { AreNumbers (seen self.now) (length numbers.now) numbers.now }
@@ -54,14 +54,14 @@ impl<'a> Forest<'a> {
             Reason::Called => {
                 let left = self.value_at(edge.left);
                 let right = self.value_at(edge.right);
-                let inside = self.number_of_calls(alloc, numbers, left, right)?;
+                let inside = self.count_links_of_calls(alloc, numbers, left, right)?;
                 Ok(inside.saturating_add(1))
             }
         }
     }
 
     // How many links lead from the arguments of a call to those of another.
-    fn number_of_calls(
+    fn count_links_of_calls(
         &self,
         alloc: Global,
         numbers: &[u64],
@@ -76,13 +76,13 @@ impl<'a> Forest<'a> {
     {
         match (a, b) {
             (Val::Fun(_, xs), Val::Fun(_, ys)) => {
-                self.number_of_pairs(alloc, numbers, xs.as_slice(), ys.as_slice())
+                self.count_links_of_pairs(alloc, numbers, xs.as_slice(), ys.as_slice())
             }
             _ => Ok(0),
         }
     }
 
-    fn number_of_pairs(
+    fn count_links_of_pairs(
         &self,
         alloc: Global,
         numbers: &[u64],
@@ -97,14 +97,14 @@ impl<'a> Forest<'a> {
     {
         let mut total: u64 = 0;
         for (i, x) in xs.iter().enumerate() {
-            let number = self.number_of_values(alloc, numbers, x, &ys[i])?;
+            let number = self.count_links_by(alloc, numbers, x, &ys[i])?;
             total = total.saturating_add(number);
         }
         Ok(total)
     }
 
     /// How many links lead from value to value along the edges with these numbers.
-    pub fn number_of_values(
+    pub fn count_links_by(
         &self,
         alloc: Global,
         numbers: &[u64],

@@ -97,7 +97,7 @@ impl<'c, 'a> Routes<'c, 'a> {
             return Ok(None);
         }
         let numbers = self.numbers.as_slice();
-        let links = self.forest.number_of_values(alloc, numbers, from, to)?;
+        let links = self.forest.count_links_by(alloc, numbers, from, to)?;
         let route = Route::counted(self.product, self.forest, from, to, links);
         Ok(Some(route))
     }

@@ -5,13 +5,13 @@ use Rattle.u_equal.specs.LinkCounts.{AreNumbers}
 use Rattle.u_equal.proofs.LinkNumbers.{numbers-long}
 use Rattle.u_equal.proofs.forest.Forest.numbers.Goals as goal
 
-pub number_of_edge-requires-clause-numbers : goal.number_of_edge-requires-clause-numbers
-number_of_edge-requires-clause-numbers c =
+pub count_links_of_edge-requires-clause-numbers : goal.count_links_of_edge-requires-clause-numbers
+count_links_of_edge-requires-clause-numbers c =
     let s = seen c.args.self.now in
     subst (λ (ns : List ℕ). AreNumbers s (length ns) ns) (sym c.as_slice.ensures.value) (numbers-long s c.loop-time.«_time» c.loop-time.numbers.items c.loop-time.invariant)
 
-pub number_of_edge-requires-clause-within : goal.number_of_edge-requires-clause-within
-number_of_edge-requires-clause-within c =
+pub count_links_of_edge-requires-clause-within : goal.count_links_of_edge-requires-clause-within
+count_links_of_edge-requires-clause-within c =
     let a = ap (λ (ns : List ℕ). length ns) c.as_slice.ensures.value in
     omega (arith, a, c.loop-time.invariant.long)
 

@@ -9,7 +9,7 @@ use Rattle.u_equal.specs.Links.{told}
 use Rattle.u_equal.specs.LinkCounts.{links_of_edge, links_of_hops}
 use Rattle.u_equal.proofs.Linked.{way-each}
 use Rattle.u_equal.proofs.LinkNumbers.{links-same, links-at, told-sum, told-zero}
-use Rattle.u_equal.proofs.forest.Forest.number_of_values.Goals as goal
+use Rattle.u_equal.proofs.forest.Forest.count_links_by.Goals as goal
 
 pub returns-then-same_value : goal.returns-then-same_value
 returns-then-same_value c =
