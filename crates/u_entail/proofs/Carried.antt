@@ -26,7 +26,7 @@ use Rattle.u_entail.specs.Spines.{spine}
 use Rattle.u_entail.specs.Spots.{Spot, here, in_predicate, at_left, at_right, in_negation, filled, way}
 use Rattle.u_entail.specs.Hops.{AreHops, StayWithin, stays}
 use Rattle.u_entail.specs.Carrying as spec
-use Rattle.u_entail.specs.Carrying.{points, Carries, holds, equal, fails, Follows, straight, exchanged, AreDistances, no_distance, distance_more, Form, predicate, equality, negation, mark_of, Fits, AreCourses, no_course, course_more, LeadsMark, LeadsExchanged, LeadsEither, IsPair, ArePairs, no_point, point_more, AreEntailed, AreMarkPairs, PairsMark, PairsExchanged, PairsEither, LeadAlong, PushesPairs, ArePaired, IsPaired, PushesMark, IsMarkPaired, PushesExchanged, IsExchangedPaired, IsDifferencePaired, HavePoints, HaveSpare, MarksBy, PointsBy, AlongCourses, AlongPairs, PushesChain, PushesRoute, CarriesBy, links_of, AreFew, IsShortCourse, AreShortCourses}
+use Rattle.u_entail.specs.Carrying.{points, Carries, holds, equal, fails, Follows, straight, exchanged, IsReadAs, as_it_stands, sides_exchanged, IsMarkFrom, AreDistances, no_distance, distance_more, Form, predicate, equality, negation, mark_of, Fits, AreCourses, no_course, course_more, LeadsMark, LeadsExchanged, LeadsEither, IsPair, ArePairs, no_point, point_more, AreEntailed, AreMarkPairs, PairsMark, PairsExchanged, PairsEither, LeadAlong, PushesPairs, ArePaired, IsPaired, PushesMark, IsMarkPaired, PushesExchanged, IsExchangedPaired, IsDifferencePaired, HavePoints, HaveSpare, MarksBy, PointsBy, AlongCourses, AlongPairs, PushesChain, PushesRoute, CarriesBy, links_of, AreFew, IsShortCourse, AreShortCourses}
 use Rattle.u_entail.specs.declared.carrying.MarkPairs.{MarkPairs}
 use Rattle.u_entail.specs.declared.carrying.Pair.{Pair}
 use Rattle.u_entail.specs.declared.hops.Hop.{Hop}
@@ -63,6 +63,10 @@ unfolding points constructors
 points-not mark = refl
 
 -- ---- a mark that is carried
+pub read-follows : (product mark first wanted : U) → IsReadAs mark first → Carries product first wanted → Follows product mark wanted
+read-follows product mark first wanted as_it_stands carries = straight mark wanted carries
+read-follows product mark first wanted (sides_exchanged a b is) carries = subst (λ (x : U). Follows product x wanted) (sym is) (exchanged a b wanted carries)
+
 record IsPred (product : U) (symbol : ℕ) (xs : List Val) (wanted : U) : Type 0 where
   ys : List Val
   is : wanted ≡ P symbol ys
@@ -403,10 +407,6 @@ pub no-difference-paired : (product mark wanted : U) (before after : List Pair) 
 no-difference-paired product mark wanted before after answer h is = subst (λ (b : Bool). IsDifferencePaired product mark wanted before after b) is h
 
 -- ---- what pairs of points say
-pairs-each : (product : U) (xs ys : List Val) (pairs : List Pair) → ArePairs product xs pairs ys → EntailsEach product xs ys
-pairs-each product xs ys pairs no_point = none
-pairs-each product xs ys pairs (point_more a b p as' bs ps is each) = more a b as' bs is.entailed (pairs-each product as' bs ps each)
-
 pair-entailed : (product : U) (a b : Val) (p : Pair) → IsPair product a b p → Entails product p.from.now p.to.now
 pair-entailed product a b p is =
     subst (λ (x : Val). Entails product x p.to.now) (sym is.from_is) (subst (λ (x : Val). Entails product a x) (sym is.to_is) is.entailed)
@@ -415,19 +415,9 @@ pairs-entailed : (product : U) (xs ys : List Val) (pairs : List Pair) → ArePai
 pairs-entailed product xs ys pairs no_point = tt
 pairs-entailed product xs ys pairs (point_more a b p as' bs ps is each) = (pair-entailed product a b p is, pairs-entailed product as' bs ps each)
 
-pub either-entailed : (product mark wanted : U) (turned : Bool) (pairs : List Pair) → PairsEither product mark wanted turned pairs → AreEntailed product pairs
+pub either-entailed : (product mark wanted : U) (exchanged : Bool) (pairs : List Pair) → PairsEither product mark wanted exchanged pairs → AreEntailed product pairs
 either-entailed product mark wanted false pairs l = pairs-entailed product l.from l.to pairs l.each
 either-entailed product mark wanted true pairs l = let m = l.leads in pairs-entailed product m.from m.to pairs m.each
-
-mark-follows : (product mark wanted : U) (pairs : List Pair) → PairsMark product mark wanted pairs → Carries product mark wanted
-mark-follows product mark wanted pairs l =
-    subst (λ (x : U). Carries product x wanted) (sym l.mark_is)
-    (subst (λ (x : U). Carries product (mark_of l.form l.from) x) (sym l.wanted_is) (mark-carries product l.form l.from l.to l.fits (pairs-each product l.from l.to pairs l.each)))
-
-pub either-follows : (product mark wanted : U) (turned : Bool) (pairs : List Pair) → PairsEither product mark wanted turned pairs → Follows product mark wanted
-either-follows product mark wanted false pairs l = straight mark wanted (mark-follows product mark wanted pairs l)
-either-follows product mark wanted true pairs l =
-    subst (λ (x : U). Follows product x wanted) (sym l.is) (exchanged l.left l.right wanted (mark-follows product (neg (l.right ≐ l.left)) wanted pairs l.leads))
 
 -- what was found of the pairs of a mark
 pub pairs-found : (product mark wanted : U) (found : Option MarkPairs) → MatchOption found (Follows product mark wanted → ⊥) (λ pairs. AreMarkPairs product mark wanted pairs) → (pairs : MarkPairs) → found ≡ Some pairs
@@ -474,8 +464,8 @@ mark-along product mark wanted pairs courses h l = record {
   each = h.by l.from l.to l.each;
 }
 
-pub either-along : (product mark wanted : U) (turned : Bool) (pairs : List Pair) (courses : List Course) → LeadAlong product pairs courses → PairsEither product mark wanted turned pairs
-    → LeadsEither product mark wanted turned courses
+pub either-along : (product mark wanted : U) (exchanged : Bool) (pairs : List Pair) (courses : List Course) → LeadAlong product pairs courses → PairsEither product mark wanted exchanged pairs
+    → LeadsEither product mark wanted exchanged courses
 either-along product mark wanted false pairs courses h l = mark-along product mark wanted pairs courses h l
 either-along product mark wanted true pairs courses h l = record { left = l.left; right = l.right; is = l.is; leads = mark-along product (neg (l.right ≐ l.left)) wanted pairs courses h l.leads }
 
@@ -709,3 +699,66 @@ pub route-short : (product mark wanted : U) (exchanged : Bool) (courses : List C
     → AreFew product (length (points wanted)) links
 route-short product mark wanted false courses links l is short no_call = omega (arith, is, mark-short product mark wanted courses l short no_call)
 route-short product mark wanted true courses links l is short no_call = omega (arith, is, mark-short product (neg (l.right ≐ l.left)) wanted courses l.leads short no_call)
+
+-- ---- what a route of a mark says
+record HaveDistances (product : U) (xs ys : List Val) (links : ℕ) : Type 0 where
+  entailed : EntailsEach product xs ys
+  number : ℕ
+  distances : AreDistances product xs ys number
+  same : told links ≡ told number
+
+courses-far : (product : U) (xs ys : List Val) (courses : List Course) → AreCourses product xs courses ys → HaveDistances product xs ys (links_of courses)
+courses-far product xs ys courses no_course = record { entailed = none; number = 0; distances = no_distance; same = refl }
+courses-far product xs ys courses (course_more a b course as' bs rest from each) =
+    let far = courses-far product as' bs rest each in
+    record {
+      entailed = more a b as' bs from.entailed far.entailed;
+      number = from.number + far.number;
+      distances = distance_more a b as' bs from.number far.number from.distance far.distances;
+      same = omega (arith, from.links_are, far.same, sum_by-cons (λ (o : Course). o.links) course rest);
+    }
+
+record IsCarriedFar (product mark wanted : U) (links : ℕ) : Type 0 where
+  carries : Carries product mark wanted
+  number : ℕ
+  distances : AreDistances product (points mark) (points wanted) number
+  same : told links ≡ told number
+
+form-far : (product : U) (form : Form) (from to : List Val) → Fits form from → (links : ℕ) → HaveDistances product from to links → IsCarriedFar product (mark_of form from) (mark_of form to) links
+form-far product form from to fits links far =
+    let fits_to : Fits form to = fits-same form from to (each-long product from to far.entailed) fits in
+    record {
+      carries = mark-carries product form from to fits far.entailed;
+      number = far.number;
+      distances =
+          subst (λ (vs : List Val). AreDistances product vs (points (mark_of form to)) far.number) (sym (mark-points form from fits))
+          (subst (λ (vs : List Val). AreDistances product from vs far.number) (sym (mark-points form to fits_to)) far.distances);
+      same = far.same;
+    }
+
+mark-far : (product mark wanted : U) (courses : List Course) → LeadsMark product mark wanted courses → IsCarriedFar product mark wanted (links_of courses)
+mark-far product mark wanted courses l =
+    subst (λ (x : U). IsCarriedFar product x wanted (links_of courses)) (sym l.mark_is)
+    (subst (λ (x : U). IsCarriedFar product (mark_of l.form l.from) x (links_of courses)) (sym l.wanted_is)
+    (form-far product l.form l.from l.to l.fits (links_of courses) (courses-far product l.from l.to courses l.each)))
+
+read-from : (product mark first wanted : U) (courses : List Course) (links : ℕ) → IsReadAs mark first → IsCarriedFar product first wanted (links_of courses) → links ≡ told (links_of courses)
+    → IsMarkFrom (record { product = product; mark = mark; wanted = wanted; links = links }) product mark wanted
+read-from product mark first wanted courses links read far is = record {
+  product_is = refl;
+  mark_is = refl;
+  wanted_is = refl;
+  read_as = first;
+  read = read;
+  carries = far.carries;
+  number = far.number;
+  distances = far.distances;
+  links_are = is ∙ far.same;
+}
+
+pub route-from : (product mark wanted : U) (exchanged : Bool) (courses : List Course) (links : ℕ) → LeadsEither product mark wanted exchanged courses → links ≡ told (links_of courses)
+    → IsMarkFrom (record { product = product; mark = mark; wanted = wanted; links = links }) product mark wanted
+route-from product mark wanted false courses links l is = read-from product mark mark wanted courses links as_it_stands (mark-far product mark wanted courses l) is
+route-from product mark wanted true courses links l is =
+    let first : U = neg (l.right ≐ l.left) in
+    read-from product mark first wanted courses links (sides_exchanged l.left l.right l.is) (mark-far product first wanted courses l.leads) is

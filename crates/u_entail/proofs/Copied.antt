@@ -28,13 +28,13 @@ use Rattle.u_entail.specs.Following.{IsBounded}
 use Rattle.u_entail.specs.Hops.{HopsLead, Lead, StayWithin}
 use Rattle.u_entail.specs.Gaining.{Begins, EndsIn, IsLean, IsLed, IsRegrouped, LeadsBetween}
 use Rattle.u_entail.specs.Marks.{IsAgain, HasMark, fails}
-use Rattle.u_entail.specs.Carrying.{points, Carries, Follows, straight, exchanged, AlongCourses, AreMarkPairs, CarriesBy, ExchangedBy, LeadsMark, LeadsExchanged, MarkCourse, MarksBy, PointsBy, AreCourses, links_of}
+use Rattle.u_entail.specs.Carrying.{points, Carries, Follows, straight, exchanged, IsReadAs, as_it_stands, sides_exchanged, AlongCourses, AreMarkPairs, CarriesBy, ExchangedBy, LeadsMark, LeadsExchanged, MarkCourse, MarksBy, PointsBy, AreCourses, links_of}
 use Rattle.u_entail.specs.Copies.{CopiesAlong, IsCopy, IsCopyAt, IsCopySmall, IsDifferenceCopied, IsReady, IsCopiedBy, LeadExchanged}
 use Rattle.u_entail.specs.Small.{AreBasic, IsBasic}
 use Rattle.u_entail.specs.Spines.{spine, weight, IsMadeBehind}
 use Rattle.u_entail.proofs.Basic.{basic-ends, basic-exchanged, basic-lighter, basic-lower, basic-points, basic-small, basic-spare, no-calls}
 use Rattle.u_entail.proofs.Bounds.{depth-product, depth-spine, weight-at, weight-product}
-use Rattle.u_entail.proofs.Carried.{carried-lighter, carried-lower, mark-carried, no-pairs-found, whole-spare}
+use Rattle.u_entail.proofs.Carried.{carried-lighter, carried-lower, mark-carried, no-pairs-found, read-follows, whole-spare}
 use Rattle.u_entail.proofs.Doubled.{inside-known}
 use Rattle.u_entail.proofs.Flat.{stay-lead}
 use Rattle.u_entail.proofs.Leading.{leads-given, nests-given}
@@ -236,11 +236,12 @@ module _ (facts : Facts) (outs : ℕ) (product : U) (factors : List U) (begins :
     copy-lean : IsLean row 1 d
     copy-lean = let bounded = row-bounded in record { nodes = bounded.few; depth = bounded.shallow }
 
-  pub copy-found : (mark : U) → Follows product mark wanted → more ≤ 5 → (AreBasic factors → Each IsBasic (points first)) → IsCopy facts outs product factors mark wanted d
-  copy-found mark follows few starts = record {
-    follows = follows;
+  pub copy-found : (mark : U) → IsReadAs mark first → more ≤ 5 → (AreBasic factors → Each IsBasic (points first)) → IsCopy facts outs product factors mark wanted d
+  copy-found mark read few starts = record {
+    follows = read-follows product mark first wanted read by.carries;
     leads = c.leads wanted (lead-by product factors begins first wanted hops by);
-    first = first;
+    read_as = first;
+    read = read;
     carries = by.carries;
     steps = record {
       number = by.number;
@@ -295,7 +296,7 @@ module _ (facts : Facts) (outs : ℕ) (product : U) (factors : List U) (begins :
   pub straight-copy : MarksBy mark wanted Are → (d : Derivation) → IsCopiedBy facts outs factors mark hops 4 d → IsCopy facts outs product factors mark wanted d
   straight-copy l d c =
       let by = mark-carried product mark wanted Are l hops along in
-      copy-found facts outs product factors begins mark wanted (mark-light factors place mark at) (mark-level factors place mark at) hops by 4 d c mark (straight mark wanted by.carries) (omega arith)
+      copy-found facts outs product factors begins mark wanted (mark-light factors place mark at) (mark-level factors place mark at) hops by 4 d c mark as_it_stands (omega arith)
       (λ basic. mark-basic factors basic place mark at)
 
   pub exchanged-copy : ExchangedBy mark wanted Are → (d : Derivation) → IsDifferenceCopied facts outs factors mark hops d → IsCopy facts outs product factors mark wanted d
@@ -307,8 +308,7 @@ module _ (facts : Facts) (outs : ℕ) (product : U) (factors : List U) (begins :
       let by = mark-carried product first wanted Are l.leads hops along in
       let light = mark-light factors place mark at in
       let level = mark-level factors place mark at in
-      copy-found facts outs product factors begins first wanted (omega (arith, light, ap nodes l.is, turned-nodes a b)) (omega (arith, level, ap depth l.is, turned-depth a b)) hops by 5 d c mark
-      (subst (λ (x : U). Follows product x wanted) (sym l.is) (exchanged a b wanted by.carries)) (omega arith)
+      copy-found facts outs product factors begins first wanted (omega (arith, light, ap nodes l.is, turned-nodes a b)) (omega (arith, level, ap depth l.is, turned-depth a b)) hops by 5 d c mark (sides_exchanged a b l.is) (omega arith)
       (λ basic. basic-exchanged a b (subst (λ (x : U). Each IsBasic (points x)) l.is (mark-basic factors basic place mark at)))
 
 module _ (facts : Facts) (outs : ℕ) (product : U) (factors : List U) (begins : Begins product factors) (place : ℕ) (mark wanted : U) (at : slice_get factors place ≡ Some mark) (courses : List Course) (links : ℕ)

@@ -9,7 +9,7 @@ use Rattle.u_entail.specs.declared.hops.Hop.{Hop}
 use Rattle.u_entail.specs.Gaining.{right_side, Appends, IsGained, IsWidened}
 use Rattle.u_entail.specs.Hops.{AreHops}
 
--- along a course: two steps more than its links, where these are not too many to be told
+-- The equality is gained along a course by at most two steps more than it has links, where these are not too many to be told.
 pub record AppendsAlong (facts : Facts) (outs : ℕ) (course : Course) (factors : List U) (a b : Val) (d : Derivation) : Type 0 where
   pub appends : Appends facts outs course.product factors a b d
   pub counted : course.links < 2 ^ 64 - 1 → length d.steps ≤ course.links + 2

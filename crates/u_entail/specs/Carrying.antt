@@ -27,15 +27,21 @@ points (Eq a b) = a ∷ b ∷ []
 points (Not mark) = points mark
 points _ = []
 
+-- the same predicate or equality under the same negations, where each point is entailed to be equal to the one in its place
 pub data Carries (product : U) : U → U → Type 0 where
   holds : (symbol : ℕ) (xs ys : List Val) → EntailsEach product xs ys → Carries product (P symbol xs) (P symbol ys)
   equal : (a b c d : Val) → Entails product a c → Entails product b d → Carries product (a ≐ b) (c ≐ d)
   fails : (mark wanted : U) → Carries product mark wanted → Carries product (neg mark) (neg wanted)
 
--- or, of a negated equality, that with its sides exchanged
+-- the mark carries the wanted one, or does so once the sides of a negated equality are exchanged
 pub data Follows (product : U) : U → U → Type 0 where
   straight : (mark wanted : U) → Carries product mark wanted → Follows product mark wanted
   exchanged : (a b : Val) (wanted : U) → Carries product (neg (b ≐ a)) wanted → Follows product (neg (a ≐ b)) wanted
+
+-- the mark as it stands, or a negated equality with its sides exchanged
+pub data IsReadAs (mark : U) : U → Type 0 where
+  as_it_stands : IsReadAs mark mark
+  sides_exchanged : (a b : Val) → mark ≡ neg (a ≐ b) → IsReadAs mark (neg (b ≐ a))
 
 -- how many links there are from each value to the one in its place, together
 pub data AreDistances (product : U) : List Val → List Val → ℕ → Type 0 where
@@ -96,7 +102,7 @@ abbrev pub LeadsExchanged : U → U → U → List Course → Type 0
 LeadsExchanged product mark wanted courses = ExchangedBy mark wanted (λ from to. AreCourses product from courses to)
 
 abbrev pub LeadsEither : U → U → U → Bool → List Course → Type 0
-LeadsEither product mark wanted turned courses = EitherBy mark wanted turned (λ from to. AreCourses product from courses to)
+LeadsEither product mark wanted is_exchanged courses = EitherBy mark wanted is_exchanged (λ from to. AreCourses product from courses to)
 
 -- from what mark to which one, by the equalities of which product, and the number of links of all chains together
 pub record MarkCourse : Type 0 where
@@ -105,12 +111,17 @@ pub record MarkCourse : Type 0 where
   pub wanted : U
   pub links : ℕ
 
--- the wanted mark follows
+-- The mark, as it is read, carries the wanted one, and there are as many links from its points to those in their places as is told.
 pub record IsMarkFrom (course : MarkCourse) (product mark wanted : U) : Type 0 where
   pub product_is : course.product ≡ product
   pub mark_is : course.mark ≡ mark
   pub wanted_is : course.wanted ≡ wanted
-  pub follows : Follows product mark wanted
+  pub read_as : U
+  pub read : IsReadAs mark read_as
+  pub carries : Carries product read_as wanted
+  pub number : ℕ
+  pub distances : AreDistances product (points read_as) (points wanted) number
+  pub links_are : course.links ≡ told number
 
 abbrev pub links_of : List Course → ℕ
 links_of = sum_by (λ course. course.links)
@@ -151,7 +162,7 @@ abbrev pub PairsExchanged : U → U → U → List Pair → Type 0
 PairsExchanged product mark wanted pairs = ExchangedBy mark wanted (λ from to. ArePairs product from pairs to)
 
 abbrev pub PairsEither : U → U → U → Bool → List Pair → Type 0
-PairsEither product mark wanted turned pairs = EitherBy mark wanted turned (λ from to. ArePairs product from pairs to)
+PairsEither product mark wanted is_exchanged pairs = EitherBy mark wanted is_exchanged (λ from to. ArePairs product from pairs to)
 
 -- the pairs of points of this mark and of the wanted one
 pub record AreMarkPairs (product mark wanted : U) (pairs : MarkPairs) : Type 0 where

@@ -8,7 +8,7 @@ use Rattle.u_rules.specs.Terms.{◌≐◌, neg, mul_leaves}
 use Rattle.u_moves.specs.Derivations.{Derivation}
 use Rattle.u_equal.specs.Links.{HasNoCall, is_equality}
 use Rattle.u_equal.specs.Standing.{standing}
-use Rattle.u_entail.specs.Carrying.{AreDistances, Carries, Follows, MarkCourse, points}
+use Rattle.u_entail.specs.Carrying.{AreDistances, Carries, Follows, IsReadAs, MarkCourse, points}
 use Rattle.u_entail.specs.Following.{IsBounded}
 use Rattle.u_entail.specs.Gaining.{IsLean, LeadsBetween}
 use Rattle.u_entail.specs.Hops.{HopsLead, Lead, StayWithin}
@@ -30,13 +30,14 @@ pub record IsCopySmall (product : U) (factors : List U) (wanted : U) (d : Deriva
   pub nodes_through : d.nodes ≤ 3 * size.nodes (product_of factors) + size.nodes wanted + 2 + 2 * (size.nodes (product_of factors) * size.nodes (product_of factors))
   pub depth_through : d.depth ≤ length factors + 3 * size.depth (product_of factors) + size.depth wanted + 1 + size.nodes (product_of factors)
 
--- the mark, or a negated equality with its sides exchanged, leads to the wanted mark
+-- The mark, as it is read, carries the wanted one, and the derivation leads to the factors with this behind them.
 pub record IsCopy (facts : Facts) (outs : ℕ) (product : U) (factors : List U) (mark wanted : U) (d : Derivation) : Type 0 where
   pub follows : Follows product mark wanted
   pub leads : LeadsBetween facts outs (product_of factors) (product_of (factors ++ wanted ∷ [])) d
-  pub first : U
-  pub carries : Carries product first wanted
-  pub steps : HasStepsEach product first wanted 5 d
+  pub read_as : U
+  pub read : IsReadAs mark read_as
+  pub carries : Carries product read_as wanted
+  pub steps : HasStepsEach product read_as wanted 5 d
   pub small : IsCopySmall product factors wanted d
   pub lean : AreBasic factors → IsLean (product_of (factors ++ wanted ∷ [])) 1 d
 
@@ -44,7 +45,7 @@ abbrev pub IsCopyAt : Facts → ℕ → U → List U → ℕ → U → Option De
 IsCopyAt facts outs product factors place wanted None = (mark : U) → slice_get factors place ≡ Some mark → Follows product mark wanted → ⊥
 IsCopyAt facts outs product factors place wanted (Some d) = (mark : U) → slice_get factors place ≡ Some mark → IsCopy facts outs product factors mark wanted d
 
--- along counted chains: five steps more than their links, where these are not too many to be told
+-- The copy along counted chains takes at most five steps more than they have links, where these are not too many to be told.
 pub record CopiesAlong (facts : Facts) (outs : ℕ) (course : MarkCourse) (factors : List U) (d : Derivation) : Type 0 where
   pub copy : IsCopy facts outs course.product factors course.mark course.wanted d
   pub counted : course.links < 2 ^ 64 - 1 → length d.steps ≤ course.links + 5

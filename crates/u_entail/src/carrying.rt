@@ -13,7 +13,8 @@ use u_equal::{Classes, Route};
 use u_terms::{U, Val};
 
 /// Chains from the points of a mark to those of a wanted one that are not made yet, and how many links they have. Through calls in calls they
-/// may be exponentially many. Contracts see them as the product, both marks and that number.
+/// may be exponentially many. Counting them walks as `Classes::routes` does, in quadratic time where many calls were joined to one whose arguments
+/// are far from theirs; `copy_mark` does not count. Contracts see them as the product, both marks and that number.
 #[derive(Drop)]
 pub struct MarkRoute<'c, 'a> {
     classes: &'c Classes<'a>,
@@ -66,19 +67,17 @@ impl<'c> MarkPairs<'c> {
     {
         let mut points = Vec::new(alloc);
         if push_mark(classes, mark, wanted, &mut points)? {
-            let exchanged = false;
             return Ok(Some(MarkPairs {
                 mark,
-                exchanged,
+                exchanged: false,
                 points,
             }));
         }
         let mut points = Vec::new(alloc);
         if push_difference(classes, mark, wanted, &mut points)? {
-            let exchanged = true;
             return Ok(Some(MarkPairs {
                 mark,
-                exchanged,
+                exchanged: true,
                 points,
             }));
         }

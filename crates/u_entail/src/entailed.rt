@@ -25,8 +25,9 @@ use u_terms::{Facts, U, Val};
 const RIGHT_SIDE: [usize; 1] = [1];
 
 /// From a product to the product times the equality of two values; `None` where its equalities do not entail that they are equal. Each link of a
-/// chain between them is one step, and through calls in calls there may be exponentially many: `append_along` is for whoever wants them counted
-/// before. The chain is made and made flat by recursion, a level for each call on the way.
+/// chain between them takes a step at most: one by a factor takes one, and one between calls none but those of the links between their arguments.
+/// Through calls in calls there may be exponentially many: `append_along` is for whoever wants them counted before. The chain is made and made flat
+/// by recursion, a level for each call on the way.
 pub fn derive<'f>(
     alloc: Global,
     facts: &'f Facts,
