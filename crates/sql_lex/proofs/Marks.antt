@@ -3,7 +3,6 @@ use Rattle.std.proofs.Common.{◌≡◌, ℕ, suc, ◌+◌, ◌≤◌, Bool, tru
 use Rattle.std.proofs.lemmas.Bool.{cases_Bool, eqb-true}
 use Rattle.std.proofs.lemmas.Bool.Decides.{nat_tests}
 use Rattle.std.proofs.lemmas.List.{append-nil}
-use Rattle.data_model.proofs.Sums.{equal_self}
 use Rattle.sql_lex.specs.Classes.{doubled}
 use Rattle.sql_lex.specs.Front.{end_len, first_passes, one_more}
 use Rattle.sql_lex.proofs.Steps.{later, later-none, later-one_more}
@@ -25,6 +24,9 @@ later-least n None m e = absurd cc
 later-least n (Some k) m e = let same : n + k ≡ m = cc in omega arith
 
 module _ (mark : ℕ) where
+  itself : nat_eq mark mark ≡ true
+  itself = grind (arith, nat_tests)
+
   -- a mark that stands just before
   abbrev pub behind : Bool → List ℕ → List ℕ
   behind true bytes = mark ∷ bytes
@@ -38,7 +40,7 @@ module _ (mark : ℕ) where
   end_len-doubled [] ys = sym (later-none _)
   end_len-doubled (byte ∷ inside) ys = elim (cases_Bool (nat_eq byte mark)) [
     | inl same ↦
-        rw same (rw (equal_self mark, end_len-doubled inside ys)
+        rw same (rw (itself, end_len-doubled inside ys)
         (ap one_more (one_more-later (length (doubled mark inside)) (end_len mark false ys)) ∙ one_more-later (suc (length (doubled mark inside))) (end_len mark false ys)))
     | inr other ↦ rw (other, other, end_len-doubled inside ys) (one_more-later (length (doubled mark inside)) (end_len mark false ys))
   ]
@@ -52,7 +54,7 @@ module _ (mark : ℕ) where
     pub alone : first_passes (nat_eq mark) rest ≡ false
 
   doubled-mark : (inside : List ℕ) → doubled mark (mark ∷ inside) ≡ mark ∷ mark ∷ doubled mark inside
-  doubled-mark inside = rw (equal_self mark) refl
+  doubled-mark inside = rw (itself) refl
 
   doubled-other : (byte : ℕ) (inside : List ℕ) → nat_eq byte mark ≡ false → doubled mark (byte ∷ inside) ≡ byte ∷ doubled mark inside
   doubled-other byte inside other = rw other refl
@@ -138,7 +140,7 @@ module _ (mark : ℕ) where
   open-none inside = ap (end_len mark false) (sym (append-nil (doubled mark inside))) ∙ end_len-doubled inside []
 
   one_more-end : (inside after : List ℕ) → end_len mark false (doubled mark inside ++ mark ∷ after) ≡ later (suc (length (doubled mark inside))) (end_len mark true after)
-  one_more-end inside after = end_len-doubled inside (mark ∷ after) ∙ rw (equal_self mark) (later-one_more (length (doubled mark inside)) _)
+  one_more-end inside after = end_len-doubled inside (mark ∷ after) ∙ rw (itself) (later-one_more (length (doubled mark inside)) _)
 
   -- a mark that ends bytes does not stand behind the one that was found
   pub end_len-least : (inside after : List ℕ) (m : ℕ) → end_len mark false (doubled mark inside ++ mark ∷ after) ≡ Some m → length (doubled mark inside) + 1 ≤ m

@@ -1,7 +1,6 @@
 -- The classes of tokens (SQL, ISO/IEC 9075-2, 5.2 to 5.4), each by the bytes of a token as they are written.
-use Rattle.std.specs.Prelude.{ℕ, ◌≡◌, ◌≢◌, ◌++◌, Bool, nat_eq, if◌then◌else◌, List, [], ◌∷◌, IsTrue, ◌⊎◌, codes}
+use Rattle.std.specs.Prelude.{ℕ, ◌≡◌, ◌≢◌, ◌++◌, Bool, nat_eq, if◌then◌else◌, List, [], ◌∷◌, IsTrue, ◌⊎◌, bytes_eq, codes}
 use Rattle.std.specs.List.{list_all, list_any}
-use Rattle.data_model.specs.Rows.{same_row}
 use Rattle.sql_lex.specs.declared.token.TokenKind.{TokenKind}
 use Rattle.sql_lex.specs.declared.token.TokenKind.TheVariants.{Word, Quoted, Number, Text, Symbol}
 use Rattle.sql_lex.specs.Bytes.{begins_word, goes_on_word, is_digit, quote, double_quote, point}
@@ -50,7 +49,7 @@ is_single byte = list_any (nat_eq byte) (codes "(),;.*=<>+-/")
 
 -- the symbols of two bytes; `!=` is `<>`
 abbrev pub is_pair : ℕ → ℕ → Bool
-is_pair first second = list_any (same_row (first ∷ second ∷ [])) (codes "<>" ∷ codes "!=" ∷ codes "<=" ∷ codes ">=" ∷ codes "||" ∷ [])
+is_pair first second = list_any (bytes_eq (first ∷ second ∷ [])) (codes "<>" ∷ codes "!=" ∷ codes "<=" ∷ codes ">=" ∷ codes "||" ∷ [])
 
 abbrev pub IsSymbol : List ℕ → Type 0
 IsSymbol [] = ⊥

@@ -1,7 +1,6 @@
 -- Words that are never names, unless they are quoted (SQL, ISO/IEC 9075-2, 5.2, reserved words, as far as they are used here or left out by name).
-use Rattle.std.specs.Prelude.{ℕ, Bool, ◌||◌, List, [], ◌∷◌, codes}
+use Rattle.std.specs.Prelude.{ℕ, Bool, ◌||◌, List, [], ◌∷◌, bytes_eq, codes}
 use Rattle.std.specs.List.{list_any}
-use Rattle.data_model.specs.Rows.{same_row}
 
 -- the words that the grammar uses
 abbrev pub used_words : List (List ℕ)
@@ -23,8 +22,8 @@ left_out_words =
     codes "using" ∷ codes "when" ∷ codes "window" ∷ codes "with" ∷ []
 
 abbrev pub is_reserved : List ℕ → Bool
-is_reserved word = list_any (same_row word) used_words || list_any (same_row word) left_out_words
+is_reserved word = list_any (bytes_eq word) used_words || list_any (bytes_eq word) left_out_words
 
 -- Words at which a refusal says that the grammar leaves them out: those of that list, and two that it uses in few places.
 abbrev pub is_left_out : List ℕ → Bool
-is_left_out word = list_any (same_row word) (codes "all" ∷ codes "null" ∷ left_out_words)
+is_left_out word = list_any (bytes_eq word) (codes "all" ∷ codes "null" ∷ left_out_words)

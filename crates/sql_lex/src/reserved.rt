@@ -1,7 +1,6 @@
 //! Words, compared without regard to case, and those that are never names.
-ghost use Rattle.std.specs.Prelude.{◌≡◌, map};
+ghost use Rattle.std.specs.Prelude.{◌≡◌, bytes_eq, map};
 ghost use Rattle.std.specs.List.{list_any};
-ghost use Rattle.data_model.specs.Rows.{same_row};
 ghost use Rattle.sql_lex.specs.Bytes.{folded_byte};
 ghost use Rattle.sql_lex.specs.Reserved.{is_left_out, is_reserved};
 
@@ -85,14 +84,14 @@ const LEFT_OUT_WORDS: [&[u8]; 39] = [
 
 /// Whether the two words are the same after folding.
 pub fn is_same_word(text: &[u8], word: &[u8]) -> bool
-    ensures { result ≡ same_row (map folded_byte text.now) (map folded_byte word.now) }
+    ensures { result ≡ bytes_eq (map folded_byte text.now) (map folded_byte word.now) }
 {
     text.eq_ignore_ascii_case(word)
 }
 
 fn is_among(text: &[u8], words: &[&[u8]]) -> bool
     ensures { result ≡
-        list_any (λ word. same_row (map folded_byte text.now) (map folded_byte word.now)) words.now }
+        list_any (λ word. bytes_eq (map folded_byte text.now) (map folded_byte word.now)) words.now }
 {
     words.iter().any(|word| is_same_word(text, word))
 }
