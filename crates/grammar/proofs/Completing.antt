@@ -8,11 +8,18 @@ use Rattle.grammar.specs.Form.{Form, token, seq, alt, star, nest, map, nonempty,
 use Rattle.grammar.specs.Lookahead.{PredictiveGrammar}
 use Rattle.grammar.specs.Reading.{Took}
 use Rattle.grammar.specs.Completions.{Fills, Reaches, Continues, Overspends}
-use Rattle.grammar.proofs.Sets.{and_both}
+use Rattle.grammar.proofs.Sets.{and_both, and_left, and_right}
 use Rattle.grammar.proofs.Predictions.{free, bounded, bounded_within, produced}
 
 pub both_chosen : {T : Type 0} (chosen : T → Bool) (x y : List T) → list_all chosen x ≡ true → list_all chosen y ≡ true → list_all chosen (x ++ y) ≡ true
 both_chosen chosen x y p q = list_all-append chosen x y ∙ and_both (list_all chosen x) (list_all chosen y) p q
+
+module _ {T : Type 0} (chosen : T → Bool) where
+  pub first_chosen : (ts x y : List T) → ts ≡ x ++ y → list_all chosen ts ≡ true → list_all chosen x ≡ true
+  first_chosen ts x y i c = and_left (list_all chosen x) (list_all chosen y) (sym (list_all-append chosen x y) ∙ (ap (list_all chosen) (sym i) ∙ c))
+
+  pub second_chosen : (ts x y : List T) → ts ≡ x ++ y → list_all chosen ts ≡ true → list_all chosen y ≡ true
+  second_chosen ts x y i c = and_right (list_all chosen x) (list_all chosen y) (sym (list_all-append chosen x y) ∙ (ap (list_all chosen) (sym i) ∙ c))
 
 pub continues_whole : {T A : Type 0} (chosen : T → Bool) (L : Language T A) (ts : List T) → Continues chosen L ts L ts (λ v. v)
 continues_whole chosen L ts = record { reaches = λ v rest r. r }

@@ -15,9 +15,7 @@ pub mod Completing
 pub mod Fillings
 pub mod Longest
 pub mod Outcomes
-pub mod Costs
-pub mod CostCuts
-pub mod CostCompletions
+pub mod FrontCompletions
 pub mod SameFronts
 pub mod Prices
 pub mod SamePrices

@@ -1,12 +1,13 @@
 -- What is computed is spelled.
-use Rattle.std.proofs.Common.{◌≡◌, ℕ, zero, suc, ◌-◌, ◌≤◌, Bool, true, false, List, [], ◌∷◌, ◌++◌, length, length-append, append_assoc, ◌⊎◌, inl, inr, refl, sym, ◌∙◌, ap, subst, Some, None, arith}
+use Rattle.std.proofs.Common.{◌≡◌, ℕ, zero, suc, ◌-◌, ◌≤◌, ◌<◌, Bool, true, false, ◌||◌, List, [], ◌∷◌, ◌++◌, length, length-append, append_assoc, ◌⊎◌, inl, inr, refl, sym, ◌∙◌, ap, subst, Option, Some, None, arith}
 use Rattle.std.proofs.lemmas.List.{append-nil}
 use Rattle.std.proofs.lemmas.Bool.{ltb-true}
 use Rattle.std.specs.Prelude.{nat_lt}
-use Rattle.grammar.specs.Language.{Language, star_language, upto_language}
+use Rattle.grammar.specs.Language.{Language, Concatenates, star_language, upto_language, branch}
 use Rattle.grammar.specs.Form.{Form, Rules, Room, empty, token, seq, alt, star, nest, map, only, nonempty, counted, fork, ref, form_language, language_within, language}
-use Rattle.grammar.specs.Parses.{Parses, where_passes, with_values, then_parses, repeated_parses, either_parses, parses, name_parses, whole_values}
+use Rattle.grammar.specs.Parses.{Parses, where_passes, with_values, then_parses, repeated_parses, either_parses, most_times, parses, name_parses, whole_values, is_nil, any_parse, fewer_parses, either_begins, begins, name_begins}
 use Rattle.grammar.proofs.Heights.{in_name}
+use Rattle.grammar.proofs.Sets.{and_left, and_right}
 
 -- what is left of the tokens after some that spell the value
 abbrev Spelled : {T A : Type 0} → Language T A → List T → A → List T → Type 0
@@ -132,3 +133,123 @@ module _ {T K N : Type 0} {V : N → Type 0} (kind : T → K) (rules : Rules T K
   -- the first whole value that is computed is spelled
   pub computed : (height : ℕ) (room : Room) (n : N) (ts : List T) (v : V n) (vs : List (V n)) → whole_values (name_parses kind rules height room n ts) ≡ v ∷ vs → (language kind rules room n).spells ts v
   computed height room n ts v vs e = whole_sound (language kind rules room n) ts v vs (name_parses kind rules height room n ts) (name_sound height room n ts) e
+
+-- ---- fronts
+
+nil_begins : {T : Type 0} (ts : List T) → is_nil ts ≡ true → ts ≡ []
+nil_begins [] e = refl
+nil_begins (t ∷ ts) e = cc
+
+one_of_both : (p q : Bool) → p || q ≡ true → (p ≡ true) ⊎ (q ≡ true)
+one_of_both true q e = inl refl
+one_of_both false q e = inr e
+
+-- one of the parses, of which this holds
+record Goes {T A : Type 0} (L : Language T A) (ts : List T) (goes_on : A → List T → Bool) : Type 0 where
+  value : A
+  rest : List T
+  taken : Spelled L ts value rest
+  goes : goes_on value rest ≡ true
+
+goes : {T A : Type 0} (L : Language T A) (ts : List T) (goes_on : A → List T → Bool) (ps : Parses T A) → AreSound L ts ps → any_parse ps goes_on ≡ true → Goes L ts goes_on
+goes L ts goes_on [] s e = cc
+goes L ts goes_on (p ∷ ps) s e = elim (one_of_both (goes_on p.0 p.1) (any_parse ps goes_on) e) [
+  | inl i ↦ record { value = p.0; rest = p.1; taken = s.0; goes = i }
+  | inr i ↦ goes L ts goes_on ps s.1 i
+]
+
+module _ {T K N : Type 0} {V : N → Type 0} (kind : T → K) (E : Room → (n : N) → Language T (V n)) (P : Room → (n : N) → List T → Parses T (V n)) (F : Room → (n : N) → List T → Bool)
+    (sound : (room : Room) (n : N) (ts : List T) → AreSound (E room n) ts (P room n ts)) (front : (room : Room) (n : N) (ts : List T) → F room n ts ≡ true → (E room n).front ts) where
+  abbrev in_form : {A : Type 0} → Form T K N V A → Room → Language T A
+  in_form f room = form_language kind E room f
+
+  abbrev starts : {A : Type 0} → Form T K N V A → Room → List T → Bool
+  starts f room ts = begins kind P F room f ts
+
+  abbrev AreFronts : {A : Type 0} → Form T K N V A → Room → Type 0
+  AreFronts f room = (ts : List T) → starts f room ts ≡ true → (in_form f room).front ts
+
+  parsed : {A : Type 0} (f : Form T K N V A) (room : Room) (ts : List T) → AreSound (in_form f room) ts (parses kind P room f ts)
+  parsed f room ts = form_sound kind E P sound f room ts
+
+  token_front : (p : K → Bool) (room : Room) → AreFronts (token p) room
+  token_front p room [] e = inl refl
+  token_front p room (t ∷ []) e = inr (t, refl, and_left (p (kind t)) true e)
+  token_front p room (t ∷ u ∷ ts) e = absurd (never (and_right (p (kind t)) false e))
+    where
+      never : false ≡ true → ⊥
+      never i = cc
+
+  seq_front : {A B : Type 0} (f : Form T K N V A) (g : Form T K N V B) (room : Room) → AreFronts f room → AreFronts g room → AreFronts (seq f g) room
+  seq_front f g room m n ts e = elim (one_of_both (starts f room ts) _ e) [
+    | inl i ↦ inl (m ts i)
+    | inr i ↦ let r = goes (in_form f room) ts (λ v rest. starts g room rest) (parses kind P room f ts) (parsed f room ts) i in
+        inr (r.taken.0, r.rest, r.value, r.taken.1, r.taken.2, n r.rest r.goes)
+  ]
+
+  fork_front : {A B C : Type 0} (f : Form T K N V (A ⊎ B)) (g : Form T K N V (A → C)) (h : Form T K N V (B → C)) (room : Room) → AreFronts f room → AreFronts g room → AreFronts h room
+      → AreFronts (fork f g h) room
+  fork_front f g h room m n o ts e = elim (one_of_both (starts f room ts) _ e) [
+    | inl i ↦ inl (m ts i)
+    | inr i ↦ let r = goes (in_form f room) ts (λ v rest. either_begins (starts g room rest) (starts h room rest) v) (parses kind P room f ts) (parsed f room ts) i in
+        inr (r.taken.0, r.rest, r.value, r.taken.1, r.taken.2, either r.value r.rest r.goes)
+  ]
+    where
+      either : (v : _ ⊎ _) (rest : List T) → either_begins (starts g room rest) (starts h room rest) v ≡ true → (branch (in_form g room) (in_form h room) v).front rest
+      either (inl a) rest i = n rest i
+      either (inr b) rest i = o rest i
+
+  -- so many of the form, and the front of one more
+  fewer : {A : Type 0} (f : Form T K N V A) (room : Room) → AreFronts f room → (most : ℕ) (ts : List T)
+      → any_parse (fewer_parses most (parses kind P room f) ts) (λ vs rest. starts f room rest) ≡ true
+      → (x y : List T) × (vs : List A) × (ts ≡ x ++ y) × Concatenates (in_form f room).spells x vs × (in_form f room).front y × (length vs < most)
+  fewer f room m zero ts e = cc
+  fewer f room m (suc most) ts e =
+      let r = goes (upto_language most (in_form f room)) ts (λ vs rest. starts f room rest) (repeated_parses most (parses kind P room f) ts) (repeated_sound (in_form f room) (parses kind P room f) (parsed f room) most ts) e in
+      (r.taken.0, r.rest, r.value, r.taken.1, r.taken.2.0, m r.rest r.goes, below (length r.value) r.taken.2.1)
+    where
+      below : (n : ℕ) → n ≤ most → n < suc most
+      below n l = omega (arith, l)
+
+  star_front : {A : Type 0} (f : Form T K N V A) (most : Option ℕ) (room : Room) → AreFronts f room → AreFronts (star most f) room
+  star_front f most room m ts e = elim (one_of_both (is_nil ts) _ e) [
+    | inl i ↦ none room most (nil_begins ts i)
+    | inr i ↦ some room most m i
+  ]
+    where
+      none : (room : Room) (most : Option ℕ) → ts ≡ [] → (in_form (star most f) room).front ts
+      none None most i = inl i
+      none (Some levels) None i = inl i
+      none (Some levels) (Some most) i = inl i
+
+      some : (room : Room) (most : Option ℕ) → AreFronts f room → any_parse (fewer_parses (most_times room most ts) (parses kind P room f) ts) (λ vs rest. starts f room rest) ≡ true
+          → (in_form (star most f) room).front ts
+      some None most m i = let r = fewer f None m (length ts) ts i in inr (r.0, r.1, r.2, r.3, r.4, r.5)
+      some (Some levels) None m i = let r = fewer f (Some levels) m (length ts) ts i in inr (r.0, r.1, r.2, r.3, r.4, r.5)
+      some (Some levels) (Some most) m i = inr (fewer f (Some levels) m most ts i)
+
+  form_begins : {A : Type 0} (f : Form T K N V A) (room : Room) → AreFronts f room
+  form_begins empty room ts e = nil_begins ts e
+  form_begins (token p) room ts e = token_front p room ts e
+  form_begins (seq f g) room ts e = seq_front f g room (form_begins f room) (form_begins g room) ts e
+  form_begins (alt f g) room ts e = elim (one_of_both (starts f room ts) (starts g room ts) e) [ inl i ↦ inl (form_begins f room ts i) | inr i ↦ inr (form_begins g room ts i) ]
+  form_begins (star most f) room ts e = star_front f most room (form_begins f room) ts e
+  form_begins (nest f) None ts e = form_begins f None ts e
+  form_begins (nest f) (Some zero) ts e = nil_begins ts e
+  form_begins (nest f) (Some (suc levels)) ts e = form_begins f (Some levels) ts e
+  form_begins (map h f) room ts e = form_begins f room ts e
+  form_begins (only p f) room ts e = form_begins f room ts e
+  form_begins (nonempty f) room ts e = form_begins f room ts e
+  form_begins (counted f) room ts e = form_begins f room ts e
+  form_begins (fork f g h) room ts e = fork_front f g h room (form_begins f room) (form_begins g room) (form_begins h room) ts e
+  form_begins (ref n) room ts e = front room n ts e
+
+module _ {T K N : Type 0} {V : N → Type 0} (kind : T → K) (rules : Rules T K N V) where
+  begins_within : (height : ℕ) (room : Room) (n : N) (ts : List T) → name_begins kind rules height room n ts ≡ true → (language_within kind rules height room n).front ts
+  begins_within zero room n ts e = nil_begins ts e
+  begins_within (suc height) room n ts e =
+      form_begins kind (language_within kind rules height) (name_parses kind rules height) (name_begins kind rules height) (sound_within kind rules height) (begins_within height) (rules n) room ts e
+
+  -- what is computed to be a front is one
+  pub computed_front : (height : ℕ) (room : Room) (n : N) (ts : List T) → name_begins kind rules height room n ts ≡ true → (language kind rules room n).front ts
+  computed_front height room n ts e = (in_name kind rules height room n).front ts (begins_within height room n ts e)

@@ -1,5 +1,6 @@
 -- How readings of one part make a reading of its repetition, with no limit or with one on the number of parts.
 use Rattle.std.proofs.Common.{◌≡◌, ℕ, zero, suc, ◌≤◌, true, not, List, [], ◌∷◌, ◌++◌, length, Option, Some, None, inl, inr, refl, sym, ◌∙◌, ap, subst, append_assoc, arith}
+use Rattle.std.proofs.lemmas.List.{append-nil}
 use Rattle.grammar.specs.Language.{Language, HasFronts, Concatenates, seq_language, star_language, upto_language}
 use Rattle.grammar.specs.Form.{Room, repeated}
 use Rattle.grammar.specs.Lookahead.{Lookahead, star_lookahead}
@@ -12,6 +13,11 @@ use Rattle.grammar.proofs.Forms.{repeated_fronts, repeated_grows}
 use Rattle.grammar.proofs.Known.{Known, Parted, star_known}
 use Rattle.grammar.proofs.Steps.{IsWithin, seq_first_failed, seq_first_exceeded, seq_took, seq_second_failed, seq_second_exceeded}
 use Rattle.grammar.proofs.Choices.{is_absent}
+
+-- one more behind those that are there
+pub one_more : {T A : Type 0} (S : List T → A → Type 0) (x y : List T) (vs : List A) (v : A) → Concatenates S x vs → S y v → Concatenates S (x ++ y) (vs ++ v ∷ [])
+one_more S x y [] v i r = (y, [], ap (λ z. z ++ y) i ∙ sym (append-nil y), r, refl)
+one_more S x y (w ∷ vs) v (a, b, i, s, r) t = (a, b ++ y, ap (λ z. z ++ y) i ∙ append_assoc a b y, s, one_more S b y vs v r t)
 
 -- M' repeats B once more than M may: what one of B and then M spell or begin, M' does, and the other way where there are tokens
 pub record IsOneMore {T A : Type 0} (B : Language T A) (M M' : Language T (List A)) : Type 0 where

@@ -6,7 +6,7 @@ use Rattle.std.specs.List.{list_all}
 use Rattle.grammar.specs.Language.{Language, Concatenates}
 use Rattle.grammar.specs.Form.{Form, Room, empty, token, seq, alt, star, nest, map, only, nonempty, counted, fork, ref, form_language, language, language_within}
 use Rattle.grammar.specs.Lookahead.{Lookahead, PredictiveGrammar, are_apart, either_lookahead, is_predictive, lookahead}
-use Rattle.grammar.proofs.CostCuts.{first_chosen, second_chosen}
+use Rattle.grammar.proofs.Completing.{first_chosen, second_chosen}
 use Rattle.grammar.proofs.Cut.{Cut, longer, same, shorter, cut}
 use Rattle.grammar.proofs.Heights.{fronts_within, in_name, spelled_at, spelled_both}
 use Rattle.grammar.proofs.Known.{Known, Parted, narrowed, star_known, star_first}
@@ -19,10 +19,10 @@ Each R [] = Unit {0}
 Each R (v ∷ vs) = R v × Each R vs
 
 -- lists that are the same before the front ends, which it does in S, and hold only R behind
-abbrev pub AlikeLists : {A : Type 0} → (A → A → Type 0) → (A → Type 0) → List A → List A → Type 0
-AlikeLists S R [] ws = ⊥
-AlikeLists S R (v ∷ vs) [] = ⊥
-AlikeLists S R (v ∷ vs) (w ∷ ws) = (S v w × (Each R vs × Each R ws)) ⊎ ((v ≡ w) × AlikeLists S R vs ws)
+abbrev pub AlikeLists : {A : Type 0} → (A → A → Type 0) → (A → Type 0) → (A → Type 0) → List A → List A → Type 0
+AlikeLists S R Q [] ws = ⊥
+AlikeLists S R Q (v ∷ vs) [] = ⊥
+AlikeLists S R Q (v ∷ vs) (w ∷ ws) = (S v w × (Each R vs × Each Q ws)) ⊎ ((v ≡ w) × AlikeLists S R Q vs ws)
 
 -- what a value of either sort is made into by what follows
 abbrev pub Ends : {A B C : Type 0} → ((A → C) → Type 0) → ((B → C) → Type 0) → A ⊎ B → C → Type 0
@@ -75,7 +75,7 @@ module _ {T K : Type 0} (kind : T → K) {A : Type 0} (L : Language T A) (a : Lo
               (e2 ∙ (ap (λ u. u ∷ (k2 ++ z)) (same_token t t2 k k2 (sym o)) ∙ ap (λ u. t ∷ (u ++ z)) (same_rest t2 t k2 k o)))
           both (shorter u o h o2) = absurd (clash p2 p u o w v h r s (subst (λ c. next (kind c) ≡ true) (sym (same_token t2 u k2 (o ++ t ∷ k) o2)) (g t2 (k2 ++ z) e2)))
 
-module _ {T K N : Type 0} {V : N → Type 0} (g : PredictiveGrammar T K N V) (chosen : T → Bool) (Same : (n : N) → V n → V n → Type 0) (Still : (n : N) → V n → Type 0) where
+module _ {T K N : Type 0} {V : N → Type 0} (g : PredictiveGrammar T K N V) (chosen : T → Bool) (Still : (n : N) → V n → Type 0) where
   -- the value is one of chosen tokens
   abbrev pub StillOf : {A : Type 0} → Form T K N V A → A → Type 0
   StillOf empty v = Unit {0}
@@ -91,40 +91,22 @@ module _ {T K N : Type 0} {V : N → Type 0} (g : PredictiveGrammar T K N V) (ch
   StillOf (fork f e i) v = (u : _) × StillOf f u × Ends (StillOf e) (StillOf i) u v
   StillOf (ref n) v = Still n v
 
-  -- the values are the same up to where a front of both ends
-  abbrev pub SameOf : {A : Type 0} → Form T K N V A → A → A → Type 0
-  SameOf empty v w = Unit {0}
-  SameOf (token p) v w = v ≡ w
-  SameOf (seq f e) v w = (SameOf f v.0 w.0 × (StillOf e v.1 × StillOf e w.1)) ⊎ ((v.0 ≡ w.0) × SameOf e v.1 w.1)
-  SameOf (alt f e) v w = SameOf f v w ⊎ SameOf e v w
-  SameOf (star most f) vs ws = AlikeLists (SameOf f) (StillOf f) vs ws
-  SameOf (nest f) v w = SameOf f v w
-  SameOf (map h f) v w = (a b : _) × SameOf f a b × (v ≡ h a) × (w ≡ h b)
-  SameOf (only q f) v w = SameOf f v w
-  SameOf (nonempty f) v w = SameOf f v w
-  SameOf (counted f) v w = SameOf f v.0 w.0
-  SameOf (fork f e i) v w =
-      ((a b : _) × SameOf f a b × Ends (StillOf e) (StillOf i) a v × Ends (StillOf e) (StillOf i) b w)
-      ⊎ (((a : _) × (k l : _) × SameOf e k l × (v ≡ k a) × (w ≡ l a)) ⊎ ((b : _) × (k l : _) × SameOf i k l × (v ≡ k b) × (w ≡ l b)))
-  SameOf (ref n) v w = Same n v w
-
-  module _ (E : Room → (n : N) → Language T (V n)) (known : (room : Room) (n : N) → Known g.kind (E room n) (g.table n))
-      (still_name : (n : N) (ts : List T) (v : V n) → list_all chosen ts ≡ true → (E None n).spells ts v → Still n v) where
-    abbrev of : {A : Type 0} → Form T K N V A → Language T A
-    of f = form_language g.kind E None f
+  module _ (E : Room → (n : N) → Language T (V n)) (still_name : (n : N) (ts : List T) (v : V n) → list_all chosen ts ≡ true → (E None n).spells ts v → Still n v) where
+    abbrev in_form : {A : Type 0} → Form T K N V A → Language T A
+    in_form f = form_language g.kind E None f
 
     each_still : {A : Type 0} (S : List T → A → Type 0) (R : A → Type 0) → ((ts : List T) (v : A) → list_all chosen ts ≡ true → S ts v → R v)
         → (ts : List T) (vs : List A) → list_all chosen ts ≡ true → Concatenates S ts vs → Each R vs
     each_still S R m ts [] c s = tt
     each_still S R m ts (v ∷ vs) c (x, y, i, s, r) = (m x v (first_chosen chosen ts x y i c) s, each_still S R m y vs (second_chosen chosen ts x y i c) r)
 
-    pub still_of : {A : Type 0} (f : Form T K N V A) (ts : List T) (v : A) → list_all chosen ts ≡ true → (of f).spells ts v → StillOf f v
+    pub still_of : {A : Type 0} (f : Form T K N V A) (ts : List T) (v : A) → list_all chosen ts ≡ true → (in_form f).spells ts v → StillOf f v
     still_of empty ts v c s = tt
     still_of (token p) ts v c s = (and_left (chosen v) true (subst (λ z. list_all chosen z ≡ true) s.0 c), s.1)
     still_of (seq f e) ts v c (x, y, i, s, r) = (still_of f x v.0 (first_chosen chosen ts x y i c) s, still_of e y v.1 (second_chosen chosen ts x y i c) r)
     still_of (alt f e) ts v c (inl s) = inl (still_of f ts v c s)
     still_of (alt f e) ts v c (inr s) = inr (still_of e ts v c s)
-    still_of (star most f) ts v c s = each_still (of f).spells (StillOf f) (still_of f) ts v c s
+    still_of (star most f) ts v c s = each_still (in_form f).spells (StillOf f) (still_of f) ts v c s
     still_of (nest f) ts v c s = still_of f ts v c s
     still_of (map h f) ts v c (u, s, i) = (u, still_of f ts u c s, i)
     still_of (only q f) ts v c (s, i) = still_of f ts v c s
@@ -134,7 +116,43 @@ module _ {T K N : Type 0} {V : N → Type 0} (g : PredictiveGrammar T K N V) (ch
     still_of (fork f e i) ts v c (x, y, inr a, j, s, (k, r, o)) = (inr a, still_of f x (inr a) (first_chosen chosen ts x y j c) s, (k, still_of i y k (second_chosen chosen ts x y j c) r, o))
     still_of (ref n) ts v c s = still_name n ts v c s
 
-    module _ (same_name : (n : N) (b c x y z : List T) (v w : V n) → b ≡ x ++ y → c ≡ x ++ z → (x ≡ [] → ⊥) → list_all chosen y ≡ true → list_all chosen z ≡ true → (E None n).spells b v → (E None n).spells c w → Same n v w) where
+module _ {T K N : Type 0} {V : N → Type 0} (g : PredictiveGrammar T K N V) (chosen others : T → Bool) (Same : (n : N) → V n → V n → Type 0) (Still Loose : (n : N) → V n → Type 0) where
+  abbrev St : {A : Type 0} → Form T K N V A → A → Type 0
+  St f v = StillOf g chosen Still f v
+
+  abbrev Lo : {A : Type 0} → Form T K N V A → A → Type 0
+  Lo f v = StillOf g others Loose f v
+
+  -- the values are the same up to where a front of both ends
+  abbrev pub SameOf : {A : Type 0} → Form T K N V A → A → A → Type 0
+  SameOf empty v w = Unit {0}
+  SameOf (token p) v w = v ≡ w
+  SameOf (seq f e) v w = (SameOf f v.0 w.0 × (St e v.1 × Lo e w.1)) ⊎ ((v.0 ≡ w.0) × SameOf e v.1 w.1)
+  SameOf (alt f e) v w = SameOf f v w ⊎ SameOf e v w
+  SameOf (star most f) vs ws = AlikeLists (SameOf f) (St f) (Lo f) vs ws
+  SameOf (nest f) v w = SameOf f v w
+  SameOf (map h f) v w = (a b : _) × SameOf f a b × (v ≡ h a) × (w ≡ h b)
+  SameOf (only q f) v w = SameOf f v w
+  SameOf (nonempty f) v w = SameOf f v w
+  SameOf (counted f) v w = SameOf f v.0 w.0
+  SameOf (fork f e i) v w =
+      ((a b : _) × SameOf f a b × Ends (St e) (St i) a v × Ends (Lo e) (Lo i) b w)
+      ⊎ (((a : _) × (k l : _) × SameOf e k l × (v ≡ k a) × (w ≡ l a)) ⊎ ((b : _) × (k l : _) × SameOf i k l × (v ≡ k b) × (w ≡ l b)))
+  SameOf (ref n) v w = Same n v w
+
+  module _ (E : Room → (n : N) → Language T (V n)) (known : (room : Room) (n : N) → Known g.kind (E room n) (g.table n))
+      (still_name : (n : N) (ts : List T) (v : V n) → list_all chosen ts ≡ true → (E None n).spells ts v → Still n v)
+      (loose_name : (n : N) (ts : List T) (v : V n) → list_all others ts ≡ true → (E None n).spells ts v → Loose n v) where
+    abbrev of : {A : Type 0} → Form T K N V A → Language T A
+    of f = form_language g.kind E None f
+
+    st : {A : Type 0} (f : Form T K N V A) (ts : List T) (v : A) → list_all chosen ts ≡ true → (of f).spells ts v → St f v
+    st f ts v c s = still_of g chosen Still E still_name f ts v c s
+
+    lo : {A : Type 0} (f : Form T K N V A) (ts : List T) (v : A) → list_all others ts ≡ true → (of f).spells ts v → Lo f v
+    lo f ts v c s = still_of g others Loose E loose_name f ts v c s
+
+    module _ (same_name : (n : N) (b c x y z : List T) (v w : V n) → b ≡ x ++ y → c ≡ x ++ z → (x ≡ [] → ⊥) → list_all chosen y ≡ true → list_all others z ≡ true → (E None n).spells b v → (E None n).spells c w → Same n v w) where
       abbrev ok : {A : Type 0} → Form T K N V A → Bool
       ok f = is_predictive g.kinds g.table f
 
@@ -145,7 +163,7 @@ module _ {T K N : Type 0} {V : N → Type 0} (g : PredictiveGrammar T K N V) (ch
       known_of f o = form_known g.kind g.kinds g.every g.table E known f None o
 
       abbrev IsAlike : {A : Type 0} → Form T K N V A → Type 0
-      IsAlike f = ok f ≡ true → (b c x y z : List T) (v w : _) → b ≡ x ++ y → c ≡ x ++ z → (x ≡ [] → ⊥) → list_all chosen y ≡ true → list_all chosen z ≡ true → (of f).spells b v → (of f).spells c w → SameOf f v w
+      IsAlike f = ok f ≡ true → (b c x y z : List T) (v w : _) → b ≡ x ++ y → c ≡ x ++ z → (x ≡ [] → ⊥) → list_all chosen y ≡ true → list_all others z ≡ true → (of f).spells b v → (of f).spells c w → SameOf f v w
 
       begins_with : {A : Type 0} (f : Form T K N V A) (o : ok f ≡ true) (q : List T) (v : A) → (of f).spells q v → (t : T) (k : List T) → q ≡ t ∷ k → (la f).first (g.kind t) ≡ true
       begins_with f o q v s t k i = (known_of f o).ahead.first t k (subst (of f).front i ((known_of f o).fronts.spelled q v s))
@@ -166,8 +184,8 @@ module _ {T K N : Type 0} {V : N → Type 0} (g : PredictiveGrammar T K N V) (ch
 
           go : Parting x y z p q p2 q2 v.0 w.0 → SameOf (seq f e) v w
           go (within k l h h1 h2 h3) = inl (
-            mf of_f p p2 x k l v.0 w.0 h h2 n (first_chosen chosen y k q h1 cy) (first_chosen chosen z l q2 h3 cz) s s2,
-            (still_of e q v.1 (second_chosen chosen y k q h1 cy) r, still_of e q2 w.1 (second_chosen chosen z l q2 h3 cz) r2),
+            mf of_f p p2 x k l v.0 w.0 h h2 n (first_chosen chosen y k q h1 cy) (first_chosen others z l q2 h3 cz) s s2,
+            (st e q v.1 (second_chosen chosen y k q h1 cy) r, lo e q2 w.1 (second_chosen others z l q2 h3 cz) r2),
           )
           go (behind t k u h h1 h2) = inr (u, me of_e q q2 (t ∷ k) y z v.1 w.1 h1 h2 (λ a. cc) cy cz r r2)
 
@@ -214,19 +232,19 @@ module _ {T K N : Type 0} {V : N → Type 0} (g : PredictiveGrammar T K N V) (ch
           no_first [] v n e = n refl
           no_first (t ∷ u) v n e = cc
 
-          go : (b c x y z : List T) (vs ws : List A) → b ≡ x ++ y → c ≡ x ++ z → (x ≡ [] → ⊥) → list_all chosen y ≡ true → list_all chosen z ≡ true
-              → Concatenates (of f).spells b vs → Concatenates (of f).spells c ws → AlikeLists (SameOf f) (StillOf f) vs ws
+          go : (b c x y z : List T) (vs ws : List A) → b ≡ x ++ y → c ≡ x ++ z → (x ≡ [] → ⊥) → list_all chosen y ≡ true → list_all others z ≡ true
+              → Concatenates (of f).spells b vs → Concatenates (of f).spells c ws → AlikeLists (SameOf f) (St f) (Lo f) vs ws
           go b c x y z [] ws i j n cy cz s r = no_first x y n (sym i ∙ s)
           go b c x y z (v ∷ vs) [] i j n cy cz s r = no_first x z n (sym j ∙ r)
           go b c x y z (v ∷ vs) (w ∷ ws) i j n cy cz (p, q, d, s, r) (p2, q2, d2, s2, r2) =
               parts (part g.kind (of f) (la f) (known_of f of_f) (la f).first parted b c x y z p q p2 q2 v w i j d d2 s s2 (list_begins q vs r) (list_begins q2 ws r2))
               (λ t k h1 h2. go q q2 (t ∷ k) y z vs ws h1 h2 (λ a. cc) cy cz r r2)
             where
-              parts : Parting x y z p q p2 q2 v w → ((t : T) (k : List T) → q ≡ t ∷ (k ++ y) → q2 ≡ t ∷ (k ++ z) → AlikeLists (SameOf f) (StillOf f) vs ws)
-                  → AlikeLists (SameOf f) (StillOf f) (v ∷ vs) (w ∷ ws)
+              parts : Parting x y z p q p2 q2 v w → ((t : T) (k : List T) → q ≡ t ∷ (k ++ y) → q2 ≡ t ∷ (k ++ z) → AlikeLists (SameOf f) (St f) (Lo f) vs ws)
+                  → AlikeLists (SameOf f) (St f) (Lo f) (v ∷ vs) (w ∷ ws)
               parts (within k l h h1 h2 h3) ih = inl (
-                m of_f p p2 x k l v w h h2 n (first_chosen chosen y k q h1 cy) (first_chosen chosen z l q2 h3 cz) s s2,
-                (each_still (of f).spells (StillOf f) (still_of f) q vs (second_chosen chosen y k q h1 cy) r, each_still (of f).spells (StillOf f) (still_of f) q2 ws (second_chosen chosen z l q2 h3 cz) r2),
+                m of_f p p2 x k l v w h h2 n (first_chosen chosen y k q h1 cy) (first_chosen others z l q2 h3 cz) s s2,
+                (each_still g chosen Still E still_name (of f).spells (St f) (st f) q vs (second_chosen chosen y k q h1 cy) r, each_still g others Loose E loose_name (of f).spells (Lo f) (lo f) q2 ws (second_chosen others z l q2 h3 cz) r2),
               )
               parts (behind t k u h h1 h2) ih = inr (u, ih t k h1 h2)
 
@@ -261,11 +279,15 @@ module _ {T K N : Type 0} {V : N → Type 0} (g : PredictiveGrammar T K N V) (ch
         behind_begins (inl a) q v (k, s, i) t r j = or_left _ _ (begins_with e of_e q k s t r j)
         behind_begins (inr a) q v (k, s, i) t r j = or_right _ _ (begins_with h of_h q k s t r j)
 
-        behind_still : (u : A ⊎ B) (q : List T) (v : C) → list_all chosen q ≡ true → Behind u q v → Ends (StillOf e) (StillOf h) u v
-        behind_still (inl a) q v c (k, s, i) = (k, still_of e q k c s, i)
-        behind_still (inr a) q v c (k, s, i) = (k, still_of h q k c s, i)
+        behind_still : (u : A ⊎ B) (q : List T) (v : C) → list_all chosen q ≡ true → Behind u q v → Ends (St e) (St h) u v
+        behind_still (inl a) q v c (k, s, i) = (k, st e q k c s, i)
+        behind_still (inr a) q v c (k, s, i) = (k, st h q k c s, i)
 
-        behind_alike : (u : A ⊎ B) (q q2 x y z : List T) (v w : C) → q ≡ x ++ y → q2 ≡ x ++ z → (x ≡ [] → ⊥) → list_all chosen y ≡ true → list_all chosen z ≡ true
+        behind_loose : (u : A ⊎ B) (q : List T) (v : C) → list_all others q ≡ true → Behind u q v → Ends (Lo e) (Lo h) u v
+        behind_loose (inl a) q v c (k, s, i) = (k, lo e q k c s, i)
+        behind_loose (inr a) q v c (k, s, i) = (k, lo h q k c s, i)
+
+        behind_alike : (u : A ⊎ B) (q q2 x y z : List T) (v w : C) → q ≡ x ++ y → q2 ≡ x ++ z → (x ≡ [] → ⊥) → list_all chosen y ≡ true → list_all others z ≡ true
             → Behind u q v → Behind u q2 w → SameOf (fork f e h) v w
         behind_alike (inl a) q q2 x y z v w i j n cy cz (k, s, d) (l, r, d2) = inr (inl (a, k, l, me of_e q q2 x y z k l i j n cy cz s r, d, d2))
         behind_alike (inr a) q q2 x y z v w i j n cy cz (k, s, d) (l, r, d2) = inr (inr (a, k, l, mh of_h q q2 x y z k l i j n cy cz s r, d, d2))
@@ -282,7 +304,7 @@ module _ {T K N : Type 0} {V : N → Type 0} (g : PredictiveGrammar T K N V) (ch
         split b v (p, q, inl a, d, s, r) = record { first = p; second = q; value = inl a; in_order = d; spelled = s; follows = r }
         split b v (p, q, inr a, d, s, r) = record { first = p; second = q; value = inr a; in_order = d; spelled = s; follows = r }
 
-        fork_alike : (b c x y z : List T) (v w : C) → b ≡ x ++ y → c ≡ x ++ z → (x ≡ [] → ⊥) → list_all chosen y ≡ true → list_all chosen z ≡ true
+        fork_alike : (b c x y z : List T) (v w : C) → b ≡ x ++ y → c ≡ x ++ z → (x ≡ [] → ⊥) → list_all chosen y ≡ true → list_all others z ≡ true
             → (of (fork f e h)).spells b v → (of (fork f e h)).spells c w → SameOf (fork f e h) v w
         fork_alike b c x y z v w i j n cy cz s r = go (split b v s) (split c w r)
           where
@@ -295,9 +317,9 @@ module _ {T K N : Type 0} {V : N → Type 0} (g : PredictiveGrammar T K N V) (ch
                 parts (within k k2 h1 h2 h3 h4) = inl (
                   l.value,
                   m.value,
-                  mf of_f l.first m.first x k k2 l.value m.value h1 h3 n (first_chosen chosen y k l.second h2 cy) (first_chosen chosen z k2 m.second h4 cz) l.spelled m.spelled,
+                  mf of_f l.first m.first x k k2 l.value m.value h1 h3 n (first_chosen chosen y k l.second h2 cy) (first_chosen others z k2 m.second h4 cz) l.spelled m.spelled,
                   behind_still l.value l.second v (second_chosen chosen y k l.second h2 cy) l.follows,
-                  behind_still m.value m.second w (second_chosen chosen z k2 m.second h4 cz) m.follows,
+                  behind_loose m.value m.second w (second_chosen others z k2 m.second h4 cz) m.follows,
                 )
                 parts (behind t k u h1 h2 h3) = behind_alike m.value l.second m.second (t ∷ k) y z v w h2 h3 (λ a. cc) cy cz (subst (λ a. Behind a l.second v) u l.follows) m.follows
 
@@ -327,7 +349,7 @@ module _ {T K N : Type 0} {V : N → Type 0} (g : PredictiveGrammar T K N V) (ch
 
   -- ---- at all heights
 
-  module _ (still_rule : (n : N) (v : V n) → StillOf (g.rules n) v → Still n v) (same_rule : (n : N) (v w : V n) → SameOf (g.rules n) v w → Same n v w) where
+  module _ (still_rule : (n : N) (v : V n) → St (g.rules n) v → Still n v) (loose_rule : (n : N) (v : V n) → Lo (g.rules n) v → Loose n v) (same_rule : (n : N) (v w : V n) → SameOf (g.rules n) v w → Same n v w) where
     abbrev At : ℕ → Room → (n : N) → Language T (V n)
     At h = language_within g.kind g.rules h
 
@@ -336,19 +358,23 @@ module _ {T K N : Type 0} {V : N → Type 0} (g : PredictiveGrammar T K N V) (ch
 
     still_at : (h : ℕ) (n : N) (ts : List T) (v : V n) → list_all chosen ts ≡ true → (At h None n).spells ts v → Still n v
     still_at zero n ts v c s = absurd s
-    still_at (suc h) n ts v c s = still_rule n v (still_of (At h) (known_at h) (still_at h) (g.rules n) ts v c s)
+    still_at (suc h) n ts v c s = still_rule n v (still_of g chosen Still (At h) (still_at h) (g.rules n) ts v c s)
+
+    loose_at : (h : ℕ) (n : N) (ts : List T) (v : V n) → list_all others ts ≡ true → (At h None n).spells ts v → Loose n v
+    loose_at zero n ts v c s = absurd s
+    loose_at (suc h) n ts v c s = loose_rule n v (still_of g others Loose (At h) (loose_at h) (g.rules n) ts v c s)
 
     right_at : (n : N) → is_predictive g.kinds g.table (g.rules n) ≡ true
     right_at n = and_left (is_predictive g.kinds g.table (g.rules n)) _ (g.right n)
 
-    same_at : (h : ℕ) (n : N) (b c x y z : List T) (v w : V n) → b ≡ x ++ y → c ≡ x ++ z → (x ≡ [] → ⊥) → list_all chosen y ≡ true → list_all chosen z ≡ true
+    same_at : (h : ℕ) (n : N) (b c x y z : List T) (v w : V n) → b ≡ x ++ y → c ≡ x ++ z → (x ≡ [] → ⊥) → list_all chosen y ≡ true → list_all others z ≡ true
         → (At h None n).spells b v → (At h None n).spells c w → Same n v w
     same_at zero n b c x y z v w i j m cy cz s r = absurd s
     same_at (suc h) n b c x y z v w i j m cy cz s r =
-        same_rule n v w (alike (At h) (known_at h) (still_at h) (same_at h) (g.rules n) (right_at n) b c x y z v w i j m cy cz s r)
+        same_rule n v w (alike (At h) (known_at h) (still_at h) (loose_at h) (same_at h) (g.rules n) (right_at n) b c x y z v w i j m cy cz s r)
 
     -- two texts of a name that begin with the same tokens, and go on with chosen ones
-    pub same_fronts : (n : N) (x y z : List T) (v w : V n) → (x ≡ [] → ⊥) → list_all chosen y ≡ true → list_all chosen z ≡ true
+    pub same_fronts : (n : N) (x y z : List T) (v w : V n) → (x ≡ [] → ⊥) → list_all chosen y ≡ true → list_all others z ≡ true
         → (language g.kind g.rules None n).spells (x ++ y) v → (language g.kind g.rules None n).spells (x ++ z) w → Same n v w
     same_fronts n x y z v w m cy cz s r =
         let t = spelled_both g.kind g.rules None n (x ++ y) (x ++ z) v w s r in

@@ -1,5 +1,5 @@
 -- All ways to read the front of a list of tokens, computed. It is a help for samples: what is computed is spelled.
-use Rattle.std.specs.Prelude.{ℕ, nat_lt, zero, suc, ◌-◌, Bool, true, false, List, [], ◌∷◌, ◌++◌, length, Some, None, Option, ◌⊎◌}
+use Rattle.std.specs.Prelude.{ℕ, nat_lt, zero, suc, ◌-◌, Bool, true, false, ◌&&◌, ◌||◌, List, [], ◌∷◌, ◌++◌, length, Some, None, Option, ◌⊎◌}
 use Rattle.std.proofs.Common.{inl, inr}
 use Rattle.grammar.specs.Form.{Form, Rules, Room, empty, token, seq, alt, star, nest, map, only, nonempty, counted, fork, ref}
 
@@ -63,3 +63,50 @@ abbrev pub whole_values : {T A : Type 0} → Parses T A → List A
 whole_values [] = []
 whole_values ((v, []) ∷ parses) = v ∷ whole_values parses
 whole_values ((v, t ∷ rest) ∷ parses) = whole_values parses
+
+-- Whether a list is a front, computed: it ends within a form, or behind one and within what follows. It is a help for samples too: what is
+-- computed to be a front is one.
+abbrev pub is_nil : {T : Type 0} → List T → Bool
+is_nil [] = true
+is_nil (t ∷ ts) = false
+
+abbrev pub begins_token : {T : Type 0} → (T → Bool) → List T → Bool
+begins_token p [] = true
+begins_token p (t ∷ ts) = p t && is_nil ts
+
+-- what one of the parses leaves goes on so
+abbrev pub any_parse : {T A : Type 0} → Parses T A → (A → List T → Bool) → Bool
+any_parse [] goes_on = false
+any_parse (p ∷ ps) goes_on = goes_on p.0 p.1 || any_parse ps goes_on
+
+-- fewer times than so many
+abbrev pub fewer_parses : {T A : Type 0} → ℕ → (List T → Parses T A) → List T → Parses T (List A)
+fewer_parses zero one ts = []
+fewer_parses (suc most) one ts = repeated_parses most one ts
+
+abbrev pub either_begins : {A B : Type 0} → Bool → Bool → A ⊎ B → Bool
+either_begins p q (inl a) = p
+either_begins p q (inr b) = q
+
+abbrev pub begins : {T K N : Type 0} {V : N → Type 0} {A : Type 0} →
+    (T → K) → (Room → (n : N) → List T → Parses T (V n)) → (Room → (n : N) → List T → Bool) → Room → Form T K N V A → List T → Bool
+begins kind P F room empty ts = is_nil ts
+begins kind P F room (token p) ts = begins_token (λ t. p (kind t)) ts
+begins kind P F room (seq f g) ts = begins kind P F room f ts || any_parse (parses kind P room f ts) (λ v rest. begins kind P F room g rest)
+begins kind P F room (alt f g) ts = begins kind P F room f ts || begins kind P F room g ts
+begins kind P F room (star most f) ts =
+    is_nil ts || any_parse (fewer_parses (most_times room most ts) (parses kind P room f) ts) (λ vs rest. begins kind P F room f rest)
+begins kind P F None (nest f) ts = begins kind P F None f ts
+begins kind P F (Some zero) (nest f) ts = is_nil ts
+begins kind P F (Some (suc levels)) (nest f) ts = begins kind P F (Some levels) f ts
+begins kind P F room (map h f) ts = begins kind P F room f ts
+begins kind P F room (only p f) ts = begins kind P F room f ts
+begins kind P F room (nonempty f) ts = begins kind P F room f ts
+begins kind P F room (counted f) ts = begins kind P F room f ts
+begins kind P F room (fork f g h) ts =
+    begins kind P F room f ts || any_parse (parses kind P room f ts) (λ v rest. either_begins (begins kind P F room g rest) (begins kind P F room h rest) v)
+begins kind P F room (ref n) ts = F room n ts
+
+abbrev pub name_begins : {T K N : Type 0} {V : N → Type 0} → (T → K) → Rules T K N V → ℕ → Room → (n : N) → List T → Bool
+name_begins kind rules zero room n ts = is_nil ts
+name_begins kind rules (suc height) room n ts = begins kind (name_parses kind rules height) (name_begins kind rules height) room (rules n) ts

@@ -1,9 +1,9 @@
 //! Laws of grammars, each the contract of a function that does nothing.
-ghost use Rattle.std.specs.Prelude.{◌≡◌, ◌∷◌, List, Some, None, ℕ};
+ghost use Rattle.std.specs.Prelude.{◌≡◌, ◌∷◌, List, Some, None, true, ℕ};
 ghost use Rattle.grammar.specs.Form.{IsRoomier, Room, Rules, form_language, language};
 ghost use Rattle.grammar.specs.Language.{Includes, HasFronts, IsUnambiguous};
 ghost use Rattle.grammar.specs.Lookahead.{HasLookahead, PredictiveGrammar, limited, unlimited};
-ghost use Rattle.grammar.specs.Parses.{name_parses, whole_values};
+ghost use Rattle.grammar.specs.Parses.{name_begins, name_parses, whole_values};
 ghost use Rattle.grammar.specs.Reading.{Exceeded, Failed, IsLongestFront, Took};
 
 /// A grammar over tokens, which have kinds. Its names have productions, and values of their own.
@@ -53,10 +53,12 @@ pub fn productions<G: Grammar>()
         Includes (language G.kind G.rules room n) (form_language G.kind (language G.kind G.rules) room (G.rules n)) }
 {}
 
-/// What is computed to be a whole value is spelled, within any limits.
+/// What is computed to be a whole value is spelled, within any limits, and what is computed to be a front is one.
 pub fn computing<G: Grammar>()
-    ensures { (height : ℕ) (room : Room) (n : G.Name) (ts : List G.Token) (v : G.Tree n) (others : List (G.Tree n)) →
+    ensures spelled { (height : ℕ) (room : Room) (n : G.Name) (ts : List G.Token) (v : G.Tree n) (others : List (G.Tree n)) →
         whole_values (name_parses G.kind G.rules height room n ts) ≡ v ∷ others → (language G.kind G.rules room n).spells ts v }
+    ensures begun { (height : ℕ) (room : Room) (n : G.Name) (ts : List G.Token) → name_begins G.kind G.rules height room n ts ≡ true →
+        (language G.kind G.rules room n).front ts }
 {}
 
 /// Where a reader stops, it has taken the longest front.

@@ -1,5 +1,8 @@
-use Rattle.grammar.proofs.ParsesSound.{computed}
+use Rattle.grammar.proofs.ParsesSound.{computed, computed_front}
 use Rattle.grammar.proofs.laws.computing.Goals as goal
 
-pub returns : goal.returns
-returns g c = computed g.G.Grammar.kind g.G.Grammar.rules
+pub returns-clause-spelled : goal.returns-clause-spelled
+returns-clause-spelled g c = computed g.G.Grammar.kind g.G.Grammar.rules
+
+pub returns-clause-begun : goal.returns-clause-begun
+returns-clause-begun g c = computed_front g.G.Grammar.kind g.G.Grammar.rules
