@@ -6,11 +6,10 @@ use Rattle.sql_lex.specs.Lexemes.{Lexeme}
 use Rattle.sql_grammar.specs.Numbering.{Built}
 use Rattle.sql_model.specs.declared.tree.Query.{Query}
 use Rattle.sql_grammar.specs.QueryGrammar.{query}
-use Rattle.sql_grammar.specs.QueryCopies.{CopiesOf, IsCopyTooMany}
+use Rattle.sql_grammar.specs.QueryCopies.{CopiesOf, IsCopyTooMany, copies_nothing}
 use Rattle.sql_grammar.specs.QueryPlan.{of_plan}
-use Rattle.sql_grammar.specs.PlanCopies.{HasCopied, CopiesTooMuch, copies_nothing}
-use Rattle.sql_grammar.proofs.CopyCompletions.{quietly_completed}
-use Rattle.sql_grammar.proofs.CopyCuts.{completed_copies}
+use Rattle.sql_grammar.specs.PlanCopies.{HasCopied, CopiesTooMuch}
+use Rattle.sql_grammar.proofs.Copies.{completed_copies}
 use Rattle.sql_grammar.proofs.QueryKnown.{plan_includes}
 use Rattle.sql_grammar.proofs.PlanKnown.{grammar_includes}
 
@@ -20,8 +19,8 @@ plan_copies ts read c = completed_copies ts c.more read ((grammar_includes None 
 
 pub copies_in_plan : (ts : List Lexeme) (copies : ℕ) → CopiesOf ts copies → (read : Built Query) × HasCopied query ts read × (read.copies ≡ copies)
 copies_in_plan ts copies s =
-    let r = quietly_completed ts copies s in
-    (r.read, record { more = r.more; are_chosen = r.quiet; spelled = (plan_includes None query).spells (ts ++ r.more) r.read r.spelled }, r.same_copies)
+    let c = s.completes in
+    (s.read, record { more = c.more; are_chosen = c.are_chosen; spelled = (plan_includes None query).spells (ts ++ c.more) s.read c.spelled }, s.same_copies)
 
 -- up to the rest so much was copied
 pub reached_copies : (start taken rest : List Lexeme) (read : Built Query) → start ≡ taken ++ rest → Reaches copies_nothing (of_plan None query) start read rest → CopiesOf taken read.copies

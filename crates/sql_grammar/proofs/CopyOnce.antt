@@ -1,27 +1,25 @@
 -- A front has copied one number, which grows along fronts: so the limit on copies is passed at no more than one token of a text.
 use Rattle.std.proofs.Common.{◌≡◌, ℕ, ◌+◌, ◌≤◌, ◌<◌, true, List, [], ◌∷◌, ◌++◌, refl, sym, ◌∙◌, ap, subst, append_assoc, None, arith}
+use Rattle.std.proofs.lemmas.List.{append-nil}
 use Rattle.std.specs.List.{list_all}
 use Rattle.grammar.proofs.Cut.{Cut, longer, same, shorter, cut}
-use Rattle.grammar.proofs.SameFronts.{SameOf, StillOf, same_fronts}
+use Rattle.grammar.proofs.SameFronts.{SameOf, StillOf, same_fronts, still_texts}
+use Rattle.grammar.proofs.Sets.{and_both}
 use Rattle.sql_lex.specs.Lexemes.{Lexeme}
 use Rattle.sql_model.specs.declared.tree.Query.{Query}
 use Rattle.sql_grammar.specs.Numbering.{Built}
 use Rattle.sql_grammar.specs.QueryGrammar.{Production, Read, query, part, operand, block, item, from, entry, reference, expr, conj, neg, test, rest, value, term, unary, primary, agg, set_tail, and_tail, expr_tail, inner, in_inner, commas}
 use Rattle.grammar.specs.Form.{empty}
 use Rattle.sql_grammar.specs.Queries.{queries}
-use Rattle.sql_grammar.specs.QueryCopies.{CopiesOf, IsCopyTooMany, most_copies}
+use Rattle.sql_grammar.specs.QueryCopies.{CopiesOf, IsCopyTooMany, copies_nothing, most_copies}
 use Rattle.sql_grammar.specs.QueryPlan.{plan}
-use Rattle.sql_grammar.specs.PlanCopies.{copies_nothing}
-use Rattle.sql_grammar.proofs.CopyCompletions.{quietly_completed}
-use Rattle.sql_grammar.proofs.CopyCuts.{query_front}
-use Rattle.sql_grammar.proofs.CopyForms.{all_cuts}
 use Rattle.sql_grammar.proofs.CopyPrices.{price_of}
-use Rattle.sql_grammar.proofs.PlanPrices.{SameRead, StillRead, evenly, no_price, members_price, commas_even, set_tail_rule, and_tail_rule, expr_tail_rule}
+use Rattle.sql_grammar.proofs.PlanPrices.{any, SameRead, StillRead, LooseRead, evenly, none, no_price, members_price, commas_even, set_tail_rule, and_tail_rule, expr_tail_rule}
 use Rattle.sql_grammar.proofs.PlanSame.{test_rule, rest_rule, primary_rule, agg_rule, item_rule, insides_even}
 use Rattle.sql_grammar.proofs.QueryKnown.{plan_includes}
 use Rattle.sql_grammar.proofs.QueryTable.{planned}
 
-pub same_rule : (p : Production) (v w : Read p) → SameOf planned copies_nothing SameRead StillRead (plan p) v w → SameRead p v w
+pub same_rule : (p : Production) (v w : Read p) → SameOf planned copies_nothing any SameRead StillRead LooseRead (plan p) v w → SameRead p v w
 same_rule query v w s = (price_of evenly query refl).same v w s
 same_rule part v w s = (price_of evenly part refl).same v w s
 same_rule operand v w s = (price_of evenly operand refl).same v w s
@@ -29,7 +27,7 @@ same_rule block v w s = (price_of evenly block refl).same v w s
 same_rule item v w s = item_rule.same v w s
 same_rule from v w s = (price_of evenly from refl).same v w s
 same_rule entry v w s = (price_of evenly entry refl).same v w s
-same_rule reference v w s = refl
+same_rule reference v w s = none
 same_rule expr v w s = (price_of evenly expr refl).same v w s
 same_rule conj v w s = (price_of evenly conj refl).same v w s
 same_rule neg v w s = (price_of evenly neg refl).same v w s
@@ -46,7 +44,7 @@ same_rule expr_tail v w s = expr_tail_rule.same v w s
 same_rule inner v w s = (insides_even empty no_price evenly.of_empty).same v w s
 same_rule in_inner v w s = λ left. (insides_even commas (members_price left) (commas_even left)).same v w s
 
-pub still_rule : (p : Production) (v : Read p) → StillOf planned copies_nothing SameRead StillRead (plan p) v → StillRead p v
+pub still_rule : (p : Production) (v : Read p) → StillOf planned copies_nothing StillRead (plan p) v → StillRead p v
 still_rule query v s = (price_of evenly query refl).still v s
 still_rule part v s = (price_of evenly part refl).still v s
 still_rule operand v s = (price_of evenly operand refl).still v s
@@ -71,29 +69,47 @@ still_rule expr_tail v s = expr_tail_rule.still v s
 still_rule inner v s = (insides_even empty no_price evenly.of_empty).still v s
 still_rule in_inner v s = λ left. (insides_even commas (members_price left) (commas_even left)).still v s
 
--- queries that go on from one front with tokens that copy nothing copy the same
-same_copies : (x y z : List Lexeme) (v w : Built Query) → list_all copies_nothing y ≡ true → list_all copies_nothing z ≡ true → queries.spells (x ++ y) v
-    → queries.spells (x ++ z) w → v.copies ≡ w.copies
-same_copies [] y z v w c d s r = all_cuts.nothing query v y c s ∙ sym (all_cuts.nothing query w z d r)
-same_copies (t ∷ x) y z v w c d s r =
-    same_fronts planned copies_nothing SameRead StillRead still_rule same_rule query (t ∷ x) y z v w (λ e. cc) c d
-    ((plan_includes None query).spells (t ∷ (x ++ y)) v s) ((plan_includes None query).spells (t ∷ (x ++ z)) w r)
+pub loose_rule : (p : Production) (v : Read p) → StillOf planned any LooseRead (plan p) v → LooseRead p v
+loose_rule rest v s = rest_rule.loose v s
+loose_rule set_tail v s = set_tail_rule.loose v s
+loose_rule and_tail v s = and_tail_rule.loose v s
+loose_rule expr_tail v s = expr_tail_rule.loose v s
+loose_rule other v s = tt
 
--- a front has copied one number
-pub one_number : (ts : List Lexeme) (c d : ℕ) → CopiesOf ts c → CopiesOf ts d → c ≡ d
-one_number ts c d s r =
-    let p = quietly_completed ts c s in let q = quietly_completed ts d r in
-    sym p.same_copies ∙ (same_copies ts p.more q.more p.read q.read p.quiet q.quiet p.spelled q.spelled ∙ q.same_copies)
+any_tokens : (ts : List Lexeme) → list_all any ts ≡ true
+any_tokens [] = refl
+any_tokens (t ∷ ts) = and_both true (list_all any ts) refl (any_tokens ts)
+
+-- a query that goes on from a front with tokens that copy nothing copies no more than one that goes on from there with others
+no_less : (x y z : List Lexeme) (v w : Built Query) → list_all copies_nothing y ≡ true → queries.spells (x ++ y) v → queries.spells (x ++ z) w → v.copies ≤ w.copies
+no_less [] y z v w c s r =
+    none v.copies w.copies (still_texts planned copies_nothing any SameRead StillRead LooseRead still_rule loose_rule same_rule query y v c ((plan_includes None query).spells y v s))
+  where
+    none : (a b : ℕ) → a ≡ 0 → a ≤ b
+    none a b i = omega (arith, i)
+no_less (t ∷ x) y z v w c s r =
+    same_fronts planned copies_nothing any SameRead StillRead LooseRead still_rule loose_rule same_rule query (t ∷ x) y z v w (λ e. cc) c (any_tokens z)
+    ((plan_includes None query).spells (t ∷ (x ++ y)) v s) ((plan_includes None query).spells (t ∷ (x ++ z)) w r)
 
 -- a longer front has copied no less
 pub longer_copies : (x y : List Lexeme) (c d : ℕ) → CopiesOf (x ++ y) c → CopiesOf x d → d ≤ c
 longer_copies x y c d s r =
-    let p = quietly_completed (x ++ y) c s in
-    let f = query_front x (y ++ p.more) p.read (subst (λ z. queries.spells z p.read) (append_assoc x y p.more) p.spelled) in
-    few d f.cost p.read.copies c (one_number x d f.cost r f.begins) f.at_most p.same_copies
+    few r.read.copies s.read.copies
+    (no_less x r.completes.more (y ++ s.completes.more) r.read s.read r.completes.are_chosen r.completes.spelled (subst (λ z. queries.spells z s.read) (append_assoc x y s.completes.more) s.completes.spelled))
+    r.same_copies s.same_copies
   where
-    few : (d f r c : ℕ) → d ≡ f → f ≤ r → r ≡ c → d ≤ c
-    few d f r c i l j = omega (arith, i, l, j)
+    few : (a b : ℕ) → a ≤ b → a ≡ d → b ≡ c → d ≤ c
+    few a b l i j = omega (arith, l, i, j)
+
+-- a front has copied one number
+pub one_number : (ts : List Lexeme) (c d : ℕ) → CopiesOf ts c → CopiesOf ts d → c ≡ d
+one_number ts c d s r = both (longer_copies ts [] d c (whole d r) s) (longer_copies ts [] c d (whole c s) r)
+  where
+    whole : (n : ℕ) → CopiesOf ts n → CopiesOf (ts ++ []) n
+    whole n s = subst (λ z. CopiesOf z n) (sym (append-nil ts)) s
+
+    both : c ≤ d → d ≤ c → c ≡ d
+    both l m = omega (arith, l, m)
 
 -- in a text that is within the limit, no token passes it
 pub never_too_many : (copied copies : ℕ) (x more : List Lexeme) (t : Lexeme) → CopiesOf (x ++ t ∷ more) copies → copied + copies ≤ most_copies → IsCopyTooMany copied x t → ⊥

@@ -14,7 +14,26 @@ use Rattle.sql_grammar.specs.QueryTrees as t
 use Rattle.sql_grammar.specs.QueryTrees.{Left, Listed, SetWord, not_sub}
 use Rattle.sql_grammar.specs.QueryGrammar as grammar
 use Rattle.sql_grammar.specs.QueryGrammar.{Production, Read, The, a, one_of, name, called_word, aggregate_word, in_parentheses, parens, listed, alias, union_or_except, intersect, intersects, unions, products, sums, ands, ors, join_on, cross_join, group_by, not_neg, exists, minus, subquery, call, rules, query, part, operand, block, item, from, entry, reference, expr, conj, neg, test, rest, value, term, unary, primary, agg, set_tail, and_tail, expr_tail, inner, in_inner}
-use Rattle.sql_grammar.specs.QueryCopies.{copies_in}
+
+-- what is copied in a value of a production that goes by its parts alone
+abbrev pub copies_in : (p : Production) → Read p → ℕ
+copies_in query read = read.copies
+copies_in part read = read.copies
+copies_in operand read = read.copies
+copies_in block read = read.copies
+copies_in item read = read.copies
+copies_in from read = read.copies
+copies_in entry read = read.copies
+copies_in expr read = read.copies
+copies_in conj read = read.copies
+copies_in neg read = read.copies
+copies_in test read = read.copies
+copies_in value read = read.copies
+copies_in term read = read.copies
+copies_in unary read = read.copies
+copies_in primary read = read.copies
+copies_in agg read = read.copies
+copies_in other read = 0
 
 -- ---- lists of parts
 

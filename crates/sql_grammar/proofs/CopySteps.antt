@@ -3,7 +3,7 @@ use Rattle.std.proofs.Common.{◌≡◌, ℕ, ◌+◌, ◌*◌, ◌≤◌, ◌<�
 use Rattle.std.proofs.lemmas.List.{append-nil}
 use Rattle.std.specs.List.{list_all}
 use Rattle.grammar.specs.Language.{Language, nonempty_language}
-use Rattle.grammar.specs.Form.{ref, language}
+use Rattle.grammar.specs.Form.{ref, seq, language}
 use Rattle.grammar.specs.Productions.{skip_then}
 use Rattle.grammar.specs.Completions.{Fills, Reaches, Overspends}
 use Rattle.grammar.proofs.Forms.{form_grows, includes_through}
@@ -22,10 +22,10 @@ use Rattle.sql_grammar.specs.QueryTrees.{Left, weight}
 use Rattle.sql_grammar.specs.QueryGrammar as grammar
 use Rattle.sql_grammar.specs.QueryGrammar.{The, next_comma, commas, rules, expr_tail, set_tail, rest}
 use Rattle.sql_grammar.specs.QueryPlan.{plan, by_word, of_plan}
-use Rattle.sql_grammar.specs.PlanCopies.{copies_nothing}
-use Rattle.sql_grammar.proofs.Copies.{G, in_names, bounds}
-use Rattle.sql_grammar.proofs.CopyOnce.{same_rule, still_rule}
-use Rattle.sql_grammar.proofs.PlanPrices.{SameRead, StillRead, members_price}
+use Rattle.sql_grammar.specs.QueryCopies.{copies_nothing}
+use Rattle.sql_grammar.proofs.CopyOnce.{loose_rule, same_rule, still_rule}
+use Rattle.sql_grammar.proofs.PlanPrices.{any, SameRead, StillRead, LooseRead, members_price}
+use Rattle.sql_grammar.proofs.QueryCompletions.{G, in_names}
 use Rattle.sql_grammar.proofs.QueryFillings.{Filled, word, symbol, number_one, select_one, fill_token, fill_seq, fill_second, fill_map, fill_other, fill_none, fill_value, fill_expr, fill_part}
 use Rattle.sql_grammar.proofs.QueryKnown.{plan_includes}
 use Rattle.sql_grammar.proofs.QueryTable.{planned}
@@ -63,6 +63,9 @@ fill_like = fill_other _ (fill_other _ (fill_map (λ x word left. t.like word x 
 
 pub fill_high : Filled (skip_then (grammar.a k.And) (ref grammar.value)) number_one
 fill_high = fill_second (fill_token k.And (word (codes "and")) refl refl) fill_value
+
+abbrev bounds : The (Built Expr × Built Expr)
+bounds = seq (ref grammar.value) (skip_then (grammar.a k.And) (ref grammar.value))
 
 fill_bounds : Filled bounds (number_one, number_one)
 fill_bounds = fill_seq fill_value fill_high
@@ -180,7 +183,7 @@ pub expr_tail_reaches : (left : Left) (here : List Lexeme) (v : Left → Built E
     → SomeTail (of_plan None expr_tail) (λ f. (f left).copies) here beyond (v left).copies
 expr_tail_reaches left here v beyond r =
     some_tail (of_plan None expr_tail) (λ f. (f left).copies) here beyond v compared_tail (symbol 61) fill_value.by.filling fill_value.by.are_chosen expr_tail_spelled
-    (λ p. to_zero left.0.copies ∙ sym (still_texts planned copies_nothing SameRead StillRead still_rule same_rule expr_tail [] v refl p left)) r
+    (λ p. to_zero left.0.copies ∙ sym (still_texts planned copies_nothing any SameRead StillRead LooseRead still_rule loose_rule same_rule expr_tail [] v refl p left)) r
   where
     to_zero : (c : ℕ) → c + 0 ≡ c
     to_zero c = omega arith
@@ -217,7 +220,7 @@ pub set_tail_reaches : (q : Built Query) (here : List Lexeme) (v : Built Query �
     → SomeTail (of_plan None set_tail) (λ f. (f q).copies) here beyond (v q).copies
 set_tail_reaches q here v beyond r =
     some_tail (of_plan None set_tail) (λ f. (f q).copies) here beyond v union_tail (word (codes "union")) fill_part.by.filling fill_part.by.are_chosen set_tail_spelled
-    (λ p. to_zero q.copies ∙ sym (still_texts planned copies_nothing SameRead StillRead still_rule same_rule set_tail [] v refl p q)) r
+    (λ p. to_zero q.copies ∙ sym (still_texts planned copies_nothing any SameRead StillRead LooseRead still_rule loose_rule same_rule set_tail [] v refl p q)) r
   where
     to_zero : (c : ℕ) → c + 0 ≡ c
     to_zero c = omega arith

@@ -1,7 +1,6 @@
 -- Looking a kind up in a table, row by row.
-use Rattle.std.proofs.Common.{◌≡◌, ℕ, ◌+◌, ◌≤◌, ◌<◌, List, map, Bor, length, drop, get_or, drop-cons, add-one, Bool, true, false, refl, if◌then◌else◌}
+use Rattle.std.proofs.Common.{◌≡◌, ℕ, ◌+◌, ◌≤◌, ◌<◌, List, map, Bor, length, drop, get_or, drop-cons, add-one, Bool, true, false, bytes_eq, refl, if◌then◌else◌}
 use Rattle.std.proofs.lemmas.List.{drop_all}
-use Rattle.data_model.specs.Rows.{same_row}
 use Rattle.sql_lex.specs.Bytes.{folded_byte}
 use Rattle.sql_grammar.specs.Kinds as k
 use Rattle.sql_grammar.specs.Kinds.{Kind, kind_in}
@@ -16,11 +15,11 @@ folded_rows rows = map (λ (row : Row). (map folded_byte row.0.now, row.1)) rows
 abbrev pub SameKind : List Row → List Row → List ℕ → Type 0
 SameKind some rows text = (other : Kind) → kind_in (folded_rows some) other (map folded_byte text) ≡ kind_in (folded_rows rows) other (map folded_byte text)
 
-pub row_found : (rows : List Row) (i : ℕ) (d : Row) (text : List ℕ) (other : Kind) → i < length rows → same_row (map folded_byte (get_or rows i d).0.now) (map folded_byte text) ≡ true
+pub row_found : (rows : List Row) (i : ℕ) (d : Row) (text : List ℕ) (other : Kind) → i < length rows → bytes_eq (map folded_byte (get_or rows i d).0.now) (map folded_byte text) ≡ true
     → kind_in (folded_rows (drop i rows)) other (map folded_byte text) ≡ (get_or rows i d).1
 row_found rows i d text other h e = rw (drop-cons rows i d h, e) refl
 
-pub row_passed : (rows : List Row) (i : ℕ) (d : Row) (text : List ℕ) (other : Kind) → i < length rows → same_row (map folded_byte (get_or rows i d).0.now) (map folded_byte text) ≡ false
+pub row_passed : (rows : List Row) (i : ℕ) (d : Row) (text : List ℕ) (other : Kind) → i < length rows → bytes_eq (map folded_byte (get_or rows i d).0.now) (map folded_byte text) ≡ false
     → kind_in (folded_rows (drop i rows)) other (map folded_byte text) ≡ kind_in (folded_rows (drop (i + 1) rows)) other (map folded_byte text)
 row_passed rows i d text other h e = rw (drop-cons rows i d h, e, add-one) refl
 

@@ -22,14 +22,11 @@ pub mod PlanBelow
 pub mod PlanKnown
 pub mod EntryLists
 pub mod FewPlan
-pub mod Copies
 pub mod CopyPrices
-pub mod CopyFronts
-pub mod CopyLists
-pub mod CopyCuts
+pub mod TestCopies
 pub mod QueryFillings
-pub mod CopyForms
-pub mod CopyCompletions
+pub mod QueryCompletions
+pub mod Copies
 pub mod CopyLimits
 pub mod PlanPrices
 pub mod PlanSame

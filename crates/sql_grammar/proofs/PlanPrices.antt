@@ -1,5 +1,5 @@
--- What is read of the plan's names, up to where a front ends that copies so much, copies the same.
-use Rattle.std.proofs.Common.{◌≡◌, ℕ, ◌+◌, List, [], ◌∷◌, inl, inr, refl, sym, ◌∙◌, ap, Some, None, arith}
+-- What is read of the plan's names, where a front goes on with tokens that copy nothing, copies no more than where it goes on with others.
+use Rattle.std.proofs.Common.{◌≡◌, ℕ, ◌+◌, ◌≤◌, Bool, true, List, [], ◌∷◌, inl, inr, refl, ◌∙◌, ap, Some, None, arith}
 use Rattle.grammar.specs.Form.{seq, counted, ref}
 use Rattle.grammar.specs.Productions.{optional}
 use Rattle.grammar.proofs.Prices.{Pricing, summed, priced_skip_then}
@@ -15,11 +15,9 @@ use Rattle.sql_grammar.specs.Numbering.{Built}
 use Rattle.sql_grammar.specs.QueryTrees as t
 use Rattle.sql_grammar.specs.QueryTrees.{Left, Enclosed, Inside, SetWord, weight}
 use Rattle.sql_grammar.specs.QueryGrammar.{Production, Read, The, a, next_comma, commas, products, sums, ands, ors, rules, query, part, operand, block, item, from, entry, reference, expr, conj, neg, test, rest, value, term, unary, primary, agg, set_tail, and_tail, expr_tail, inner, in_inner}
-use Rattle.sql_grammar.specs.QueryCopies.{copies_in, behind_commas}
-use Rattle.sql_grammar.specs.PlanCopies.{copies_nothing}
-use Rattle.sql_grammar.proofs.CopyFronts.{comma_copies}
-use Rattle.sql_grammar.proofs.CopyLists.{no_members, one_more_comma}
-use Rattle.sql_grammar.proofs.CopyPrices.{sets_copies, operated_copies, chained_copies, free_union, free_intersect}
+use Rattle.sql_grammar.specs.QueryCopies.{copies_nothing}
+use Rattle.sql_grammar.proofs.TestCopies.{behind_commas, comma_copies, no_members, one_more_comma}
+use Rattle.sql_grammar.proofs.CopyPrices.{copies_in, sets_copies, operated_copies, chained_copies, free_union, free_intersect}
 use Rattle.sql_grammar.proofs.QueryTable.{planned}
 
 -- what is copied in what stands in parentheses, with a price for what follows it there
@@ -35,14 +33,18 @@ no_price m = 0
 abbrev pub members_price : Left → List (Built Expr) → ℕ
 members_price left members = behind_commas members left
 
+-- whatever the other text goes on with
+abbrev pub any : Lexeme → Bool
+any token = true
+
 abbrev pub SameRead : (p : Production) → Read p → Read p → Type 0
-SameRead rest v w = (left : Left) → (v left).copies ≡ (w left).copies
-SameRead expr_tail v w = (left : Left) → (v left).copies ≡ (w left).copies
-SameRead set_tail v w = (q : Built Query) → (v q).copies ≡ (w q).copies
-SameRead and_tail v w = (x : Built Expr) → (v x).copies ≡ (w x).copies
-SameRead inner v w = inside_copies no_price v ≡ inside_copies no_price w
-SameRead in_inner v w = (left : Left) → inside_copies (members_price left) v ≡ inside_copies (members_price left) w
-SameRead other v w = copies_in other v ≡ copies_in other w
+SameRead rest v w = (left : Left) → (v left).copies ≤ (w left).copies
+SameRead expr_tail v w = (left : Left) → (v left).copies ≤ (w left).copies
+SameRead set_tail v w = (q : Built Query) → (v q).copies ≤ (w q).copies
+SameRead and_tail v w = (x : Built Expr) → (v x).copies ≤ (w x).copies
+SameRead inner v w = inside_copies no_price v ≤ inside_copies no_price w
+SameRead in_inner v w = (left : Left) → inside_copies (members_price left) v ≤ inside_copies (members_price left) w
+SameRead other v w = copies_in other v ≤ copies_in other w
 
 abbrev pub StillRead : (p : Production) → Read p → Type 0
 StillRead rest v = (left : Left) → (v left).copies ≡ left.0.copies
@@ -53,13 +55,24 @@ StillRead inner v = inside_copies no_price v ≡ 0
 StillRead in_inner v = (left : Left) → inside_copies (members_price left) v ≡ 0
 StillRead other v = copies_in other v ≡ 0
 
-same_cost : (p : Production) (v w : Read p) → SameRead p v w → copies_in p v ≡ copies_in p w
-same_cost rest v w i = refl
-same_cost expr_tail v w i = refl
-same_cost set_tail v w i = refl
-same_cost and_tail v w i = refl
-same_cost inner v w i = refl
-same_cost in_inner v w i = refl
+-- what stands to the left is copied with
+abbrev pub LooseRead : (p : Production) → Read p → Type 0
+LooseRead rest v = (left : Left) → left.0.copies ≤ (v left).copies
+LooseRead expr_tail v = (left : Left) → left.0.copies ≤ (v left).copies
+LooseRead set_tail v = (q : Built Query) → q.copies ≤ (v q).copies
+LooseRead and_tail v = (x : Built Expr) → x.copies ≤ (v x).copies
+LooseRead other v = Unit {0}
+
+pub none : 0 ≤ 0
+none = omega arith
+
+same_cost : (p : Production) (v w : Read p) → SameRead p v w → copies_in p v ≤ copies_in p w
+same_cost rest v w i = none
+same_cost expr_tail v w i = none
+same_cost set_tail v w i = none
+same_cost and_tail v w i = none
+same_cost inner v w i = none
+same_cost in_inner v w i = none
 same_cost query v w i = i
 same_cost part v w i = i
 same_cost operand v w i = i
@@ -104,30 +117,30 @@ still_cost primary v i = i
 still_cost agg v i = i
 
 abbrev pub EvenIn : {A : Type 0} → The A → (A → ℕ) → Type 0
-EvenIn f price = Even planned copies_nothing SameRead StillRead f price
+EvenIn f price = Even planned copies_nothing any SameRead StillRead LooseRead f price
 
 abbrev pub AddsIn : {B X : Type 0} → The B → (B → X → ℕ) → (X → ℕ) → Type 0
-AddsIn f measure base = Adds planned copies_nothing SameRead StillRead f measure base
+AddsIn f measure base = Adds planned copies_nothing any SameRead StillRead LooseRead f measure base
 
-pub evenly : Pricing copies_in (λ A f a. Even planned copies_nothing SameRead StillRead f a)
-evenly = s.even planned copies_nothing SameRead StillRead copies_in same_cost still_cost
+pub evenly : Pricing copies_in (λ A f a. Even planned copies_nothing any SameRead StillRead LooseRead f a)
+evenly = s.even planned copies_nothing any SameRead StillRead LooseRead copies_in same_cost still_cost
 
 pub even_counted : {A : Type 0} {f : The A} {price : A → ℕ} → EvenIn f price → EvenIn (counted f) (λ v. price v.0)
-even_counted l = s.even_counted planned copies_nothing SameRead StillRead l
+even_counted l = s.even_counted planned copies_nothing any SameRead StillRead LooseRead l
 
 -- ---- names that are functions of what stands to the left
 
 pub set_tail_adds : AddsIn (ref set_tail) (λ f (q : Built Query). (f q).copies) (λ q. q.copies)
-set_tail_adds = record { same = λ v w r. r; still = λ v r. r }
+set_tail_adds = record { same = λ v w r. r; still = λ v r. r; loose = λ v r. r }
 
 pub and_tail_adds : AddsIn (ref and_tail) (λ f (x : Built Expr). (f x).copies) (λ x. x.copies)
-and_tail_adds = record { same = λ v w r. r; still = λ v r. r }
+and_tail_adds = record { same = λ v w r. r; still = λ v r. r; loose = λ v r. r }
 
 pub expr_tail_adds : AddsIn (ref expr_tail) (λ f (left : Left). (f left).copies) (λ left. left.0.copies)
-expr_tail_adds = record { same = λ v w r. r; still = λ v r. r }
+expr_tail_adds = record { same = λ v w r. r; still = λ v r. r; loose = λ v r. r }
 
 pub rest_adds : AddsIn (ref rest) (λ f (left : Left). (f left).copies) (λ left. left.0.copies)
-rest_adds = record { same = λ v w r. r; still = λ v r. r }
+rest_adds = record { same = λ v w r. r; still = λ v r. r; loose = λ v r. r }
 
 pub inner_even : EvenIn (ref inner) (inside_copies no_price)
 inner_even = record { same = λ v w r. r; still = λ v r. r }
@@ -138,37 +151,40 @@ in_inner_even left = record { same = λ v w r. r left; still = λ v r. r left }
 -- ---- lists behind commas
 
 -- a comma copies, so it is none of the chosen tokens
-comma_moves : (v : Built Expr) → StillOf planned copies_nothing SameRead StillRead next_comma v → ⊥
+comma_moves : (v : Built Expr) → StillOf planned copies_nothing StillRead next_comma v → ⊥
 comma_moves v (u, (c, r), i) = comma_copies u.0 c.0 c.1
 
 next_comma_even : EvenIn next_comma (λ x. x.copies)
 next_comma_even = priced_skip_then evenly (evenly.of_token (k.same k.Comma)) (evenly.of_ref expr)
 
-no_more : (vs : List (Built Expr)) → Each (StillOf planned copies_nothing SameRead StillRead next_comma) vs → vs ≡ []
+no_more : (vs : List (Built Expr)) → Each (StillOf planned copies_nothing StillRead next_comma) vs → vs ≡ []
 no_more [] r = refl
 no_more (v ∷ vs) r = absurd (comma_moves v r.0)
 
 pub commas_even : (left : Left) → EvenIn commas (members_price left)
 commas_even left = record { same = same; still = λ vs r. no_members vs left (no_more vs r) }
   where
-    step : (w a b c d : ℕ) → a ≡ c → b ≡ d → (w + a) + b ≡ (w + c) + d
+    step : (w a b c d : ℕ) → a ≤ c → b ≤ d → (w + a) + b ≤ (w + c) + d
     step w a b c d i j = omega (arith, i, j)
 
-    both_none : (a b : ℕ) → a ≡ 0 → b ≡ 0 → a ≡ b
-    both_none a b i j = omega (arith, i, j)
+    next_step : (v w : Built Expr) (vs ws : List (Built Expr)) → v.copies ≤ w.copies → behind_commas vs left ≤ behind_commas ws left → behind_commas (v ∷ vs) left ≤ behind_commas (w ∷ ws) left
+    next_step v w vs ws i j =
+        omega (arith, one_more_comma v vs left, one_more_comma w ws left, step (weight left) v.copies (behind_commas vs left) w.copies (behind_commas ws left) i j)
+
+    least : (a b : ℕ) → a ≡ 0 → a ≤ b
+    least a b i = omega (arith, i)
+
+    equal : (a b : ℕ) → a ≡ b → a ≤ b
+    equal a b i = omega (arith, i)
 
     same : (vs ws : List (Built Expr))
-        → AlikeLists (SameOf planned copies_nothing SameRead StillRead next_comma) (StillOf planned copies_nothing SameRead StillRead next_comma) vs ws
-        → behind_commas vs left ≡ behind_commas ws left
+        → AlikeLists (SameOf planned copies_nothing any SameRead StillRead LooseRead next_comma) (StillOf planned copies_nothing StillRead next_comma) (StillOf planned any LooseRead next_comma) vs ws
+        → behind_commas vs left ≤ behind_commas ws left
     same [] ws r = absurd r
     same (v ∷ vs) [] r = absurd r
     same (v ∷ vs) (w ∷ ws) (inl (r, (p, q))) =
-        one_more_comma v vs left
-        ∙ (step (weight left) v.copies (behind_commas vs left) w.copies (behind_commas ws left) (next_comma_even.same v w r)
-        (both_none (behind_commas vs left) (behind_commas ws left) (no_members vs left (no_more vs p)) (no_members ws left (no_more ws q)))
-        ∙ sym (one_more_comma w ws left))
-    same (v ∷ vs) (w ∷ ws) (inr (i, r)) =
-        one_more_comma v vs left ∙ (step (weight left) v.copies (behind_commas vs left) w.copies (behind_commas ws left) (ap (λ z. z.copies) i) (same vs ws r) ∙ sym (one_more_comma w ws left))
+        next_step v w vs ws (next_comma_even.same v w r) (least (behind_commas vs left) (behind_commas ws left) (no_members vs left (no_more vs p)))
+    same (v ∷ vs) (w ∷ ws) (inr (i, r)) = next_step v w vs ws (equal v.copies w.copies (ap (λ z. z.copies) i)) (same vs ws r)
 
 -- ---- tails
 
@@ -183,7 +199,7 @@ parts_price xs = summed (λ x. x.copies) xs
 
 pub set_tail_rule : AddsIn (rules set_tail) (λ f (q : Built Query). (f q).copies) (λ q. q.copies)
 set_tail_rule =
-    s.adds_map planned copies_nothing SameRead StillRead (λ q (u : List (SetWord × Built Query) × List (SetWord × Built Query)). words_price u.0 + words_price u.1)
+    s.adds_map planned copies_nothing any SameRead StillRead LooseRead (λ q (u : List (SetWord × Built Query) × List (SetWord × Built Query)). words_price u.0 + words_price u.1)
     (λ q. evenly.of_seq (evenly.of_star (Some 63) (evenly.of_seq (free_intersect evenly) (evenly.of_ref operand))) (evenly.of_star (Some 63) (evenly.of_seq (free_union evenly) (evenly.of_ref part))))
     (λ p. t.combined p.0 p.1) (λ f q. (f q).copies) (λ q. q.copies)
     (λ u q. sets_copies u.1 (t.sets q u.0) ∙ (ap (λ z. z + words_price u.1) (sets_copies u.0 q) ∙ regroup q.copies (words_price u.0) (words_price u.1)))
@@ -207,15 +223,15 @@ chains_copies x p =
 
 pub and_tail_rule : AddsIn (rules and_tail) (λ f (x : Built Expr). (f x).copies) (λ x. x.copies)
 and_tail_rule =
-    s.adds_map planned copies_nothing SameRead StillRead (λ x (u : List (Built Expr) × List (Built Expr)). parts_price u.0 + parts_price u.1) (λ x. chain_even)
+    s.adds_map planned copies_nothing any SameRead StillRead LooseRead (λ x (u : List (Built Expr) × List (Built Expr)). parts_price u.0 + parts_price u.1) (λ x. chain_even)
     (λ p. t.joined p.0 p.1) (λ f x. (f x).copies) (λ x. x.copies) (λ u x. chains_copies x u)
 
 -- a test may follow a value
 pub maybe_rest : AddsIn (optional (ref rest)) (λ o (left : Left). (t.tested left o).copies) (λ left. left.0.copies)
 maybe_rest =
-    s.adds_alt planned copies_nothing SameRead StillRead
-    (s.adds_at planned copies_nothing SameRead StillRead rest_adds (λ f. Some f) (λ o left. (t.tested left o).copies) (λ left. left.0.copies) (λ left. left) (λ f left. refl) (λ left. refl))
-    (s.adds_map planned copies_nothing SameRead StillRead (λ left (u : Unit {0}). 0) (λ left. evenly.of_empty) (λ u. None) (λ o left. (t.tested left o).copies) (λ left. left.0.copies) (λ u left. to_zero left.0.copies))
+    s.adds_alt planned copies_nothing any SameRead StillRead LooseRead
+    (s.adds_at planned copies_nothing any SameRead StillRead LooseRead rest_adds (λ f. Some f) (λ o left. (t.tested left o).copies) (λ left. left.0.copies) (λ left. left) (λ f left. refl) (λ left. refl))
+    (s.adds_map planned copies_nothing any SameRead StillRead LooseRead (λ left (u : Unit {0}). 0) (λ left. evenly.of_empty) (λ u. None) (λ o left. (t.tested left o).copies) (λ left. left.0.copies) (λ u left. to_zero left.0.copies))
   where
     to_zero : (c : ℕ) → c ≡ c + 0
     to_zero c = omega arith
@@ -233,8 +249,8 @@ operands o left = (t.operated (t.operated left.0 o.0.0) o.0.1, left.1 + o.1)
 
 pub expr_tail_rule : AddsIn (rules expr_tail) (λ f (left : Left). (f left).copies) (λ left. left.0.copies)
 expr_tail_rule =
-    s.adds_behind planned copies_nothing SameRead StillRead operators_even
-    (s.adds_seq planned copies_nothing SameRead StillRead maybe_rest chain_even)
+    s.adds_behind planned copies_nothing any SameRead StillRead LooseRead operators_even
+    (s.adds_seq planned copies_nothing any SameRead StillRead LooseRead maybe_rest chain_even)
     (λ p. t.continued p.0 p.1.0 p.1.1.0 p.1.1.1) (λ f left. (f left).copies) (λ left. left.0.copies) operands
     (λ u left. chains_copies (t.tested (operands u.0 left) u.1.0) u.1.1)
     (λ o left. operated_copies o.0.1 (t.operated left.0 o.0.0) ∙ (ap (λ z. z + operators_price o.0.1) (operated_copies o.0.0 left.0) ∙ regroup left.0.copies (operators_price o.0.0) (operators_price o.0.1)))

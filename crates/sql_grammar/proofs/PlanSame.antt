@@ -1,5 +1,5 @@
--- Two texts of the plan that begin with the same tokens, and go on with tokens that copy nothing, copy the same.
-use Rattle.std.proofs.Common.{◌≡◌, ℕ, ◌+◌, ◌*◌, List, [], ◌∷◌, ◌⊎◌, inl, inr, refl, sym, ◌∙◌, ap, Option, Some, None, arith}
+-- Of two texts of the plan that begin with the same tokens, one that goes on with tokens that copy nothing copies no more.
+use Rattle.std.proofs.Common.{◌≡◌, ℕ, ◌+◌, ◌*◌, ◌≤◌, List, [], ◌∷◌, ◌⊎◌, inl, inr, refl, ◌∙◌, ap, Option, Some, None, arith}
 use Rattle.grammar.specs.Form.{seq, alt, map, ref}
 use Rattle.grammar.specs.Productions.{skip_then}
 use Rattle.grammar.proofs.Prices.{summed, optional_price, free_map, free_seq, free_optional, priced_skip_then, priced_optional}
@@ -15,11 +15,10 @@ use Rattle.sql_grammar.specs.QueryTrees as t
 use Rattle.sql_grammar.specs.QueryTrees.{Left, Enclosed, Inside, weight}
 use Rattle.sql_grammar.specs.QueryGrammar.{The, a, one_of, name, name_kinds, called_word, parens, not_neg, exists, minus, comparison, rules, block, item, expr, neg, test, rest, value, unary, primary, agg, in_inner}
 use Rattle.sql_grammar.specs.QueryPlan.{plan, literal, dot_name, dot_star_or_name, arguments, one_argument, other_aggregate, count_arguments, word_with, words, column_of, named_first, enclosed_first, going_on, going_on_by_and, no_parenthesis, sort, after_query, after_expression, plan_of_insides, Starred, star_or_column, star_or_left, by_word}
-use Rattle.sql_grammar.specs.PlanCopies.{copies_nothing}
-use Rattle.sql_grammar.proofs.CopyFronts.{between_copies, compared_adds, bounds_add}
-use Rattle.sql_grammar.proofs.CopyLists.{list_adds}
+use Rattle.sql_grammar.specs.QueryCopies.{copies_nothing}
+use Rattle.sql_grammar.proofs.TestCopies.{between_copies, compared_adds, bounds_add, list_adds}
 use Rattle.sql_grammar.proofs.CopyPrices.{bounds_price, call_copies, exists_price, free_alias, in_parens, priced_listed, priced_parens}
-use Rattle.sql_grammar.proofs.PlanPrices.{SameRead, StillRead, EvenIn, AddsIn, evenly, even_counted, inside_copies, no_price, members_price, set_tail_adds, and_tail_adds, expr_tail_adds, maybe_rest, inner_even, in_inner_even}
+use Rattle.sql_grammar.proofs.PlanPrices.{any, SameRead, StillRead, LooseRead, EvenIn, AddsIn, evenly, even_counted, inside_copies, no_price, members_price, set_tail_adds, and_tail_adds, expr_tail_adds, maybe_rest, inner_even, in_inner_even}
 use Rattle.sql_grammar.proofs.QueryTable.{planned}
 
 abbrev copies_of : {A : Type 0} → Built A → ℕ
@@ -35,28 +34,28 @@ from_zero c = omega arith
 
 adds_map : {A B X : Type 0} {f : The A} (price : X → A → ℕ) → ((x : X) → EvenIn f (price x)) → (h : A → B) (measure : B → X → ℕ) (base : X → ℕ)
     → ((u : A) (x : X) → measure (h u) x ≡ base x + price x u) → AddsIn (map h f) measure base
-adds_map price l h measure base i = s.adds_map planned copies_nothing SameRead StillRead price l h measure base i
+adds_map price l h measure base i = s.adds_map planned copies_nothing any SameRead StillRead LooseRead price l h measure base i
 
 adds_at : {A B X Y : Type 0} {f : The A} {m : A → X → ℕ} {b : X → ℕ} → AddsIn f m b → (h : A → B) (measure : B → Y → ℕ) (base : Y → ℕ) (at : Y → X)
     → ((u : A) (y : Y) → measure (h u) y ≡ m u (at y)) → ((y : Y) → base y ≡ b (at y))
     → AddsIn (map h f) measure base
-adds_at l h measure base at i j = s.adds_at planned copies_nothing SameRead StillRead l h measure base at i j
+adds_at l h measure base at i j = s.adds_at planned copies_nothing any SameRead StillRead LooseRead l h measure base at i j
 
 adds_alt : {B X : Type 0} {f e : The B} {m : B → X → ℕ} {b : X → ℕ} → AddsIn f m b → AddsIn e m b → AddsIn (alt f e) m b
-adds_alt l n = s.adds_alt planned copies_nothing SameRead StillRead l n
+adds_alt l n = s.adds_alt planned copies_nothing any SameRead StillRead LooseRead l n
 
 adds_seq : {A B X : Type 0} {f : The B} {e : The A} {m : B → X → ℕ} {b : X → ℕ} {price : A → ℕ} → AddsIn f m b → EvenIn e price → AddsIn (seq f e) (λ p x. m p.0 x + price p.1) b
-adds_seq l n = s.adds_seq planned copies_nothing SameRead StillRead l n
+adds_seq l n = s.adds_seq planned copies_nothing any SameRead StillRead LooseRead l n
 
 adds_behind : {A B C X Y : Type 0} {f : The A} {e : The B} {price : A → ℕ} {m : B → X → ℕ} {b : X → ℕ} → EvenIn f price → AddsIn e m b
     → (h : A × B → C) (measure : C → Y → ℕ) (base : Y → ℕ) (at : A → Y → X)
     → ((u : A × B) (y : Y) → measure (h u) y ≡ m u.1 (at u.0 y)) → ((u : A) (y : Y) → b (at u y) ≡ base y + price u) → AddsIn (map h (seq f e)) measure base
-adds_behind l n h measure base at i j = s.adds_behind planned copies_nothing SameRead StillRead l n h measure base at i j
+adds_behind l n h measure base at i j = s.adds_behind planned copies_nothing any SameRead StillRead LooseRead l n h measure base at i j
 
 applied : {A B C : Type 0} {f : The A} {e : The B} {price : A → ℕ} {m : B → A → ℕ} {b : A → ℕ} → EvenIn f price → AddsIn e m b → (h : A × B → C) (total : C → ℕ)
     → ((u : A × B) → total (h u) ≡ m u.1 u.0) → ((u : A) → b u ≡ price u)
     → EvenIn (map h (seq f e)) total
-applied l n h total i j = s.applied planned copies_nothing SameRead StillRead l n h total i j
+applied l n h total i j = s.applied planned copies_nothing any SameRead StillRead LooseRead l n h total i j
 
 free_token : (kind : Kind) → EvenIn (a kind) (λ v. 0)
 free_token kind = evenly.of_token (k.same kind)
@@ -69,7 +68,7 @@ adds_parens : {B X : Type 0} {f : The B} {m : B → X → ℕ} {b : X → ℕ} �
 adds_parens {m = m} {b = b} l =
     let inside = adds_at (adds_seq l (free_token k.Close)) (λ p. p.0) m b (λ x. x) (λ p x. to_zero (m p.0 x)) (λ x. refl) in
     let r = adds_behind (free_token k.Open) inside (λ p. p.1) m b (λ w x. x) (λ u x. refl) (λ u x. to_zero (b x)) in
-    record { same = r.same; still = r.still }
+    record { same = r.same; still = r.still; loose = r.loose }
 
 -- ---- tests
 
@@ -87,8 +86,8 @@ in_inside_copies word in_word (inr (inl (p, []))) left = none left.0.copies p.1.
   where
     none : (a b w : ℕ) → a + b ≡ a + (b + (0 * w + 0))
     none a b w = omega arith
-in_inside_copies word in_word (inr (inl (p, next ∷ others))) left = list_adds (λ l. t.in_list word (t.sub p, next ∷ others) l) word (t.sub p, next ∷ others) (t.sub p, next ∷ others) refl refl left
-in_inside_copies word in_word (inr (inr p)) left = list_adds (λ l. t.in_list word p l) word p p refl refl left
+in_inside_copies word in_word (inr (inl (p, next ∷ others))) left = list_adds word (t.sub p, next ∷ others) left
+in_inside_copies word in_word (inr (inr p)) left = list_adds word p left
 
 abbrev Word : Type 0
 Word = Option Lexeme × Left
@@ -109,21 +108,25 @@ bounds_words = skip_then (a k.Between) (seq (ref value) (skip_then (a k.And) (re
 
 -- the word BETWEEN is none of the chosen tokens
 between_adds : AddsIn (map (λ p word left. t.between word p.0 p.1 left) bounds_words) word_copies left_copies
-between_adds = record { same = same; still = λ f r x. absurd (loud r.0 r.1) }
+between_adds = record { same = same; still = λ f r x. absurd (loud r.0 r.1); loose = loose }
   where
-    loud : (v : Built Expr × Built Expr) → StillOf planned copies_nothing SameRead StillRead bounds_words v → ⊥
+    loud : (v : Built Expr × Built Expr) → StillOf planned copies_nothing StillRead bounds_words v → ⊥
     loud v (u, (c, r), i) = between_copies u.0 c.0 c.1
 
     bounds_even : EvenIn bounds_words (λ v. v.0.copies + v.1.copies)
     bounds_even = priced_skip_then evenly (free_token k.Between) (bounds_price evenly)
 
+    through : (f g : Option Lexeme → Left → Built Expr) (u v : Built Expr × Built Expr) (x : Word) → f ≡ (λ word left. t.between word u.0 u.1 left) → g ≡ (λ word left. t.between word v.0 v.1 left)
+        → u.0.copies + u.1.copies ≤ v.0.copies + v.1.copies → word_copies f x ≤ word_copies g x
+    through f g u v x i j l =
+        omega (arith, l, ap (λ z. word_copies z x) i, ap (λ z. word_copies z x) j, bounds_add x.0 u x.1, bounds_add x.0 v x.1)
+
     same : (f g : Option Lexeme → Left → Built Expr)
-        → SameOf planned copies_nothing SameRead StillRead (map (λ p word left. t.between word p.0 p.1 left) bounds_words) f g → (x : Word) → word_copies f x ≡ word_copies g x
-    same f g (u, v, r, i, j) x =
-        ap (λ z. word_copies z x) i
-        ∙ (bounds_add (λ l. t.between x.0 u.0 u.1 l) x.0 u u refl refl x.1
-        ∙ (ap (λ z. x.1.0.copies + (weight x.1 + z)) (bounds_even.same u v r)
-        ∙ (sym (bounds_add (λ l. t.between x.0 v.0 v.1 l) x.0 v v refl refl x.1) ∙ sym (ap (λ z. word_copies z x) j))))
+        → SameOf planned copies_nothing any SameRead StillRead LooseRead (map (λ p word left. t.between word p.0 p.1 left) bounds_words) f g → (x : Word) → word_copies f x ≤ word_copies g x
+    same f g (u, v, r, i, j) x = through f g u v x i j (bounds_even.same u v r)
+
+    loose : (f : Option Lexeme → Left → Built Expr) → StillOf planned any LooseRead (map (λ p word left. t.between word p.0 p.1 left) bounds_words) f → (x : Word) → left_copies x ≤ word_copies f x
+    loose f (u, r, i) x = omega (arith, ap (λ z. word_copies z x) i, bounds_add x.0 u x.1)
 
 by_word_adds : AddsIn by_word word_copies left_copies
 by_word_adds =
@@ -133,7 +136,7 @@ by_word_adds =
 comparison_adds : AddsIn comparison (λ f (left : Left). (f left).copies) (λ left. left.0.copies)
 comparison_adds =
     adds_map (λ left p. 0 + p.1.copies) (λ left. evenly.of_seq (free_token_of (k.Equals ∷ k.Differs ∷ k.Less ∷ k.AtMost ∷ k.Greater ∷ k.AtLeast ∷ [])) (evenly.of_ref value)) (λ p left. t.comparison p.0 p.1 left)
-    (λ f left. (f left).copies) (λ left. left.0.copies) (λ u left. compared_adds (λ l. t.comparison u.0 u.1 l) u refl left)
+    (λ f left. (f left).copies) (λ left. left.0.copies) (λ u left. compared_adds u left)
 
 pub rest_rule : AddsIn (plan rest) (λ f (left : Left). (f left).copies) (λ left. left.0.copies)
 rest_rule =
@@ -258,9 +261,9 @@ sort_copies ((word, inr (inr (x, u))), n) = sum x.copies
 module _ {M : Type 0} (more : The M) (price : M → ℕ) (l : EvenIn more price) where
   after_query_adds : AddsIn (after_query more) (λ f q. inside_copies price (f q)) (λ q. q.0.1.copies)
   after_query_adds =
-      adds_alt (adds_at (s.adds_nonempty planned copies_nothing SameRead StillRead set_tail_adds) (λ f q. inl (f q.0.1)) (λ f q. inside_copies price (f q)) (λ q. q.0.1.copies) (λ q. q.0.1) (λ f q. refl) (λ q. refl))
+      adds_alt (adds_at (s.adds_nonempty planned copies_nothing any SameRead StillRead LooseRead set_tail_adds) (λ f q. inl (f q.0.1)) (λ f q. inside_copies price (f q)) (λ q. q.0.1.copies) (λ q. q.0.1) (λ f q. refl) (λ q. refl))
       (adds_alt
-      (adds_at (adds_seq (s.adds_nonempty planned copies_nothing SameRead StillRead expr_tail_adds) l) (λ p q. inr (inr (p.0 (t.sub q.0, q.1), p.1))) (λ f q. inside_copies price (f q)) (λ q. q.0.1.copies) (λ q. (t.sub q.0, q.1)) (λ p q. refl) (λ q. refl))
+      (adds_at (adds_seq (s.adds_nonempty planned copies_nothing any SameRead StillRead LooseRead expr_tail_adds) l) (λ p q. inr (inr (p.0 (t.sub q.0, q.1), p.1))) (λ f q. inside_copies price (f q)) (λ q. q.0.1.copies) (λ q. (t.sub q.0, q.1)) (λ p q. refl) (λ q. refl))
       (adds_map (λ q m. price m) (λ q. l) (λ m q. inr (inl (q.0, m))) (λ f q. inside_copies price (f q)) (λ q. q.0.1.copies) (λ m q. refl)))
 
   after_expression_adds : AddsIn (after_expression more) (λ f (left : Left). inside_copies price (f left)) (λ left. left.0.copies)
@@ -271,7 +274,7 @@ module _ {M : Type 0} (more : The M) (price : M → ℕ) (l : EvenIn more price)
   insides_even =
       evenly.of_alt (applied (evenly.of_ref block) set_tail_adds (λ p. inl (p.1 p.0)) (inside_copies price) (λ u. refl) (λ q. refl))
       (evenly.of_alt (evenly.of_map (λ p. inr (inr p)) (inside_copies price) (evenly.of_seq no_parenthesis_even l) (λ p. refl))
-      (s.forked planned copies_nothing SameRead StillRead (evenly.of_map sort sorted_copies (even_counted (in_parens evenly inner_even)) sort_copies) (inside_copies price) after_query_adds after_expression_adds))
+      (s.forked planned copies_nothing any SameRead StillRead LooseRead (evenly.of_map sort sorted_copies (even_counted (in_parens evenly inner_even)) sort_copies) (inside_copies price) after_query_adds after_expression_adds))
 
 -- ---- items
 
@@ -296,7 +299,7 @@ pub item_rule : EvenIn (plan item) (λ x. x.copies)
 item_rule =
     evenly.of_alt (evenly.of_map t.star_item (λ x. x.copies) (free_token k.Star) (λ v. refl))
     (evenly.of_alt
-    (s.forked planned copies_nothing SameRead StillRead
+    (s.forked planned copies_nothing any SameRead StillRead LooseRead
     (evenly.of_map star_or_left first_copies (even_counted (words_even dot_star_or_name free_dot_star star_or_column (λ x. inr x) starred_copies star_free (λ x. refl))) first_is)
     (λ x. x.copies)
     (adds_map (λ word u. 0) (λ word. evenly.of_empty) (λ nothing qual. t.alias_star_item qual) (λ f word. (f word).copies) (λ word. 0) (λ u word. refl))

@@ -17,7 +17,7 @@ use Rattle.sql_grammar.specs.QueryTrees as t
 use Rattle.sql_grammar.specs.QueryTrees.{Left, Listed, SetWord, Inside, not_sub}
 use Rattle.sql_grammar.specs.QueryGrammar as grammar
 use Rattle.sql_grammar.specs.QueryGrammar.{Production, Read, The, a, one_of, parens, name, listed, alias, group_by, comparison, in_query, in_list, between, like, minus, not_neg, exists, join_on, cross_join, next_sum, sums, next_product, products, next_and, ands, next_or, ors, next_intersect, intersects, next_union, unions, insides, commas, longer_query, rules, query, part, operand, block, item, from, entry, reference, expr, conj, neg, test, rest, value, term, unary, primary, agg, set_tail, and_tail, expr_tail, inner, in_inner}
-use Rattle.sql_grammar.specs.PlanCopies.{copies_nothing}
+use Rattle.sql_grammar.specs.QueryCopies.{copies_nothing}
 
 -- ---- tokens
 

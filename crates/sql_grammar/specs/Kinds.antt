@@ -1,7 +1,6 @@
 -- The kinds of tokens that the grammar tells apart.
-use Rattle.std.specs.Prelude.{ℕ, ◌==◌, Bool, List, [], ◌∷◌, map, codes, if◌then◌else◌}
+use Rattle.std.specs.Prelude.{ℕ, ◌==◌, Bool, List, [], ◌∷◌, map, bytes_eq, codes, if◌then◌else◌}
 use Rattle.std.specs.List.{list_any}
-use Rattle.data_model.specs.Rows.{same_row}
 use Rattle.sql_lex.specs.declared.token.TokenKind.{TokenKind}
 use Rattle.sql_lex.specs.declared.token.TokenKind.TheVariants as token
 use Rattle.sql_lex.specs.Bytes.{folded_byte}
@@ -42,7 +41,7 @@ symbol_kinds =
 -- that of this text, or else the other
 abbrev pub kind_in : List (List ℕ × Kind) → Kind → List ℕ → Kind
 kind_in [] other text = other
-kind_in (p ∷ rows) other text = if same_row p.0 text then p.1 else kind_in rows other text
+kind_in (p ∷ rows) other text = if bytes_eq p.0 text then p.1 else kind_in rows other text
 
 abbrev pub word_kind : List ℕ → Kind
 word_kind word = kind_in used_kinds (if is_reserved word then LeftOut else kind_in special_kinds Word word) word

@@ -1,6 +1,5 @@
 -- How what is read numbers literals and called names in the order of the text, and counts what is copied.
-use Rattle.std.specs.Prelude.{ℕ, ◌+◌, Bool, true, false, ◌&&◌, if◌then◌else◌, List, [], ◌∷◌, Option, Some, None}
-use Rattle.data_model.specs.Rows.{same_row}
+use Rattle.std.specs.Prelude.{ℕ, ◌+◌, Bool, true, false, ◌&&◌, bytes_eq, if◌then◌else◌, List, [], ◌∷◌, Option, Some, None}
 use Rattle.sql_model.specs.declared.symbols.Lit.{Lit}
 use Rattle.sql_model.specs.declared.symbols.LitKind.{LitKind}
 use Rattle.sql_model.specs.declared.symbols.LitKind.TheVariants as literal
@@ -31,7 +30,7 @@ is_same_kind literal.Text literal.Text = true
 is_same_kind a b = false
 
 abbrev pub is_same_literal : Lit → Lit → Bool
-is_same_literal a b = is_same_kind a.kind b.kind && same_row a.text b.text
+is_same_literal a b = is_same_kind a.kind b.kind && bytes_eq a.text b.text
 
 -- ---- what is built with numbers
 
@@ -77,5 +76,5 @@ literal_number new = record {
 abbrev pub symbol_number : Name → Built ℕ
 symbol_number new = record {
   copies = 0;
-  build = λ numbers. (place_of (same_row new) numbers.symbols, record numbers { symbols = with_member (same_row new) new numbers.symbols });
+  build = λ numbers. (place_of (bytes_eq new) numbers.symbols, record numbers { symbols = with_member (bytes_eq new) new numbers.symbols });
 }

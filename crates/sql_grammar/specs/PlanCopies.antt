@@ -1,18 +1,11 @@
--- What the plan has copied up to a token. Only the word BETWEEN and the commas of IN copy anything, so up to a token as much is copied as in
--- any text that goes on behind it without them: what such a text is read as tells what its front has copied. Of `rest`, `expr_tail` and
--- `in_inner`, which are read as functions of what stands to the left, it tells it for each left side.
-use Rattle.std.specs.Prelude.{ℕ, Bool, not, List, [], ◌∷◌, None}
+-- What the plan has copied up to a token: what a text of it is read as that goes on from there and copies nothing more. Of `rest`,
+-- `expr_tail` and `in_inner`, which are read as functions of what stands to the left, it tells it for each left side.
+use Rattle.std.specs.Prelude.{ℕ, List, None}
 use Rattle.grammar.specs.Completions.{Completes, Overspends}
 use Rattle.sql_lex.specs.Lexemes.{Lexeme}
-use Rattle.sql_grammar.specs.Kinds as k
-use Rattle.sql_grammar.specs.Kinds.{among, kind_of}
 use Rattle.sql_grammar.specs.QueryGrammar.{Production, Read}
-use Rattle.sql_grammar.specs.QueryCopies.{most_copies}
+use Rattle.sql_grammar.specs.QueryCopies.{copies_nothing, most_copies}
 use Rattle.sql_grammar.specs.QueryPlan.{of_plan}
-
--- the token copies nothing, wherever it stands
-abbrev pub copies_nothing : Lexeme → Bool
-copies_nothing token = not (among (k.Between ∷ k.Comma ∷ []) (kind_of token))
 
 -- these tokens begin a text of the plan's name with this value, and all that follows in it copies nothing
 abbrev pub HasCopied : (p : Production) → List Lexeme → Read p → Type 0

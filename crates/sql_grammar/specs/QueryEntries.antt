@@ -1,6 +1,6 @@
 -- The limit on the entries of a block, and the token that is one too many. The grammar once more, with the entries of a block in one list
 -- that ends at the limit; without limits it spells the queries whose blocks have no more.
-use Rattle.std.specs.Prelude.{ℕ, zero, suc, false, List, [], ◌∷◌, ◌++◌, ◌⊎◌, None}
+use Rattle.std.specs.Prelude.{ℕ, ◌-◌, zero, suc, false, List, [], ◌∷◌, ◌++◌, ◌⊎◌, None}
 use Rattle.std.proofs.Common.{inl, inr}
 use Rattle.grammar.specs.Form.{Rules, empty, seq, alt, map, only, ref, language}
 use Rattle.grammar.specs.Language.{Language}
@@ -50,9 +50,13 @@ few_froms most = map items_of (seq (ref entry) (further_entries most))
 abbrev pub few_rules : ℕ → Rules Lexeme Kind Production Read
 few_rules most = rules_with (few_froms most)
 
--- entries that a block may have besides its first
+-- entries of a block
+abbrev pub most_entries : ℕ
+most_entries = 32
+
+-- those besides the first
 abbrev pub most_further : ℕ
-most_further = 31
+most_further = most_entries - 1
 
 -- the queries with no block of more entries
 abbrev pub few_queries : Language Lexeme (Built Query)

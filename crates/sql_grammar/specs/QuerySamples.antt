@@ -1,6 +1,7 @@
 -- Queries as texts of tokens with one blank between them, and the trees that they spell, computed.
 use Rattle.std.specs.Prelude.{ℕ, ◌≡◌, ◌+◌, ◌==◌, Bool, if◌then◌else◌, List, [], ◌∷◌, ◌++◌, map, codes, length, replicate, true, false, refl, Option, Some, None}
-use Rattle.grammar.specs.Parses.{name_parses, whole_values}
+use Rattle.std.specs.List.{list_all}
+use Rattle.grammar.specs.Parses.{name_begins, name_parses, whole_values}
 use Rattle.sql_model.specs.declared.tree.Query.{Query}
 use Rattle.sql_model.specs.declared.tree.Expr.{Expr}
 use Rattle.sql_model.specs.declared.tree.Expr.TheVariants as expr
@@ -18,8 +19,7 @@ use Rattle.sql_lex.specs.Bytes.{begins_word, is_digit, quote, double_quote}
 use Rattle.sql_lex.specs.Lexemes.{Lexeme}
 use Rattle.sql_grammar.specs.Kinds.{kind_of}
 use Rattle.sql_grammar.specs.Numbering.{first_numbers}
-use Rattle.grammar.specs.Costs.{begun, front_rules}
-use Rattle.sql_grammar.specs.QueryCopies.{copy_rules}
+use Rattle.sql_grammar.specs.QueryCopies.{copies_nothing}
 use Rattle.sql_grammar.specs.QueryEntries.{few_rules}
 use Rattle.sql_grammar.specs.QueryGrammar.{rules}
 use Rattle.sql_grammar.specs.QueryGrammar as g
@@ -62,9 +62,9 @@ queries text = map (λ read. (read.build first_numbers).0) (whole_values (name_p
 abbrev pub copies : List ℕ → List ℕ
 copies text = map (λ read. read.copies) (whole_values (name_parses kind_of rules 40 None g.expr (tokens text)))
 
--- what a front of an expression has copied
-abbrev pub copied : List ℕ → List ℕ
-copied text = whole_values (name_parses kind_of copy_rules 40 None (begun g.expr) (tokens text))
+-- what a front of an expression has copied, by what it goes on with, which is none where that copies anything
+abbrev pub copied : List ℕ → List ℕ → List ℕ
+copied text more = if list_all copies_nothing (tokens more) then copies (text ++ blank ∷ more) else []
 
 -- how many readings an expression has where so many levels may be opened
 abbrev pub within : ℕ → List ℕ → ℕ
@@ -74,13 +74,9 @@ within levels text = length (whole_values (name_parses kind_of rules 40 (Some le
 abbrev pub with_few : ℕ → List ℕ → List Query
 with_few further text = map (λ read. (read.build first_numbers).0) (whole_values (name_parses kind_of (few_rules further) 40 None g.query (tokens text)))
 
-abbrev pub is_any : {X : Type 0} → List X → Bool
-is_any [] = false
-is_any (x ∷ xs) = true
-
 -- whether a text is a front of these
 abbrev pub begins_few : ℕ → List ℕ → Bool
-begins_few further text = is_any (whole_values (name_parses kind_of (front_rules (few_rules further)) 40 None (begun g.query) (tokens text)))
+begins_few further text = name_begins kind_of (few_rules further) 40 None g.query (tokens text)
 
 -- ---- short forms
 
@@ -362,41 +358,41 @@ other_parts_go_on = refl
 
 -- ---- copies up to a token
 
-pub none_yet : copied (codes "a + 1") ≡ 0 ∷ []
+pub none_yet : copied (codes "a + 1") (codes "* 2") ≡ 0 ∷ []
 unfolding everything
 none_yet = refl
 
-pub at_between : copied (codes "a + b BETWEEN") ≡ 3 ∷ []
+pub at_between : copied (codes "a + b BETWEEN") (codes "1 AND 2") ≡ 3 ∷ []
 unfolding everything
 at_between = refl
 
-pub first_member : copied (codes "a IN ( 1") ≡ 0 ∷ []
+pub first_member : copied (codes "a IN ( 1") (codes "+ 2 )") ≡ 0 ∷ []
 unfolding everything
 first_member = refl
 
-pub at_a_comma : copied (codes "a IN ( 1 ,") ≡ 1 ∷ []
+pub at_a_comma : copied (codes "a IN ( 1 ,") (codes "2 )") ≡ 1 ∷ []
 unfolding everything
 at_a_comma = refl
 
-pub third_member : copied (codes "a IN ( 1 , 2 , 3") ≡ 2 ∷ []
+pub third_member : copied (codes "a IN ( 1 , 2 , 3") (codes ")") ≡ 2 ∷ []
 unfolding everything
 third_member = refl
 
-pub at_not_between : copied (codes "a NOT BETWEEN") ≡ 1 ∷ []
+pub at_not_between : copied (codes "a NOT BETWEEN") (codes "1 AND 2") ≡ 1 ∷ []
 unfolding everything
 at_not_between = refl
 
-pub behind_between : copied (codes "a BETWEEN 1 AND") ≡ 1 ∷ []
+pub behind_between : copied (codes "a BETWEEN 1 AND") (codes "2") ≡ 1 ∷ []
 unfolding everything
 behind_between = refl
 
 -- the comma of a call copies nothing
-pub at_a_comma_of_a_call : copied (codes "a IN ( f ( 1 , 2") ≡ 0 ∷ []
+pub at_a_comma_of_a_call : copied (codes "a IN ( f ( 1 , 2") (codes ") )") ≡ 0 ∷ []
 unfolding everything
 at_a_comma_of_a_call = refl
 
 -- seven tokens, and the copy that was made in them
-pub copies_of_copies : copied (codes "( a BETWEEN 1 AND 2 ) IN ( 1 ,") ≡ 9 ∷ []
+pub copies_of_copies : copied (codes "( a BETWEEN 1 AND 2 ) IN ( 1 ,") (codes "2 )") ≡ 9 ∷ []
 unfolding everything
 copies_of_copies = refl
 

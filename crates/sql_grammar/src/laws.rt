@@ -10,10 +10,10 @@ ghost use Rattle.sql_model.specs.declared.tree.Query.{Query};
 ghost use Rattle.sql_grammar.specs.Kinds.{kind_of};
 ghost use Rattle.sql_grammar.specs.Numbering.{Built, Numbers};
 ghost use Rattle.sql_grammar.specs.Queries.{Begins, IsTooDeep, Spells, of_production, queries, shallow_queries};
-ghost use Rattle.sql_grammar.specs.QueryCopies.{CopiesOf, IsCopyTooMany, most_copies};
+ghost use Rattle.sql_grammar.specs.QueryCopies.{CopiesOf, IsCopyTooMany, copies_nothing, most_copies};
 ghost use Rattle.sql_grammar.specs.QueryEntries.{IsEntryTooMany, few_queries, few_rules, most_further};
 ghost use Rattle.sql_grammar.specs.QueryPlan.{few_plan, of_plan};
-ghost use Rattle.sql_grammar.specs.PlanCopies.{CopiesTooMuch, HasCopied, copies_nothing};
+ghost use Rattle.sql_grammar.specs.PlanCopies.{CopiesTooMuch, HasCopied};
 ghost use Rattle.sql_grammar.specs.QueryLookahead.{table};
 ghost use Rattle.sql_grammar.specs.QueryGrammar.{Production, Read, query, rules};
 

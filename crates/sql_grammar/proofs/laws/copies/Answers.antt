@@ -1,6 +1,4 @@
-use Rattle.sql_grammar.proofs.Copies.{begins_of, copies_of}
-use Rattle.sql_grammar.proofs.CopyCuts.{completed_copies, whole_copies}
-use Rattle.sql_grammar.proofs.CopyCompletions.{quietly_completed}
+use Rattle.sql_grammar.proofs.Copies.{begins_of, copies_of, completed_copies, whole_copies}
 use Rattle.sql_grammar.proofs.CopyOnce.{longer_copies, one_number}
 use Rattle.sql_grammar.proofs.laws.copies.Goals as goal
 
@@ -17,7 +15,7 @@ pub returns-clause-completed : goal.returns-clause-completed
 returns-clause-completed c = completed_copies
 
 pub returns-clause-completes : goal.returns-clause-completes
-returns-clause-completes c = λ ts copies s. let r = quietly_completed ts copies s in (r.more, r.read, r.quiet, r.spelled, r.same_copies)
+returns-clause-completes c = λ ts copies s. let c = s.completes in (c.more, s.read, c.are_chosen, c.spelled, s.same_copies)
 
 pub returns-clause-one : goal.returns-clause-one
 returns-clause-one c = one_number
