@@ -3,7 +3,7 @@ use Rattle.std.proofs.Common.{◌≡◌, ◌<◌, true, false, List, [], ◌∷�
 use Rattle.std.proofs.lemmas.List.{append-nil}
 use Rattle.grammar.specs.Form.{star}
 use Rattle.grammar.specs.Language.{Concatenates}
-use Rattle.grammar.proofs.CostCompletions.{one_more}
+use Rattle.grammar.proofs.Repetitions.{one_more}
 use Rattle.sql_lex.specs.Lexemes.{Lexeme}
 use Rattle.sql_model.specs.declared.statement.Statement.{Statement}
 use Rattle.sql_read.specs.declared.fault.ReadFault.{ReadFault}

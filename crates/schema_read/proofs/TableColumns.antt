@@ -27,9 +27,9 @@ use Rattle.sql_read.specs.Eating.{Overflows, PassesWithin, Stays}
 use Rattle.sql_read.specs.ReadingEntries.{allowed}
 use Rattle.sql_read.specs.Reads.{GivesWithin, columns_too, few_form}
 use Rattle.sql_read.proofs.ReadSteps.{absent_unless, deep_within, same_taken}
-use Rattle.schema_read.specs.Counting.{RefusesCounted, TakesCounted, element_behind, most_columns, narrowly}
+use Rattle.schema_read.specs.Counting.{RefusesCounted, TakesCounted, element_behind, narrowly}
 use Rattle.schema_read.specs.StatementGrammar as g
-use Rattle.schema_read.specs.StatementLimits.{few_columns, most_further_columns}
+use Rattle.schema_read.specs.StatementLimits.{few_columns, most_columns, most_further_columns}
 use Rattle.schema_read.specs.StatementTrees as t
 use Rattle.schema_read.specs.StatementTrees.{Elements}
 use Rattle.schema_read.proofs.CountSteps.{Rest, RestOf, below_within, free, held, rest_first, rest_second, same_read, whole_rest}

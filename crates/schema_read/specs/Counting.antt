@@ -14,7 +14,7 @@ use Rattle.sql_read.specs.Reads.{Told, ReadsWithin, few_form, of_form}
 use Rattle.sql_grammar.specs.Numbering.{Built, each}
 use Rattle.sql_grammar.specs.QueryGrammar.{The}
 use Rattle.schema_read.specs.StatementGrammar as g
-use Rattle.schema_read.specs.StatementLimits.{few_columns, most_further_columns, most_relations}
+use Rattle.schema_read.specs.StatementLimits.{few_columns, most_columns, most_further_columns, most_relations}
 use Rattle.schema_read.specs.StatementTrees.{Elements}
 
 -- a form was read, where so much is told of its limits
@@ -53,9 +53,6 @@ pub record Counts {V A : Type 0} (own : LimitKind) (f : The V) (C : Language Lex
   pub answers : CountAnswers own f C before result after
 
 -- ---- columns
-
-abbrev pub most_columns : ℕ
-most_columns = 32
 
 -- a column, if one more is allowed behind so many, or a rule
 unfoldable pub element_behind : ℕ → Language Lexeme Elements

@@ -13,7 +13,7 @@ use Rattle.sql_grammar.specs.Numbering.{Built}
 use Rattle.sql_grammar.specs.QueryCopies.{most_copies}
 use Rattle.sql_read.specs.Refusals.{refusal_of}
 use Rattle.schema_read.specs.Declarations.{IsSmall}
-use Rattle.schema_read.specs.StatementLimits.{CopiesFew, IsCopyTooMany, within}
+use Rattle.schema_read.specs.StatementLimits.{CopiesFew, IsCopyTooMany, most_relations, within}
 use Rattle.schema_read.specs.Statements.{IsFirstBeyond, IsShallow, IsTooDeep, statements}
 
 -- the longest list of tokens that begins statements was taken, and it spells these statements
@@ -33,7 +33,7 @@ pub record IsRead (before : Cursor) (list : List Statement) (after : Cursor) : T
   pub fault : after.fault ≡ before.fault
   pub end : after.end ≡ before.end
   -- the statements are within the limits of a schema
-  pub few_relations : length list ≤ 256
+  pub few_relations : length list ≤ most_relations
   pub small : Each IsSmall list
 
 -- the longest list of tokens that begins statements spells none, and what stands behind it is refused

@@ -1,6 +1,6 @@
 -- The limits on the columns of a table and on the number of relations, and those of the queries of views, each with the token that is one
 -- too many. Each limit but that on copies is a language of the statements that keep it.
-use Rattle.std.specs.Prelude.{ℕ, zero, suc, ◌+◌, ◌≡◌, List, [], ◌∷◌, ◌++◌, length, None}
+use Rattle.std.specs.Prelude.{ℕ, zero, suc, ◌+◌, ◌-◌, ◌≡◌, List, [], ◌∷◌, ◌++◌, length, None}
 use Rattle.grammar.specs.Form.{empty, seq, alt, star, map, language, form_language}
 use Rattle.grammar.specs.Language.{map_language, upto_language}
 use Rattle.grammar.specs.Productions.{skip_then}
@@ -34,9 +34,13 @@ few_columns (suc most) =
     map (λ p. p.0 ++ p.1)
     (seq constraints (alt (map (λ none. []) empty) (map (λ p. p.0 ∷ p.1) (seq (skip_then (a k.Comma) g.column) (few_columns most)))))
 
--- columns that a table may have besides its first
+-- columns of a table
+abbrev pub most_columns : ℕ
+most_columns = 32
+
+-- those besides the first
 abbrev pub most_further_columns : ℕ
-most_further_columns = 31
+most_further_columns = most_columns - 1
 
 -- the statements whose tables have no more
 abbrev pub narrow_statements : ℕ → OfStatements

@@ -1,7 +1,6 @@
 -- Statements as texts of tokens with one blank between them, and the trees that they spell, computed.
 use Rattle.std.specs.Prelude.{ℕ, ◌≡◌, Bool, true, false, List, [], ◌∷◌, map, codes, length, replicate, refl, Option, Some, None}
-use Rattle.grammar.specs.Costs.{begun_of, front_rules}
-use Rattle.grammar.specs.Parses.{name_parses, parses, whole_values}
+use Rattle.grammar.specs.Parses.{begins, name_begins, name_parses, parses, whole_values}
 use Rattle.sql_model.specs.declared.statement.NameAt.{NameAt}
 use Rattle.sql_model.specs.declared.statement.TableRule.{TableRule}
 use Rattle.sql_model.specs.declared.statement.TableRule.TheVariants as rule
@@ -17,7 +16,7 @@ use Rattle.sql_model.specs.Compute.{everything}
 use Rattle.sql_grammar.specs.Kinds.{kind_of}
 use Rattle.sql_grammar.specs.Numbering.{first_numbers}
 use Rattle.sql_grammar.specs.QueryGrammar.{rules}
-use Rattle.sql_grammar.specs.QuerySamples.{tokens, is_any}
+use Rattle.sql_grammar.specs.QuerySamples.{tokens}
 use Rattle.schema_read.specs.StatementGrammar as g
 use Rattle.schema_read.specs.StatementLimits.{few_columns}
 
@@ -32,7 +31,7 @@ within levels text = length (whole_values (parses kind_of (name_parses kind_of r
 
 -- whether a text is a front of statements whose tables have at most so many columns besides their first
 abbrev pub begins_narrow : ℕ → List ℕ → Bool
-begins_narrow most text = is_any (whole_values (parses kind_of (name_parses kind_of (front_rules rules) 20) None (begun_of (λ p v. 0) (g.statements_with (few_columns most))) (tokens text)))
+begins_narrow most text = begins kind_of (name_parses kind_of rules 20) (name_begins kind_of rules 20) None (g.statements_with (few_columns most)) (tokens text)
 
 -- what the views of whole statements copy
 abbrev pub copied : List ℕ → List ℕ

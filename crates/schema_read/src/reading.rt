@@ -26,12 +26,6 @@ use sql_read::{ReadFault, Tokens};
 use statement::statements;
 use std::alloc::Global;
 
-/// Commas of a list.
-const MOST_SEPARATORS: u8 = 255;
-
-/// Levels that may be open at once.
-const MOST_LEVELS: u8 = 64;
-
 /// Columns of a table.
 const MOST_COLUMNS: usize = 32;
 

@@ -1,11 +1,10 @@
 -- The set of the members that have numbers is the list of the grammar.
-use Rattle.std.proofs.Common.{◌≡◌, ℕ, ◌==◌, Bool, true, false, List, [], ◌∷◌, ◌++◌, Result, Ok, Err, IfOk, refl, sym, ap, ◌∙◌, subst, arith, if◌then◌else◌, inl, inr}
+use Rattle.std.proofs.Common.{◌≡◌, ℕ, ◌==◌, Bool, true, false, List, [], ◌∷◌, ◌++◌, Result, Ok, Err, IfOk, refl, sym, ap, ◌∙◌, subst, arith, if◌then◌else◌, inl, inr, bytes_eq}
 use Rattle.std.proofs.lemmas.Bool.{cases_Bool}
 use Rattle.std.proofs.lemmas.List.{append-nil}
 use Rattle.std.specs.List.{list_any, position_or_len}
 use Rattle.std.specs.declared.alloc.AllocError.{AllocError}
 use Rattle.std.specs.Cmp.Lexicographic.{pointwise}
-use Rattle.data_model.specs.Rows.{same_row}
 use Rattle.sql_model.specs.declared.symbols.Lit.{Lit}
 use Rattle.sql_model.specs.declared.symbols.LitKind.{LitKind}
 use Rattle.sql_model.specs.declared.symbols.LitKind.TheVariants as literal
@@ -39,17 +38,11 @@ goes_on : {X : Type 0} (b : Bool) (new : X) (xs keys : List X) → keys ≡ (if 
 goes_on true new xs keys e = ([], e ∙ sym (append-nil xs))
 goes_on false new xs keys e = (new ∷ [], e)
 
-same_names : (a b : List ℕ) → pointwise ◌==◌ a b ≡ same_row a b
-same_names [] [] = refl
-same_names [] (y ∷ b) = refl
-same_names (x ∷ a) [] = refl
-same_names (x ∷ a) (y ∷ b) = rw (same_names a b) refl
-
 of_parts : (k l : LitKind) (a b : Name) → eq-value.it (record { kind = k; text = a }) (record { kind = l; text = b }) ≡ is_same_literal (record { kind = k; text = a }) (record { kind = l; text = b })
-of_parts literal.Number literal.Number a b = same_names a b
+of_parts literal.Number literal.Number a b = refl
 of_parts literal.Number literal.Text a b = refl
 of_parts literal.Text literal.Number a b = refl
-of_parts literal.Text literal.Text a b = same_names a b
+of_parts literal.Text literal.Text a b = refl
 
 same_literals : (a b : Lit) → eq-value.it a b ≡ is_same_literal a b
 same_literals a b = of_parts a.kind b.kind a.text b.text
@@ -67,8 +60,8 @@ module _ {seen before after : Cursor} (v : seen ≡ before) where
       → after ≡ record seen { numbers = record seen.numbers { symbols = keys } } → IfOk result (λ number. Numbers (symbol_number new) before number after)
   symbol_numbered new result place keys e i k m =
       subst (λ z. IfOk result (λ number. Numbers (symbol_number new) z number after)) v
-      (numbered (symbol_number new) seen after result place e (i ∙ placed (pointwise ◌==◌ new) (same_row new) (same_names new) seen.numbers.symbols)
-      (m ∙ ap (λ (ks : List Name). record seen { numbers = record seen.numbers { symbols = ks } }) (k ∙ with_new (pointwise ◌==◌ new) (same_row new) (same_names new) new seen.numbers.symbols)))
+      (numbered (symbol_number new) seen after result place e (i ∙ placed (bytes_eq new) (bytes_eq new) (λ x. refl) seen.numbers.symbols)
+      (m ∙ ap (λ (ks : List Name). record seen { numbers = record seen.numbers { symbols = ks } }) (k ∙ with_new (bytes_eq new) (bytes_eq new) (λ x. refl) new seen.numbers.symbols)))
 
   pub literal_numbered : (new : Lit) (result : Result ℕ AllocError) (place : ℕ) (keys : List Lit) → IfOk result (λ number. number ≡ place)
       → place ≡ position_or_len (eq-value.it new) seen.numbers.literals

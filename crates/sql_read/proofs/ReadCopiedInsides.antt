@@ -12,11 +12,10 @@ use Rattle.sql_read.specs.declared.fault.ReadFault.{ReadFault}
 use Rattle.sql_read.specs.declared.fault.ReadFault.TheVariants.{Lex, Unexpected, LeftOut, TooDeep, Limit, NoMemory}
 use Rattle.sql_read.specs.Copied.{CopiedToFault, CopiesSoFar, CopiesTooMuch, Says}
 use Rattle.sql_read.specs.Cursor.{Cursor}
-use Rattle.sql_grammar.specs.QueryCopies.{most_copies}
+use Rattle.sql_grammar.specs.QueryCopies.{copies_nothing, most_copies}
 use Rattle.sql_grammar.specs.declared.kinds.Kind.TheVariants as k
 use Rattle.sql_grammar.specs.Numbering.{Built}
 use Rattle.sql_read.specs.Parts.{built_grouped, built_inside}
-use Rattle.sql_grammar.specs.PlanCopies.{copies_nothing}
 use Rattle.sql_grammar.specs.QueryGrammar as grammar
 use Rattle.sql_grammar.specs.QueryGrammar.{commas, expr_tail, in_inner, in_parentheses, inner, next_comma, set_tail, The}
 use Rattle.sql_grammar.specs.QueryPlan.{after_expression, after_query, no_parenthesis, sort}

@@ -15,10 +15,10 @@ use Rattle.sql_read.specs.Copied.{Copied, CopiedToFault}
 use Rattle.sql_read.specs.Cursor.{Cursor}
 use Rattle.sql_read.specs.Eating.{Eats, Expects, Extends, IsMark, Misses, Passes, Stays}
 use Rattle.sql_grammar.specs.declared.kinds.Kind.TheVariants as k
+use Rattle.sql_grammar.specs.QueryCopies.{copies_nothing}
 use Rattle.sql_grammar.specs.Kinds.{among, name_kinds, same}
 use Rattle.sql_grammar.specs.Numbering.{Built, plain}
 use Rattle.sql_read.specs.Parts.{built_starred}
-use Rattle.sql_grammar.specs.PlanCopies.{copies_nothing}
 use Rattle.sql_grammar.specs.QueryGrammar.{alias, and_tail, exists, expr_tail, item, not_neg, parens, The}
 use Rattle.sql_grammar.specs.QueryPlan.{arguments, count_arguments, dot_star_or_name, going_on, going_on_by_and, item_value, named_item, one_argument, star_or_column, star_or_left, starred, Starred}
 use Rattle.sql_grammar.specs.QueryTrees as t

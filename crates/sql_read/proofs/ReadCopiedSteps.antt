@@ -6,7 +6,7 @@ use Rattle.grammar.proofs.Completing as c
 use Rattle.grammar.proofs.Completing.{either_of}
 use Rattle.sql_lex.specs.Lexemes.{Lexeme}
 use Rattle.sql_read.specs.Cursor.{Cursor}
-use Rattle.sql_grammar.specs.PlanCopies.{copies_nothing}
+use Rattle.sql_grammar.specs.QueryCopies.{copies_nothing}
 use Rattle.sql_grammar.specs.QueryGrammar.{The}
 use Rattle.sql_read.specs.Reads.{of_form, Takes}
 use Rattle.sql_grammar.proofs.CopySteps.{plan_filled}

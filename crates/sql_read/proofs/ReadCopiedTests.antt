@@ -10,19 +10,18 @@ use Rattle.sql_read.specs.declared.fault.ReadFault.{ReadFault}
 use Rattle.sql_read.specs.declared.fault.ReadFault.TheVariants.{Lex, Unexpected, LeftOut, TooDeep, Limit, NoMemory}
 use Rattle.sql_read.specs.Copied.{Copied, CopiedToFault, CopiesTooMuch}
 use Rattle.sql_read.specs.Cursor.{Cursor}
-use Rattle.sql_grammar.specs.QueryCopies.{behind_commas, most_copies}
+use Rattle.sql_grammar.specs.QueryCopies.{copies_nothing, most_copies}
 use Rattle.sql_read.specs.Eating.{Copies, Overflows, Passes, PassesWithin}
 use Rattle.sql_grammar.specs.declared.kinds.Kind.TheVariants as k
 use Rattle.sql_grammar.specs.Kinds.{same}
 use Rattle.sql_grammar.specs.Numbering.{Built, each}
-use Rattle.sql_grammar.specs.PlanCopies.{copies_nothing}
 use Rattle.sql_grammar.specs.QueryGrammar as grammar
 use Rattle.sql_grammar.specs.QueryGrammar.{commas, next_comma}
 use Rattle.sql_grammar.specs.QueryPlan.{between_values, by_word}
 use Rattle.sql_grammar.specs.QueryTrees as trees
 use Rattle.sql_grammar.specs.QueryTrees.{in_list, Inside, Left}
 use Rattle.sql_read.specs.Reads.{Builds, of_form}
-use Rattle.sql_grammar.proofs.CopyLists.{list_adds, no_members, one_more_comma}
+use Rattle.sql_grammar.proofs.TestCopies.{behind_commas, list_adds, no_members, one_more_comma}
 use Rattle.sql_grammar.proofs.CopySteps.{between_too_much, comma_too_much}
 use Rattle.sql_grammar.proofs.PlanPrices.{members_price}
 use Rattle.sql_grammar.proofs.QueryFillings.{fill_none}
@@ -90,9 +89,9 @@ module _ {levels room : ℕ} {begun : Cursor} {weight : ℕ} {before first : Bui
   listed_price : (others : List (Built Expr)) → began.copies + price (l.join others) ≡ now.copies + members_price (before, count) others
   listed_price others =
       let all : price (l.join others) ≡ before.copies + (first.copies + behind_commas (l.done ++ others) (before, count)) =
-      ap price (l.same others) ∙ list_adds (in_list None (first, l.done ++ others)) None (first, l.done ++ others) (first, l.done ++ others) refl refl (before, count) in
+      ap price (l.same others) ∙ list_adds None (first, l.done ++ others) (before, count) in
       let so_far : price l.done ≡ before.copies + (first.copies + behind_commas l.done (before, count)) =
-      list_adds (in_list None (first, l.done)) None (first, l.done) (first, l.done) refl refl (before, count) in
+      list_adds None (first, l.done) (before, count) in
       let here : now.copies ≡ began.copies + price l.done = l.copies ∙ ap (λ z. began.copies + ((before.copies + (first.copies + (each l.done).copies)) + length l.done * z)) e in
       omega (arith, all, so_far, here, behind_more l.done others (before, count))
 

@@ -12,11 +12,10 @@ use Rattle.sql_read.specs.declared.fault.ReadFault.{ReadFault}
 use Rattle.sql_read.specs.declared.fault.ReadFault.TheVariants.{Lex, Unexpected, LeftOut, TooDeep, Limit, NoMemory}
 use Rattle.sql_read.specs.Copied.{Copied, CopiedToFault, CopiesSoFar, CopiesTooMuch, Says}
 use Rattle.sql_read.specs.Cursor.{Cursor, next_of}
-use Rattle.sql_grammar.specs.QueryCopies.{most_copies}
+use Rattle.sql_grammar.specs.QueryCopies.{copies_nothing, most_copies}
 use Rattle.sql_read.specs.Eating.{Misses, Overflows, Passes, Refusing}
 use Rattle.sql_grammar.specs.declared.kinds.Kind.{Kind}
 use Rattle.sql_grammar.specs.Numbering.{Built}
-use Rattle.sql_grammar.specs.PlanCopies.{copies_nothing}
 use Rattle.sql_grammar.specs.QueryGrammar.{Production, Read, The}
 use Rattle.sql_grammar.specs.QueryPlan.{plan}
 use Rattle.sql_read.specs.Reads.{of_form, Takes}

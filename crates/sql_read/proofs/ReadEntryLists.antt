@@ -16,11 +16,10 @@ use Rattle.grammar.proofs.Repetitions.{IsOneMore}
 use Rattle.grammar.proofs.Steps.{IsWithin, map_within, token_took}
 use Rattle.sql_lex.specs.Lexemes.{Lexeme}
 use Rattle.sql_model.specs.declared.tree.Entry.{Entry}
-use Rattle.sql_read.specs.Eating.{most_entries}
 use Rattle.sql_grammar.specs.declared.kinds.Kind.TheVariants as k
 use Rattle.sql_grammar.specs.Kinds.{kind_of, same}
 use Rattle.sql_grammar.specs.Numbering.{Built}
-use Rattle.sql_grammar.specs.QueryEntries.{Further, before_entry, further_entries, most_further, next_entry}
+use Rattle.sql_grammar.specs.QueryEntries.{Further, before_entry, further_entries, most_entries, most_further, next_entry}
 use Rattle.sql_grammar.specs.QueryGrammar as grammar
 use Rattle.sql_grammar.specs.QueryGrammar.{The, cross_join, entry, join_on}
 use Rattle.sql_grammar.specs.QueryTrees as t

@@ -7,6 +7,7 @@ use Rattle.sql_read.specs.declared.fault.ReadFault.TheVariants.{Limit, NoMemory,
 use Rattle.sql_read.specs.declared.fault.LimitKind.TheVariants as limit
 use Rattle.sql_read.specs.Cursor.{Cursor, behind_next}
 use Rattle.sql_grammar.specs.QueryCopies.{most_copies}
+use Rattle.sql_grammar.specs.QueryEntries.{most_entries}
 use Rattle.sql_grammar.specs.declared.kinds.Kind.TheVariants as k
 use Rattle.sql_grammar.specs.declared.kinds.Kind.{Kind}
 use Rattle.sql_grammar.specs.Kinds.{kind_of, among, name_kinds, same}
@@ -116,9 +117,6 @@ abbrev pub IsBehind : Mark → Cursor → Type 0
 IsBehind mark cursor = (mark.passed ≤ cursor.passed) × (mark.copies ≤ cursor.copies)
 
 -- ---- the limit on entries
-abbrev pub most_entries : ℕ
-most_entries = 32
-
 -- An entry behind so many others is one too many at the first token of its own, but for a parenthesis that is too deep.
 abbrev pub allowed_entry : ℕ → ℕ → List Lexeme → Result (Unit {0}) ReadFault
 allowed_entry levels count tokens =

@@ -11,11 +11,11 @@ use Rattle.sql_read.specs.declared.fault.LimitKind.{LimitKind}
 use Rattle.sql_read.specs.declared.fault.LimitKind.TheVariants as limit
 use Rattle.sql_read.specs.declared.fault.ReadFault.{ReadFault}
 use Rattle.sql_read.specs.declared.fault.ReadFault.TheVariants.{Lex, Unexpected, LeftOut, TooDeep, Limit, NoMemory}
-use Rattle.sql_read.specs.Eating.{is_next, most_entries}
+use Rattle.sql_read.specs.Eating.{is_next}
 use Rattle.sql_grammar.specs.declared.kinds.Kind.TheVariants as k
 use Rattle.sql_grammar.specs.Kinds.{among, kind_of, same}
 use Rattle.sql_grammar.specs.Numbering.{Built}
-use Rattle.sql_grammar.specs.QueryEntries.{Further, further_entries, most_further, next_entry}
+use Rattle.sql_grammar.specs.QueryEntries.{Further, further_entries, most_entries, most_further, next_entry}
 use Rattle.sql_grammar.specs.QueryGrammar.{The, a, entry, expr}
 use Rattle.sql_grammar.specs.QueryTrees as t
 use Rattle.sql_grammar.specs.declared.listed.Listed.{Listed}

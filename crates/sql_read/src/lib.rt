@@ -13,6 +13,6 @@ mod values;
 
 pub use fault::{LimitKind, ReadFault};
 pub use names::{is_word, name_of};
-pub use reading::{read_inner_query, read_query};
+pub use reading::{MOST_LEVELS, MOST_SEPARATORS, NAME_KINDS, read_inner_query, read_query};
 pub use tokens::{Tokens, place};
 pub use values::name_in;

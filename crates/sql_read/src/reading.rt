@@ -18,6 +18,7 @@ mod test;
 
 use crate::fault::ReadFault;
 use crate::tokens::Tokens;
+pub use item::NAME_KINDS;
 use query::query;
 use sql_model::Query;
 use std::alloc::Global;
@@ -26,10 +27,10 @@ use std::alloc::Global;
 const MOST_OPERATORS: u8 = 63;
 
 /// `AND`s, `OR`s or commas of a chain or a list.
-const MOST_SEPARATORS: u8 = 255;
+pub const MOST_SEPARATORS: u8 = 255;
 
 /// Levels that may be open at once.
-const MOST_LEVELS: u8 = 64;
+pub const MOST_LEVELS: u8 = 64;
 
 /// Reads the longest list of tokens that begins a query. A lexical fault that follows a whole query is left to the next call.
 /// After a refusal the tokens stand at the end of the text.

@@ -12,14 +12,14 @@ ghost use Rattle.schema_read.specs.Counting.{Counts, ReadsTelling, RefusesCounte
 ghost use Rattle.schema_read.specs.StatementGrammar as g;
 ghost use Rattle.schema_read.specs.StatementTrees as t;
 
+use super::MOST_COLUMNS;
 use super::columns::column_rules;
-use super::names::{NAME_KINDS, name, type_name};
+use super::names::{name, type_name};
 use super::rules::constraint;
-use super::{MOST_COLUMNS, MOST_SEPARATORS};
 use plain_data::List;
 use sql_grammar::Kind;
 use sql_model::{NameAt, TableRule};
-use sql_read::{LimitKind, ReadFault, Tokens};
+use sql_read::{LimitKind, MOST_SEPARATORS, NAME_KINDS, ReadFault, Tokens};
 use std::alloc::Global;
 
 /// What a rule of a table begins with, where it is no column.

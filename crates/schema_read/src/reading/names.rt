@@ -11,27 +11,12 @@ ghost use Rattle.schema_read.specs.CopiedStatements.{CopiesNothing};
 ghost use Rattle.schema_read.specs.StatementGrammar as g;
 ghost use Rattle.schema_read.specs.StatementTrees as t;
 
-use super::MOST_SEPARATORS;
 use plain_data::List;
 use sql_grammar::Kind;
 use sql_lex::Token;
 use sql_model::{NameAt, NoMemory};
-use sql_read::{ReadFault, Tokens, name_in, place};
+use sql_read::{MOST_SEPARATORS, NAME_KINDS, ReadFault, Tokens, name_in, place};
 use std::alloc::Global;
-
-/// Unreserved words and quoted names.
-pub const NAME_KINDS: [Kind; 10] = [
-    Kind::Word,
-    Kind::Count,
-    Kind::Sum,
-    Kind::Avg,
-    Kind::Min,
-    Kind::Max,
-    Kind::Key,
-    Kind::View,
-    Kind::Index,
-    Kind::Quoted,
-];
 
 /// Unreserved words.
 const WORD_KINDS: [Kind; 9] = [

@@ -10,14 +10,14 @@ ghost use Rattle.schema_read.specs.Counting.{Counts, ReadsTelling, few_planned, 
 ghost use Rattle.schema_read.specs.StatementGrammar as g;
 ghost use Rattle.schema_read.specs.StatementLimits.{IsCopyTooMany, IsTooManyBehind, column_count, create_view, view_words};
 
+use super::MOST_RELATIONS;
 use super::elements::{Elements, table_elements};
 use super::index::index;
 use super::names::name;
-use super::{MOST_LEVELS, MOST_RELATIONS};
 use plain_data::List;
 use sql_grammar::Kind;
 use sql_model::Statement;
-use sql_read::{LimitKind, ReadFault, Tokens, read_inner_query};
+use sql_read::{LimitKind, MOST_LEVELS, ReadFault, Tokens, read_inner_query};
 use std::alloc::Global;
 
 /// `{statement ;}`
