@@ -15,7 +15,7 @@ use Rattle.sql_grammar.specs.Queries.{most_levels}
 use Rattle.sql_grammar.specs.QueryCopies as queries
 use Rattle.sql_grammar.specs.QueryCopies.{CopiesOf, most_copies}
 use Rattle.sql_grammar.specs.QueryGrammar.{The, query}
-use Rattle.sql_grammar.proofs.CopyCuts.{whole_copies}
+use Rattle.sql_grammar.proofs.Copies.{whole_copies}
 use Rattle.sql_grammar.proofs.CopyOnce.{never_too_many}
 use Rattle.schema_read.specs.CopiedStatements.{CopiedToFault, LastTooMany, NoneTooMany, TooMany}
 use Rattle.schema_read.specs.StatementGrammar.{statements}

@@ -18,8 +18,7 @@ use Rattle.sql_grammar.specs.QueryCopies as counts
 use Rattle.sql_grammar.specs.QueryCopies.{CopiesOf, most_copies}
 use Rattle.sql_grammar.specs.QueryGrammar.{query}
 use Rattle.sql_grammar.specs.QueryLookahead.{table}
-use Rattle.sql_grammar.proofs.Copies.{begins_of}
-use Rattle.sql_grammar.proofs.CopyCuts.{whole_copies}
+use Rattle.sql_grammar.proofs.Copies.{begins_of, whole_copies}
 use Rattle.sql_grammar.proofs.CopyOnce.{never_too_many}
 use Rattle.sql_grammar.proofs.EveryKind.{every_kind_is_there}
 use Rattle.sql_grammar.proofs.QueryKnown.{production_known}

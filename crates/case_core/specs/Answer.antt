@@ -13,7 +13,8 @@ use Rattle.schema_read.specs.SchemaFacts.{AreFactsOf}
 use Rattle.scope_core.specs.declared.fault.ScopeFault.{ScopeFault}
 use Rattle.scope_core.specs.declared.fault.ScopeFault.TheVariants as scope_refusal
 use Rattle.scope_core.specs.FirstFault.{query_fault, schema_fault as views_fault}
-use Rattle.scope_core.specs.Relations.{Resolves, known_of, views_of}
+use Rattle.scope_core.specs.Relations.{known_of}
+use Rattle.scope_core.specs.ViewTrees.{Resolves, views_of}
 use Rattle.scope_core.specs.Scope.{heading}
 use Rattle.scope_core.specs.WellFormed.{SchemaWellFormed, SchemaWithinWidth, WellFormed, WithinWidth}
 use Rattle.case_core.specs.declared.fault.CaseFault.{CaseFault}

@@ -16,7 +16,7 @@ use Rattle.sql_grammar.specs.QueryEntries.{few_rules, most_further}
 use Rattle.schema_read.specs.Declarations.{IsSmall}
 use Rattle.schema_read.specs.StatementGrammar.{statements}
 use Rattle.schema_read.specs.StatementLimits as of_statements
-use Rattle.schema_read.specs.StatementLimits.{IsTooManyBehind}
+use Rattle.schema_read.specs.StatementLimits.{IsTooManyBehind, most_relations}
 use Rattle.schema_read.specs.Statements.{of_form}
 use Rattle.case_core.specs.declared.text.CaseText.{CaseText}
 use Rattle.case_core.specs.CaseGrammar as g
@@ -101,5 +101,5 @@ pub record IsRead (text : List ℕ) (written : CaseText) (numbers : Numbers) : T
   pub few : (what : LimitKind) → (within what).spells spells.tokens spells.read
   pub few_copies : spells.read.copies ≤ most_copies
   -- the statements are within the limits of a schema
-  pub few_relations : length written.statements ≤ 256
+  pub few_relations : length written.statements ≤ most_relations
   pub small : Each IsSmall written.statements

@@ -18,11 +18,8 @@ use plain_data::List;
 use schema_read::read_inner_statements;
 use sql_grammar::Kind;
 use sql_model::{Query, Statement, Symbols};
-use sql_read::{ReadFault, Tokens, place, read_inner_query};
+use sql_read::{MOST_LEVELS, ReadFault, Tokens, place, read_inner_query};
 use std::alloc::Global;
-
-/// Levels that may be open at once.
-const MOST_LEVELS: u8 = 64;
 
 /// Statements and two queries, as they are written.
 #[derive(Debug, Drop)]

@@ -13,8 +13,7 @@ use Rattle.scope_core.specs.Compute.{resolving}
 use Rattle.scope_core.specs.Faults.{block_meant, is_here, lacks_column, names_two}
 use Rattle.scope_core.specs.FirstFault.{refused}
 use Rattle.scope_core.specs.Parts.{group_fault, columns_fault, places_listed}
-use Rattle.scope_core.specs.Resolving.{group_place}
-use Rattle.scope_core.specs.Scope.{Levels, place_in}
+use Rattle.scope_core.specs.Scope.{Levels, place_in, group_place}
 use Rattle.scope_core.specs.Sites.{AGroupColumn}
 use Rattle.scope_core.proofs.Lists.{at-head, at-end}
 use Rattle.scope_core.proofs.Columns.{causes, cause-is, alias_is_known}

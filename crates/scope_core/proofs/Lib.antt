@@ -21,6 +21,7 @@ pub mod Places
 pub mod Wide
 pub mod SameRows
 pub mod Resolvability
+pub mod ViewTrees
 pub mod Relations
 pub mod NoFault
 pub mod SoundParts

@@ -1,5 +1,5 @@
 -- A query is well formed and within the limit exactly where no site has a fault.
-use Rattle.std.proofs.Common.{◌≡◌, ℕ, Bool, true, false, List, [], ◌∷◌, map, Option, Some, None, refl, ap, arith}
+use Rattle.std.proofs.Common.{◌≡◌, ℕ, ◌+◌, Bool, true, false, List, [], ◌∷◌, map, Option, Some, None, refl, ap, arith}
 use Rattle.std.specs.Prelude.{◌↔◌, is_some, if◌then◌else◌}
 use Rattle.std.specs.Option.{option_or}
 use Rattle.data_model.specs.Lists.{Each}
@@ -11,9 +11,8 @@ use Rattle.sql_model.specs.Relations.{Relation}
 use Rattle.scope_core.specs.declared.fault.ScopeCode.{ScopeCode}
 use Rattle.scope_core.specs.declared.fault.ScopeCode.TheVariants as code
 use Rattle.scope_core.specs.declared.fault.ScopeFault.TheVariants as fault
-use Rattle.scope_core.specs.Syntax.{RQuery}
 use Rattle.scope_core.specs.Scope.{Known, heading}
-use Rattle.scope_core.specs.Relations.{known_with, trees_with, known_of}
+use Rattle.scope_core.specs.Relations.{count_views, known_with, known_of}
 use Rattle.scope_core.specs.Sites.{Site, sites}
 use Rattle.scope_core.specs.Faults.{name_twice, is_too_wide}
 use Rattle.scope_core.specs.WellFormed.{HasNoFault, IsRelationWellFormed, AreWellFormed, SchemaWellFormed, WellFormed, IsRelationWithinWidth, AreWithinWidth, SchemaWithinWidth, WithinWidth}
@@ -133,23 +132,23 @@ relation-fault-none : (known : List Known) (r : Relation) → IsRelationWellForm
 relation-fault-none known (relation.Table table) h w = refl
 relation-fault-none known (relation.View query at) h w = rw (first-none (sites query known []) h.0 w, h.1) refl
 
-no-relations-fault : (known : List Known) (trees : List RQuery) (relations : List (Name × Relation)) → relations_fault known trees relations ≡ None
-    → AreWellFormed known trees relations × AreWithinWidth known trees relations
-no-relations-fault known trees [] e = (tt, tt)
-no-relations-fault known trees (r ∷ rest) e =
+no-relations-fault : (known : List Known) (views : ℕ) (relations : List (Name × Relation)) → relations_fault known views relations ≡ None
+    → AreWellFormed known views relations × AreWithinWidth known views relations
+no-relations-fault known views [] e = (tt, tt)
+no-relations-fault known views (r ∷ rest) e =
     let both = or-none (relation_fault known r.1) _ e in
     let here = no-relation-fault known r.1 both.0 in
-    let later = no-relations-fault (known_with known trees r.0 r.1) (trees_with known trees r.1) rest both.1 in
+    let later = no-relations-fault (known_with known views r.0 r.1) (views + count_views r.1) rest both.1 in
     ((here.0, later.0), (here.1, later.1))
 
-relations-fault-none : (known : List Known) (trees : List RQuery) (relations : List (Name × Relation)) → AreWellFormed known trees relations → AreWithinWidth known trees relations
-    → relations_fault known trees relations ≡ None
-relations-fault-none known trees [] h w = refl
-relations-fault-none known trees (r ∷ rest) h w =
-    rw (relation-fault-none known r.1 h.0 w.0) (relations-fault-none (known_with known trees r.0 r.1) (trees_with known trees r.1) rest h.1 w.1)
+relations-fault-none : (known : List Known) (views : ℕ) (relations : List (Name × Relation)) → AreWellFormed known views relations → AreWithinWidth known views relations
+    → relations_fault known views relations ≡ None
+relations-fault-none known views [] h w = refl
+relations-fault-none known views (r ∷ rest) h w =
+    rw (relation-fault-none known r.1 h.0 w.0) (relations-fault-none (known_with known views r.0 r.1) (views + count_views r.1) rest h.1 w.1)
 
 pub schema_fault-none : (schema : Schema) → (schema_fault schema ≡ None) ↔ (SchemaWellFormed schema × SchemaWithinWidth schema)
 schema_fault-none schema =
-    (no-relations-fault [] [] schema.relations.entries, λ h. relations-fault-none [] [] schema.relations.entries h.0 h.1)
+    (no-relations-fault [] 0 schema.relations.entries, λ h. relations-fault-none [] 0 schema.relations.entries h.0 h.1)
 
 pub ruleset laws = (query_fault-none, schema_fault-none)

@@ -18,7 +18,8 @@ use Rattle.sql_model.specs.Meets.{Meets, base_table, table_constraints}
 use Rattle.scope_core.specs.Syntax.{RSource, RQuery, Table as TableSource, View, Derived}
 use Rattle.scope_core.specs.Scope.{Known}
 use Rattle.scope_core.specs.Resolving.{resolved}
-use Rattle.scope_core.specs.Relations.{known_with, trees_with, known_relations, view_trees, known_of, views_of, tree_of}
+use Rattle.scope_core.specs.Relations.{known_with, known_relations, known_of}
+use Rattle.scope_core.specs.ViewTrees.{trees_with, view_trees, views_of, tree_of}
 use Rattle.scope_core.specs.Environments.{World, Environment}
 use Rattle.scope_core.specs.Evaluation.{rows, source_rows, world_of, view_rows, answer}
 use Rattle.scope_core.specs.WellFormed.{IsRelationWellFormed, AreWellFormed, SchemaWellFormed, WellFormed}
@@ -26,6 +27,7 @@ use Rattle.scope_core.proofs.Each.{Each-in, Each-end}
 use Rattle.scope_core.proofs.Lists.{longer, get-between, get-before}
 use Rattle.scope_core.proofs.Wide.{IsShown, Shows, known-eq, rows-wide}
 use Rattle.scope_core.proofs.SameRows.{rows-same}
+use Rattle.scope_core.proofs.ViewTrees.{trees-counted}
 use Rattle.scope_core.proofs.Resolvability.{well_formed-resolvable}
 
 Shows-end : (w : World) (rs : List ShownRelation) (ks : List Known) (r : ShownRelation) (k : Known) → Shows w rs ks → IsShown w r k → Shows w (rs ++ r ∷ []) (ks ++ k ∷ [])
@@ -103,7 +105,7 @@ module _ (n : ℕ) (reading : Reading) (db : Database) where
   next_shown shown name r = shown_relation db (named.world_of n reading shown) name r
 
   step : (shown : List ShownRelation) (known : List Known) (trees : List RQuery) (name : Name) (r : Relation) → Agree shown known trees → IsRelationWellFormed known r → IsWide db r
-      → Agree (shown ++ next_shown shown name r ∷ []) (known_with known trees name r) (trees_with known trees r)
+      → Agree (shown ++ next_shown shown name r ∷ []) (known_with known (length trees) name r) (trees_with known trees r)
   step shown known trees name (relation.Table table) a f wide = record {
     sources = Each-end (λ k. IsSource (length trees) k.source) known _ a.sources tt;
     shows = Shows-end (over (shown_by trees)) shown known _ _ a.shows (record {
@@ -124,9 +126,9 @@ module _ (n : ℕ) (reading : Reading) (db : Database) where
       let long = shown_by-long trees in
       let sources : Each (λ k. IsSource (length views) k.source) known = subst (λ c. Each (λ k. IsSource c k.source) known) (sym long) a.sources in
       record {
-        sources = subst (λ c. Each (λ k. IsSource c k.source) (known_with known trees name (relation.View query at))) (sym (longer trees tree))
+        sources = subst (λ c. Each (λ k. IsSource c k.source) (known_with known (length trees) name (relation.View query at))) (sym (longer trees tree))
             (Each-end (λ k. IsSource (suc (length trees)) k.source) known _ (Each-in _ _ (λ k s. IsSource-more (length trees) k.source s) known a.sources) (omega arith));
-        shows = subst (λ vs. Shows (over vs) (shown ++ next_shown shown name (relation.View query at) ∷ []) (known_with known trees name (relation.View query at))) (sym (view_rows-end [] trees tree))
+        shows = subst (λ vs. Shows (over vs) (shown ++ next_shown shown name (relation.View query at) ∷ []) (known_with known (length trees) name (relation.View query at))) (sym (view_rows-end [] trees tree))
             (Shows-end (over (views ++ view ∷ [])) shown known _ _ (Shows-later views view shown known sources a.shows) (record {
               name = refl;
               columns = ap (output_columns query) eq;
@@ -136,10 +138,14 @@ module _ (n : ℕ) (reading : Reading) (db : Database) where
       }
 
   pub agree : (relations : List (Name × Relation)) (shown : List ShownRelation) (known : List Known) (trees : List RQuery) → Agree shown known trees
-      → AreWellFormed known trees relations → Each (λ r. IsWide db r.1) relations
-      → Agree (shown_relations n reading db shown relations) (known_relations known trees relations) (view_trees known trees relations)
+      → AreWellFormed known (length trees) relations → Each (λ r. IsWide db r.1) relations
+      → Agree (shown_relations n reading db shown relations) (known_relations known (length trees) relations) (view_trees known trees relations)
   agree [] shown known trees a f wide = a
-  agree (r ∷ rest) shown known trees a f wide = agree rest _ _ _ (step shown known trees r.0 r.1 a f.0 wide.0) f.1 wide.1
+  agree (r ∷ rest) shown known trees a f wide =
+      let counted = trees-counted known trees r.1 in
+      let next = known_with known (length trees) r.0 r.1 in
+      subst (λ c. Agree (shown_relations n reading db shown (r ∷ rest)) (known_relations next c rest) (view_trees known trees (r ∷ rest))) counted
+      (agree rest _ _ _ (step shown known trees r.0 r.1 a f.0 wide.0) (subst (λ c. AreWellFormed next c rest) (sym counted) f.1) wide.1)
 
   -- a database that meets the schema has wide rows
   tables-wide : (relations : List (Name × Relation))

@@ -13,8 +13,7 @@ use Rattle.sql_model.specs.Frames.{ColumnName}
 use Rattle.sql_model.specs.Columns.{same_name, is_called}
 use Rattle.sql_model.specs.Headings.{Heading, columns_of, output_columns, headings, source_columns}
 use Rattle.sql_model.specs.Grouping.{is_one_group}
-use Rattle.scope_core.specs.Scope.{Known, heading, Place, is_among_places, Sight, AsRows, AsMember, AsGroup, Level, Levels, bare_place, qualified_place, place_in, place_at, rows_level, output_level, member_levels, on_level, no_entry, sight_here}
-use Rattle.scope_core.specs.Resolving.{grouping_of}
+use Rattle.scope_core.specs.Scope.{Known, heading, Place, is_among_places, Sight, AsRows, AsMember, AsGroup, Level, Levels, bare_place, qualified_place, place_in, place_at, rows_level, output_level, member_levels, on_level, no_entry, sight_here, grouping_of}
 use Rattle.scope_core.specs.Sites.{Site, AColumn, AGroupColumn, TwoWidths, group_sites, group_by_sites, sites, block_sites, entry_sites, source_sites, on_sites, items_sites, item_sites, written_sites, value_sites, values_sites, argument_sites, truth_sites, truths_sites}
 use Rattle.scope_core.specs.Faults.{is_some_and, block_meant, lacks_alias, lacks_column, is_no_key, is_group, is_in_group, is_scalar}
 use Rattle.scope_core.specs.WellFormed.{HasNoFault, IsWellFormed}

@@ -5,8 +5,7 @@ use Rattle.sql_model.specs.Syntax as n
 use Rattle.sql_model.specs.Syntax.{Name}
 use Rattle.sql_model.specs.Headings.{Heading, output_columns, headings, source_columns}
 use Rattle.sql_model.specs.Grouping.{is_one_group}
-use Rattle.scope_core.specs.Scope.{Place, is_among_places, Sight, AsRows, AsMember, AsGroup, Level, Levels, place_in, place_at, rows_level, output_level, on_level, no_entry, member_levels}
-use Rattle.scope_core.specs.Resolving.{grouping_of}
+use Rattle.scope_core.specs.Scope.{Place, is_among_places, Sight, AsRows, AsMember, AsGroup, Level, Levels, place_in, place_at, rows_level, output_level, on_level, no_entry, member_levels, grouping_of}
 use Rattle.scope_core.specs.Faults.{is_group, is_scalar}
 
 -- how many columns entry e has, where the headings begin at entry k

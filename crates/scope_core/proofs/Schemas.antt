@@ -1,7 +1,6 @@
 -- The relations of a schema as code knows them, and the two calls.
 use Rattle.std.proofs.Common.{◌≡◌, ℕ, ◌+◌, ◌≤◌, true, false, List, [], ◌∷◌, map, length, Option, Some, None, Result, Ok, Err, refl, ap, sym, subst, ◌∙◌, arith}
 use Rattle.std.specs.Prelude.{IfErr, IfOk}
-use Rattle.std.proofs.lemmas.List.{length-append}
 use Rattle.sql_model.specs.declared.schema.Schema.{Schema}
 use Rattle.sql_model.specs.declared.schema.Relation.TheVariants as relation
 use Rattle.sql_model.specs.Syntax.{Name, Query}
@@ -23,7 +22,8 @@ use Rattle.scope_core.specs.Lent.{relations_of, source_of}
 use Rattle.scope_core.specs.Literals.{QueryFits, TreeFits}
 use Rattle.scope_core.specs.Parts.{fault_within, name_twice_fault}
 use Rattle.scope_core.specs.Plain.{is_plain, is_plain_tree}
-use Rattle.scope_core.specs.Relations.{count_views, known_of, known_relation, trees_with, views_of, Resolves, tree_of}
+use Rattle.scope_core.specs.Relations.{count_views, known_of, known_relation}
+use Rattle.scope_core.specs.ViewTrees.{views_of, Resolves, tree_of}
 use Rattle.scope_core.specs.Resolving.{resolved}
 use Rattle.scope_core.specs.Scope.{Known, heading}
 use Rattle.scope_core.specs.Sites.{sites}
@@ -41,15 +41,9 @@ use Rattle.scope_core.proofs.SymbolLaws.{tree-fits}
 use Rattle.scope_core.proofs.Walks.{cause-first, cause-same, cause-second, no-fault-both}
 
 -- ---- relations
-pub view-known : (known : List Known) (trees : List RQuery) (name : Name) (query : Query) (at views : ℕ) (k : Known) → k.name ≡ name
-    → k.columns ≡ output_columns query (map heading known) → k.source ≡ s.View views → length trees ≡ views
-    → k ≡ known_relation known trees name (relation.View query at)
-view-known known trees name query at views k n c w l =
-    λ i. record { name = n i; columns = c i; source = (w ∙ ap (λ place. s.View place) (sym l)) i }
-
-pub views-counted : (known : List Known) (trees : List RQuery) (r : Relation) → length (trees_with known trees r) ≡ length trees + count_views r
-views-counted known trees (relation.Table table) = omega arith
-views-counted known trees (relation.View query at) = length-append trees (resolved query known [] ∷ [])
+pub view-known : (known : List Known) (views : ℕ) (name : Name) (query : Query) (at : ℕ) (k : Known) → k.name ≡ name
+    → k.columns ≡ output_columns query (map heading known) → k.source ≡ s.View views → k ≡ known_relation known views name (relation.View query at)
+view-known known views name query at k n c w = λ i. record { name = n i; columns = c i; source = w i }
 
 pub one-view-at-most : (r : Relation) → count_views r ≤ 1
 one-view-at-most (relation.Table table) = omega arith

@@ -10,7 +10,8 @@ use Rattle.sql_model.specs.Relations.{Relation}
 use Rattle.scope_core.specs.Syntax.{RSource, RQuery, Table, View, Derived}
 use Rattle.scope_core.specs.Scope.{Known, heading}
 use Rattle.scope_core.specs.Resolving.{resolved}
-use Rattle.scope_core.specs.Relations.{known_with, trees_with, known_relations, view_trees, known_of, views_of, tree_of}
+use Rattle.scope_core.specs.Relations.{known_with, known_relations, known_of}
+use Rattle.scope_core.specs.ViewTrees.{trees_with, view_trees, views_of, tree_of}
 use Rattle.scope_core.specs.Width.{width}
 use Rattle.scope_core.specs.Sound.{SeenBlocks, IsSound, IsSoundSource}
 use Rattle.scope_core.specs.Fitting.{HasTable, HasView, IsSoundOver, AreSoundViews}
@@ -18,6 +19,7 @@ use Rattle.scope_core.specs.WellFormed.{IsRelationWellFormed, AreWellFormed, Sch
 use Rattle.scope_core.proofs.Each.{Each-in, Each-end}
 use Rattle.scope_core.proofs.Resolvability.{well_formed-resolvable}
 use Rattle.scope_core.proofs.Soundness.{OkSources, query-sound, width-same}
+use Rattle.scope_core.proofs.ViewTrees.{trees-counted}
 
 -- ---- views
 HasView-more : (trees : List RQuery) (tree : RQuery) (place wide : ℕ) → HasView trees place wide → HasView (trees ++ tree ∷ []) place wide
@@ -65,7 +67,7 @@ module _ (all : List (Name × Relation)) where
   pub ok-sources : (known : List Known) (trees : List RQuery) → Each (λ k. IsKnownSource trees k.source (length k.columns)) known → OkSources (HasTable all) (HasView trees) known
   ok-sources known trees h = Each-in _ _ (λ k s. known-sound trees k.source (length k.columns) s) known h
 
-  step : (known : List Known) (trees : List RQuery) (name : Name) (r : Relation) → AreSound known trees → IsRelationWellFormed known r → Gives r → AreSound (known_with known trees name r) (trees_with known trees r)
+  step : (known : List Known) (trees : List RQuery) (name : Name) (r : Relation) → AreSound known trees → IsRelationWellFormed known r → Gives r → AreSound (known_with known (length trees) name r) (trees_with known trees r)
   step known trees name (relation.Table table) a f gives = record {
     views = a.views;
     sources = Each-end (λ k. IsKnownSource trees k.source (length k.columns)) known _ a.sources (subst (HasTable all table.number) (sym (length-map table.columns Some)) gives);
@@ -81,10 +83,14 @@ module _ (all : List (Name × Relation)) where
             (HasView-last trees tree (length (output_columns query (map heading known))) (width-same (HasTable all) (HasView trees) known query []));
       }
 
-  sound-all : (relations : List (Name × Relation)) (known : List Known) (trees : List RQuery) → AreSound known trees → AreWellFormed known trees relations → Each (λ r. Gives r.1) relations
-      → AreSound (known_relations known trees relations) (view_trees known trees relations)
+  sound-all : (relations : List (Name × Relation)) (known : List Known) (trees : List RQuery) → AreSound known trees → AreWellFormed known (length trees) relations → Each (λ r. Gives r.1) relations
+      → AreSound (known_relations known (length trees) relations) (view_trees known trees relations)
   sound-all [] known trees a f gives = a
-  sound-all (r ∷ rest) known trees a f gives = sound-all rest _ _ (step known trees r.0 r.1 a f.0 gives.0) f.1 gives.1
+  sound-all (r ∷ rest) known trees a f gives =
+      let counted = trees-counted known trees r.1 in
+      let next = known_with known (length trees) r.0 r.1 in
+      subst (λ c. AreSound (known_relations next c rest) (view_trees known trees (r ∷ rest))) counted
+      (sound-all rest _ _ (step known trees r.0 r.1 a f.0 gives.0) (subst (λ c. AreWellFormed next c rest) (sym counted) f.1) gives.1)
 
   gives-each : (some : List (Name × Relation)) → ((number wide : ℕ) → HasTable some number wide → HasTable all number wide) → Each (λ r. Gives r.1) some
   gives-each [] among = tt
@@ -92,7 +98,7 @@ module _ (all : List (Name × Relation)) where
       (among table.number (length table.columns) (inl (refl, refl)), gives-each rest (λ number wide h. among number wide (inr h)))
   gives-each ((name, relation.View query at) ∷ rest) among = (tt, gives-each rest (λ number wide h. among number wide (inr h)))
 
-  all-sound : AreWellFormed [] [] all → AreSound (known_relations [] [] all) (view_trees [] [] all)
+  all-sound : AreWellFormed [] 0 all → AreSound (known_relations [] 0 all) (view_trees [] [] all)
   all-sound f = sound-all all [] [] (record { views = tt; sources = tt }) f (gives-each all (λ number wide h. h))
 
 pub views-sound : (schema : Schema) → SchemaWellFormed schema → AreSoundViews schema.relations.entries [] (views_of schema)

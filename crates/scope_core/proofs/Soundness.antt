@@ -17,8 +17,8 @@ use Rattle.scope_core.specs.declared.tree.RQuery.TheVariants as q
 use Rattle.scope_core.specs.declared.tree.Grouping.TheVariants as g
 use Rattle.scope_core.specs.declared.tree.RBlock.{roll-RBlock}
 use Rattle.scope_core.specs.Syntax.{RVal, RCond, RSource, RBlock, RQuery, Grouping}
-use Rattle.scope_core.specs.Scope.{Known, heading, Sight, AsRows, AsMember, AsGroup, Level, Levels, rows_level, output_sight, member_levels, on_level, no_entry}
-use Rattle.scope_core.specs.Resolving.{group_place, group_places, grouping_of, source_named, entry_of, nothing, star, entry_columns, alias_star, conjunction, resolved_value, resolved_values, resolved_argument, only_block, conjuncts, conjuncts_of_each, resolved_conditions, conjuncts_written, resolved_having, resolved, resolved_block, resolved_entries, resolved_source, on_conjuncts, resolved_items, resolved_item}
+use Rattle.scope_core.specs.Scope.{Known, heading, Sight, AsRows, AsMember, AsGroup, Level, Levels, rows_level, output_sight, member_levels, on_level, no_entry, group_place, group_places, grouping_of}
+use Rattle.scope_core.specs.Resolving.{source_named, entry_of, nothing, star, entry_columns, alias_star, conjunction, resolved_value, resolved_values, resolved_argument, only_block, conjuncts, conjuncts_of_each, resolved_conditions, conjuncts_written, resolved_having, resolved, resolved_block, resolved_entries, resolved_source, on_conjuncts, resolved_items, resolved_item}
 use Rattle.scope_core.specs.Width.{width}
 use Rattle.scope_core.specs.Faults.{is_group, is_scalar, is_one_aggregate}
 use Rattle.scope_core.specs.Sound.{Seen, SeenRows, SeenGroup, SeenMember, SeenBlocks, output_seen, SeesGroup, SeesRows, member_seen, AreKeys, IsSound, IsSoundBlock, IsSoundScalar, IsSoundAggregate, IsSoundSource, AreSoundConditions}

@@ -1,5 +1,5 @@
 -- The literals of a resolved tree are literals of its query.
-use Rattle.std.proofs.Common.{ℕ, suc, ◌<◌, Bool, true, false, List, [], ◌∷◌, ◌++◌, map, length, Option, Some, None, option_map, unwrap_or, cond}
+use Rattle.std.proofs.Common.{ℕ, suc, ◌+◌, ◌<◌, Bool, true, false, List, [], ◌∷◌, ◌++◌, map, length, Option, Some, None, option_map, unwrap_or, cond}
 use Rattle.std.specs.Prelude.{find, if◌then◌else◌}
 use Rattle.data_model.specs.Lists.{Each}
 use Rattle.sql_model.specs.Syntax as n
@@ -17,10 +17,11 @@ use Rattle.scope_core.specs.declared.tree.RCond.TheVariants as c
 use Rattle.scope_core.specs.declared.tree.RSource.TheVariants as s
 use Rattle.scope_core.specs.declared.tree.RQuery.TheVariants as q
 use Rattle.scope_core.specs.Syntax.{RVal, RCond, RSource, RBlock, RQuery, Grouping}
-use Rattle.scope_core.specs.Scope.{Known, heading, Sight, AsRows, AsGroup, AsMember, Level, Levels, Place, place_at, column_at, column_from, rows_level, output_level, member_levels, on_level, no_entry, headings_here}
-use Rattle.scope_core.specs.Resolving.{grouping_of, source_named, entry_of, nothing, star, entry_columns, alias_star, conjunction, resolved_value, resolved_values, resolved_argument, only_block, conjuncts, conjuncts_of_each, resolved_conditions, conjuncts_written, resolved_having, resolved, resolved_block, resolved_entries, resolved_source, on_conjuncts, resolved_items, resolved_item}
+use Rattle.scope_core.specs.Scope.{Known, heading, Sight, AsRows, AsGroup, AsMember, Level, Levels, Place, place_at, column_at, column_from, rows_level, output_level, member_levels, on_level, no_entry, headings_here, grouping_of}
+use Rattle.scope_core.specs.Resolving.{source_named, entry_of, nothing, star, entry_columns, alias_star, conjunction, resolved_value, resolved_values, resolved_argument, only_block, conjuncts, conjuncts_of_each, resolved_conditions, conjuncts_written, resolved_having, resolved, resolved_block, resolved_entries, resolved_source, on_conjuncts, resolved_items, resolved_item}
 use Rattle.scope_core.specs.Literals.{QueryFits, BlockFits, EntriesFit, SourceFits, WrittenFits, ItemsFit, ItemFits, ExprFits, ExprsFit, ArgumentFits, RelationFits, SchemaFits, TreeFits, TreeBlockFits, TreeEntriesFit, TreeSourceFits, TreeConditionFits, TreeConditionsFit, TreeValueFits, TreeValuesFit}
-use Rattle.scope_core.specs.Relations.{known_with, trees_with, known_relations, view_trees, known_of, views_of, tree_of}
+use Rattle.scope_core.specs.Relations.{count_views, known_with, known_relations, known_of}
+use Rattle.scope_core.specs.ViewTrees.{trees_with, view_trees, views_of, tree_of}
 use Rattle.scope_core.specs.Compute.{everything}
 use Rattle.scope_core.proofs.Each.{Each-append, Each-end}
 
@@ -285,27 +286,27 @@ module _ (count : ℕ) where
   unfolding everything TreeFits
   fit-View place = tt
 
-  known-fit : (known : List Known) (trees : List RQuery) (name : n.Name) (r : Relation) → KnownFit known → KnownFit (known_with known trees name r)
-  known-fit known trees name (relation.Table table) h = Each-end (λ k. TreeSourceFits count k.source) known _ h (fit-Table table.number)
-  known-fit known trees name (relation.View query at) h = Each-end (λ k. TreeSourceFits count k.source) known _ h (fit-View (length trees))
+  known-fit : (known : List Known) (views : ℕ) (name : n.Name) (r : Relation) → KnownFit known → KnownFit (known_with known views name r)
+  known-fit known views name (relation.Table table) h = Each-end (λ k. TreeSourceFits count k.source) known _ h (fit-Table table.number)
+  known-fit known views name (relation.View query at) h = Each-end (λ k. TreeSourceFits count k.source) known _ h (fit-View views)
 
   trees-fit : (known : List Known) (trees : List RQuery) (r : Relation) → KnownFit known → Each (TreeFits count) trees → RelationFits count r
       → Each (TreeFits count) (trees_with known trees r)
   trees-fit known trees (relation.Table table) h ts f = ts
   trees-fit known trees (relation.View query at) h ts f = Each-end (TreeFits count) trees _ ts (query-fits known h query [] f)
 
-  all-known-fit : (known : List Known) (trees : List RQuery) (relations : List (n.Name × Relation)) → KnownFit known → KnownFit (known_relations known trees relations)
-  all-known-fit known trees [] h = h
-  all-known-fit known trees (r ∷ rest) h = all-known-fit (known_with known trees r.0 r.1) (trees_with known trees r.1) rest (known-fit known trees r.0 r.1 h)
+  all-known-fit : (known : List Known) (views : ℕ) (relations : List (n.Name × Relation)) → KnownFit known → KnownFit (known_relations known views relations)
+  all-known-fit known views [] h = h
+  all-known-fit known views (r ∷ rest) h = all-known-fit (known_with known views r.0 r.1) (views + count_views r.1) rest (known-fit known views r.0 r.1 h)
 
   all-trees-fit : (known : List Known) (trees : List RQuery) (relations : List (n.Name × Relation)) → KnownFit known → Each (TreeFits count) trees
       → Each (λ r. RelationFits count r.1) relations → Each (TreeFits count) (view_trees known trees relations)
   all-trees-fit known trees [] h ts f = ts
   all-trees-fit known trees (r ∷ rest) h ts f =
-      all-trees-fit (known_with known trees r.0 r.1) (trees_with known trees r.1) rest (known-fit known trees r.0 r.1 h) (trees-fit known trees r.1 h ts f.0) f.1
+      all-trees-fit (known_with known (length trees) r.0 r.1) (trees_with known trees r.1) rest (known-fit known (length trees) r.0 r.1 h) (trees-fit known trees r.1 h ts f.0) f.1
 
 pub tree-fits : (count : ℕ) (schema : Schema) (query : n.Query) → QueryFits count query → TreeFits count (tree_of schema query)
-tree-fits count schema query f = query-fits count (known_of schema) (all-known-fit count [] [] schema.relations.entries tt) query [] f
+tree-fits count schema query f = query-fits count (known_of schema) (all-known-fit count [] 0 schema.relations.entries tt) query [] f
 
 pub views-fit : (count : ℕ) (schema : Schema) → SchemaFits count schema → Each (TreeFits count) (views_of schema)
 views-fit count schema f = all-trees-fit count [] [] schema.relations.entries tt tt f

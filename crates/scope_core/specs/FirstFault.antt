@@ -1,5 +1,5 @@
 -- Which fault a query is refused with: the first site at which something is wrong decides, and at one site the first of the faults below.
-use Rattle.std.specs.Prelude.{ℕ, Bool, if◌then◌else◌, List, [], ◌∷◌, map, Option, Some, None}
+use Rattle.std.specs.Prelude.{ℕ, ◌+◌, Bool, if◌then◌else◌, List, [], ◌∷◌, map, Option, Some, None}
 use Rattle.std.specs.Option.{option_or}
 use Rattle.sql_model.specs.Syntax as n
 use Rattle.sql_model.specs.Syntax.{Name, Query}
@@ -11,9 +11,8 @@ use Rattle.scope_core.specs.declared.fault.ScopeCode.{ScopeCode}
 use Rattle.scope_core.specs.declared.fault.ScopeCode.TheVariants as code
 use Rattle.scope_core.specs.declared.fault.ScopeFault.{ScopeFault}
 use Rattle.scope_core.specs.declared.fault.ScopeFault.TheVariants as fault
-use Rattle.scope_core.specs.Syntax.{RQuery}
 use Rattle.scope_core.specs.Scope.{Known, heading}
-use Rattle.scope_core.specs.Relations.{known_with, trees_with, known_of}
+use Rattle.scope_core.specs.Relations.{count_views, known_with, known_of}
 use Rattle.scope_core.specs.Sites.{Site, ASource, AnAlias, AColumn, AGroupColumn, AStar, AnAliasStar, AnExpression, TwoWidths, Outputs, sites}
 use Rattle.scope_core.specs.Faults.{unknown_table, unknown_alias, unknown_column, ambiguous, alias_twice, not_truth, not_value, aggregate_here, not_grouped, outer_aggregate, subquery_in_group, width_differs, scalar_not_aggregate, name_twice, star_in_group, is_too_wide}
 
@@ -108,10 +107,10 @@ abbrev pub relation_fault : List Known → Relation → Option ScopeFault
 relation_fault known (relation.Table table) = None
 relation_fault known (relation.View query at) = option_or (first_fault (sites query known [])) (name_fault known query at)
 
-abbrev pub relations_fault : List Known → List RQuery → List (Name × Relation) → Option ScopeFault
-relations_fault known trees [] = None
-relations_fault known trees (r ∷ rest) =
-    option_or (relation_fault known r.1) (relations_fault (known_with known trees r.0 r.1) (trees_with known trees r.1) rest)
+abbrev pub relations_fault : List Known → ℕ → List (Name × Relation) → Option ScopeFault
+relations_fault known views [] = None
+relations_fault known views (r ∷ rest) =
+    option_or (relation_fault known r.1) (relations_fault (known_with known views r.0 r.1) (views + count_views r.1) rest)
 
 abbrev pub schema_fault : Schema → Option ScopeFault
-schema_fault schema = relations_fault [] [] schema.relations.entries
+schema_fault schema = relations_fault [] 0 schema.relations.entries

@@ -4,8 +4,9 @@ pub mod formers
 pub mod Written
 pub mod Syntax
 pub mod Scope
-pub mod Resolving
 pub mod Relations
+pub mod Resolving
+pub mod ViewTrees
 pub mod Environments
 pub mod Evaluation
 pub mod Width

@@ -11,8 +11,8 @@ use Rattle.scope_core.specs.declared.fault.ScopeFault.{ScopeFault}
 use Rattle.scope_core.specs.declared.fault.ScopeFault.TheVariants as fault
 use Rattle.scope_core.specs.declared.tree.REntry.{REntry}
 use Rattle.scope_core.specs.Syntax.{RVal, RCond, Grouping}
-use Rattle.scope_core.specs.Scope.{Known, Level, Levels, Place}
-use Rattle.scope_core.specs.Resolving.{conjunction, conjuncts, resolved_value, group_places, entry_of, resolved_values, conjuncts_of_each, resolved_conditions, resolved_entries, on_conjuncts, resolved_items}
+use Rattle.scope_core.specs.Scope.{Known, Level, Levels, Place, group_places}
+use Rattle.scope_core.specs.Resolving.{conjunction, conjuncts, resolved_value, entry_of, resolved_values, conjuncts_of_each, resolved_conditions, resolved_entries, on_conjuncts, resolved_items}
 use Rattle.scope_core.specs.Sites.{AGroupColumn, value_sites, values_sites, truth_sites, truths_sites, sites, block_sites, entry_sites, source_sites, on_sites, items_sites, item_sites, group_sites}
 use Rattle.scope_core.specs.FirstFault.{fault_at, first_fault}
 use Rattle.scope_core.specs.declared.tree.Grouping.TheVariants as g

@@ -1,15 +1,15 @@
 -- The resolved tree of a query: each column replaced by its place, each source by its number, stars written out, and the conjuncts of an AND
 -- taken out of the ANDs within it. It is total: on a tree that is not well formed it gives a column that is nowhere, a condition that is
 -- false or a block without rows.
-use Rattle.std.specs.Prelude.{ℕ, suc, Bool, true, false, if◌then◌else◌, List, [], ◌∷◌, ◌++◌, map, length, Option, Some, None, find, option_map, unwrap_or}
+use Rattle.std.specs.Prelude.{ℕ, suc, false, if◌then◌else◌, List, [], ◌∷◌, ◌++◌, map, length, Option, Some, None, find, option_map, unwrap_or}
 use Rattle.sql_model.specs.Syntax as n
 use Rattle.sql_model.specs.Syntax.{Name}
 use Rattle.sql_model.specs.Frames.{ColumnName}
 use Rattle.sql_model.specs.Columns.{same_name}
 use Rattle.sql_model.specs.Headings.{Heading, headings, source_columns}
 use Rattle.sql_model.specs.Grouping.{is_one_group}
-use Rattle.scope_core.specs.Syntax.{RVal, RCond, RSource, RBlock, RQuery, Grouping}
-use Rattle.scope_core.specs.Scope.{Known, heading, Place, Level, Levels, place_in, resolved_column, rows_level, output_level, member_levels, on_level, no_entry, headings_here}
+use Rattle.scope_core.specs.Syntax.{RVal, RCond, RSource, RBlock, RQuery}
+use Rattle.scope_core.specs.Scope.{Known, heading, Level, Levels, grouping_of, resolved_column, rows_level, output_level, member_levels, on_level, no_entry, headings_here}
 use Rattle.scope_core.specs.declared.tree.RVal.TheVariants as v
 use Rattle.scope_core.specs.declared.tree.RCond.TheVariants as c
 use Rattle.scope_core.specs.declared.tree.RSource.TheVariants as s
@@ -32,21 +32,6 @@ star entry (h ∷ rest) = entry_columns entry 0 h.columns ++ star (suc entry) re
 abbrev pub alias_star : Name → ℕ → List Heading → List RVal
 alias_star alias entry [] = []
 alias_star alias entry (h ∷ rest) = if same_name alias h.alias then entry_columns entry 0 h.columns else alias_star alias (suc entry) rest
-
--- ---- GROUP BY
-abbrev pub group_place : n.Expr → List Heading → Place
-group_place (n.Col qual qual_at name at) from = unwrap_or (place_in qual name 0 from) (length from, 0)
-group_place _ from = (length from, 0)
-
-abbrev pub group_places : {m : _} → n.Exprs m → List Heading → List Place
-group_places n.NoExprs from = []
-group_places (n.ExprThen expr rest) from = group_place expr from ∷ group_places rest from
-
--- over the headings of FROM; `one_group` is whether a block without GROUP BY is grouped
-abbrev pub grouping_of : n.MaybeGroupBy → Bool → List Heading → Grouping
-grouping_of n.NoGroupBy false from = g.Plain
-grouping_of n.NoGroupBy true from = g.One
-grouping_of (n.GroupBy s columns) one_group from = g.Keys (group_places columns from)
 
 -- ---- sources
 -- a block without rows

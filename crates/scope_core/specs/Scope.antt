@@ -3,11 +3,13 @@
 -- innermost block first, and there among the entries from left to right.
 use Rattle.std.specs.Prelude.{ℕ, suc, nat_eq, Bool, true, false, ◌&&◌, ◌||◌, if◌then◌else◌, List, [], ◌∷◌, ◌++◌, length, Option, Some, None, position, option_map, unwrap_or}
 use Rattle.std.specs.Option.{option_or}
+use Rattle.sql_model.specs.Syntax as n
 use Rattle.sql_model.specs.Syntax.{Name}
 use Rattle.sql_model.specs.Frames.{ColumnName}
 use Rattle.sql_model.specs.Columns.{same_name, is_called}
 use Rattle.sql_model.specs.Headings.{Heading}
 use Rattle.scope_core.specs.Syntax.{RVal, RSource, Grouping, Plain, One, Keys}
+use Rattle.scope_core.specs.declared.tree.Grouping.TheVariants as g
 use Rattle.scope_core.specs.declared.tree.RVal.TheVariants as v
 
 -- a relation that a query can name, and what a resolved tree says for it
@@ -98,6 +100,21 @@ column_from up qual name (level ∷ outer) =
 
 abbrev pub resolved_column : Option Name → Name → Levels → RVal
 resolved_column qual name levels = column_from 0 qual name levels
+
+-- ---- GROUP BY
+abbrev pub group_place : n.Expr → List Heading → Place
+group_place (n.Col qual qual_at name at) from = unwrap_or (place_in qual name 0 from) (length from, 0)
+group_place _ from = (length from, 0)
+
+abbrev pub group_places : {m : _} → n.Exprs m → List Heading → List Place
+group_places n.NoExprs from = []
+group_places (n.ExprThen expr rest) from = group_place expr from ∷ group_places rest from
+
+-- over the headings of FROM; `one_group` is whether a block without GROUP BY is grouped
+abbrev pub grouping_of : n.MaybeGroupBy → Bool → List Heading → Grouping
+grouping_of n.NoGroupBy false from = g.Plain
+grouping_of n.NoGroupBy true from = g.One
+grouping_of (n.GroupBy s columns) one_group from = g.Keys (group_places columns from)
 
 -- ---- the levels of a block
 -- in WHERE and GROUP BY

@@ -7,8 +7,7 @@ use Rattle.sql_model.specs.Syntax as n
 use Rattle.sql_model.specs.Syntax.{Name}
 use Rattle.sql_model.specs.Headings.{output_columns, item_columns, headings, source_columns}
 use Rattle.sql_model.specs.Grouping.{is_one_group}
-use Rattle.scope_core.specs.Scope.{Known, heading, Level, Levels, rows_level, output_level, member_levels, on_level, no_entry, headings_here}
-use Rattle.scope_core.specs.Resolving.{grouping_of}
+use Rattle.scope_core.specs.Scope.{Known, heading, Level, Levels, rows_level, output_level, member_levels, on_level, no_entry, headings_here, grouping_of}
 
 -- what is wanted of an expression
 pub data Wanted : Type 0 where

@@ -1,16 +1,15 @@
 -- When a query is well formed, and when a schema is: no fault is at any site.
-use Rattle.std.specs.Prelude.{false, ◌≡◌, List, [], ◌∷◌, map}
+use Rattle.std.specs.Prelude.{◌≡◌, ℕ, ◌+◌, false, List, [], ◌∷◌, map}
 use Rattle.data_model.specs.Lists.{Each}
 use Rattle.sql_model.specs.Syntax.{Name, Query}
 use Rattle.sql_model.specs.Headings.{output_columns}
 use Rattle.sql_model.specs.declared.schema.Schema.{Schema}
 use Rattle.sql_model.specs.declared.schema.Relation.TheVariants as relation
 use Rattle.sql_model.specs.Relations.{Relation}
-use Rattle.scope_core.specs.Syntax.{RQuery}
 use Rattle.scope_core.specs.Scope.{Known, heading, Levels}
 use Rattle.scope_core.specs.Sites.{Site, sites}
 use Rattle.scope_core.specs.Faults.{unknown_table, unknown_alias, unknown_column, ambiguous, alias_twice, not_truth, not_value, aggregate_here, not_grouped, outer_aggregate, subquery_in_group, width_differs, scalar_not_aggregate, name_twice, star_in_group, is_too_wide}
-use Rattle.scope_core.specs.Relations.{known_with, trees_with, known_of}
+use Rattle.scope_core.specs.Relations.{count_views, known_with, known_of}
 
 -- what has to hold at each site, in the order of the faults' numbers
 pub record HasNoFault (site : Site) : Type 0 where
@@ -42,27 +41,27 @@ abbrev pub IsRelationWellFormed : List Known → Relation → Type 0
 IsRelationWellFormed known (relation.Table table) = Unit {0}
 IsRelationWellFormed known (relation.View query at) = IsWellFormed query known [] × (name_twice (output_columns query (map heading known)) ≡ false)
 
--- these relations, after those that are known already and the trees of the views among them
-abbrev pub AreWellFormed : List Known → List RQuery → List (Name × Relation) → Type 0
-AreWellFormed known trees [] = Unit {0}
-AreWellFormed known trees (r ∷ rest) =
-    IsRelationWellFormed known r.1 × AreWellFormed (known_with known trees r.0 r.1) (trees_with known trees r.1) rest
+-- these relations, after those that are known, so many of which are views
+abbrev pub AreWellFormed : List Known → ℕ → List (Name × Relation) → Type 0
+AreWellFormed known views [] = Unit {0}
+AreWellFormed known views (r ∷ rest) =
+    IsRelationWellFormed known r.1 × AreWellFormed (known_with known views r.0 r.1) (views + count_views r.1) rest
 
 -- a schema: each view is, over the relations before it
 abbrev pub SchemaWellFormed : Schema → Type 0
-SchemaWellFormed schema = AreWellFormed [] [] schema.relations.entries
+SchemaWellFormed schema = AreWellFormed [] 0 schema.relations.entries
 
 abbrev pub IsRelationWithinWidth : List Known → Relation → Type 0
 IsRelationWithinWidth known (relation.Table table) = Unit {0}
 IsRelationWithinWidth known (relation.View query at) = IsWithinWidth query known []
 
-abbrev pub AreWithinWidth : List Known → List RQuery → List (Name × Relation) → Type 0
-AreWithinWidth known trees [] = Unit {0}
-AreWithinWidth known trees (r ∷ rest) =
-    IsRelationWithinWidth known r.1 × AreWithinWidth (known_with known trees r.0 r.1) (trees_with known trees r.1) rest
+abbrev pub AreWithinWidth : List Known → ℕ → List (Name × Relation) → Type 0
+AreWithinWidth known views [] = Unit {0}
+AreWithinWidth known views (r ∷ rest) =
+    IsRelationWithinWidth known r.1 × AreWithinWidth (known_with known views r.0 r.1) (views + count_views r.1) rest
 
 abbrev pub SchemaWithinWidth : Schema → Type 0
-SchemaWithinWidth schema = AreWithinWidth [] [] schema.relations.entries
+SchemaWithinWidth schema = AreWithinWidth [] 0 schema.relations.entries
 
 -- a query that stands by itself, over the relations of a schema
 abbrev pub WellFormed : Schema → Query → Type 0

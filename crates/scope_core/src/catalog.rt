@@ -1,11 +1,10 @@
 //! The relations of a schema as queries can name them.
-ghost use Rattle.std.specs.Prelude.{◌≡◌, ℕ, List, IfErr, IfOk, length};
+ghost use Rattle.std.specs.Prelude.{◌≡◌, ℕ, List, IfErr, IfOk};
 ghost use Rattle.sql_model.specs.declared.schema.Relation.TheVariants as relation;
 ghost use Rattle.scope_core.specs.declared.fault.ScopeFault.TheVariants as fault;
 ghost use Rattle.scope_core.specs.Lent.{relation_of, relations_of};
 ghost use Rattle.scope_core.specs.Relations.{count_views, known_of, known_relation};
 ghost use Rattle.scope_core.specs.Scope.{Known as TheKnown};
-ghost use Rattle.scope_core.specs.Syntax.{RQuery as Tree};
 
 use crate::fault::{ScopeFault, number};
 use crate::heading::{Known, Stored};
@@ -38,8 +37,7 @@ fn known_relation<'a>(
     known: &[Known<'a>],
     views: usize,
 ) -> Result<Known<'a>, ScopeFault>
-    ensures value { IfOk result (λ k. (trees : List Tree) → length trees ≡ views →
-        relation_of k ≡ known_relation (relations_of known.now) trees name.now relation.now) }
+    ensures value { IfOk result (λ k. relation_of k ≡ known_relation (relations_of known.now) views name.now relation.now) }
     ensures err { IfErr result (λ f. f ≡ fault.NoMemory) }
 {
     match relation {
@@ -64,8 +62,8 @@ pub fn known_table<'a>(
     name: &'a Name,
     table: &'a Table,
 ) -> Result<Known<'a>, ScopeFault>
-    ensures value { IfOk result (λ k. (known : List TheKnown) (trees : List Tree) →
-        relation_of k ≡ known_relation known trees name.now (relation.Table table.now)) }
+    ensures value { IfOk result (λ k. (known : List TheKnown) (views : ℕ) →
+        relation_of k ≡ known_relation known views name.now (relation.Table table.now)) }
     ensures err { IfErr result (λ f. f ≡ fault.NoMemory) }
 {
     Ok(Known {
@@ -86,8 +84,8 @@ pub fn known_view<'a>(
     known: &[Known<'a>],
     views: usize,
 ) -> Result<Known<'a>, ScopeFault>
-    ensures value { IfOk result (λ k. (trees : List Tree) (at : ℕ) → length trees ≡ views →
-        relation_of k ≡ known_relation (relations_of known.now) trees name.now (relation.View query.now at)) }
+    ensures value { IfOk result (λ k. (at : ℕ) →
+        relation_of k ≡ known_relation (relations_of known.now) views name.now (relation.View query.now at)) }
     ensures err { IfErr result (λ f. f ≡ fault.NoMemory) }
 {
     let place = number(views)?;

@@ -3,8 +3,8 @@ ghost use Rattle.std.specs.Prelude.{◌≡◌, ◌∷◌, IfErr, IfOk};
 ghost use Rattle.scope_core.specs.Answer.{IsCause};
 ghost use Rattle.scope_core.specs.Lent.{levels_of, sight_of};
 ghost use Rattle.scope_core.specs.Parts.{columns_fault, group_by_fault, group_fault, grouping_listed, places_listed};
-ghost use Rattle.scope_core.specs.Resolving.{conjunction, group_place};
-ghost use Rattle.scope_core.specs.Scope.{output_sight, rows_level};
+ghost use Rattle.scope_core.specs.Resolving.{conjunction};
+ghost use Rattle.scope_core.specs.Scope.{output_sight, rows_level, group_place};
 
 use crate::column::resolve_own_column;
 use crate::fault::{ScopeCode, ScopeFault, refused};

@@ -12,7 +12,8 @@ ghost use Rattle.scope_core.specs.Lent.{relations_of};
 ghost use Rattle.scope_core.specs.Literals.{QueryFits, SchemaFits, TreeFits};
 ghost use Rattle.scope_core.specs.Parts.{fault_within, name_twice_fault};
 ghost use Rattle.scope_core.specs.Plain.{is_plain, is_plain_tree};
-ghost use Rattle.scope_core.specs.Relations.{Resolves, known_of, known_with, trees_with, views_of};
+ghost use Rattle.scope_core.specs.Relations.{known_of, known_with};
+ghost use Rattle.scope_core.specs.ViewTrees.{Resolves, trees_with, views_of};
 ghost use Rattle.scope_core.specs.Resolving.{resolved};
 ghost use Rattle.scope_core.specs.Scope.{heading};
 ghost use Rattle.scope_core.specs.WellFormed.{SchemaWellFormed, SchemaWithinWidth, WellFormed, WithinWidth};
@@ -99,7 +100,7 @@ fn add_relation<'a>(
     relation: &'a Relation,
 ) -> Result<(), ScopeFault>
     ensures fine { OnOk result (relation_fault (relations_of known.old.items) relation.now ≡ None) }
-    ensures known { OnOk result (relations_of known.new.items ≡ known_with (relations_of known.old.items) trees.old.items name.now relation.now) }
+    ensures known { OnOk result (relations_of known.new.items ≡ known_with (relations_of known.old.items) (length trees.old.items) name.now relation.now) }
     ensures trees { OnOk result (trees.new.items ≡ trees_with (relations_of known.old.items) trees.old.items relation.now) }
     ensures err { IfErr result (λ f. IsCause f (relation_fault (relations_of known.old.items) relation.now)) }
 {

@@ -4,7 +4,7 @@ use Rattle.sql_model.specs.declared.schema.Schema.{Schema}
 use Rattle.sql_model.specs.Syntax.{Query}
 use Rattle.u_terms.specs.Names.{IsFreeBelow}
 use Rattle.scope_core.specs.Fitting.{DoViewsFit, FitsViews}
-use Rattle.scope_core.specs.Relations.{tree_of, views_of}
+use Rattle.scope_core.specs.ViewTrees.{tree_of, views_of}
 use Rattle.scope_core.specs.WellFormed.{SchemaWellFormed, WellFormed}
 use Rattle.scope_core.specs.Width.{width}
 use Rattle.scope_core.proofs.FittingTrees.{fits-views, views-fit}

@@ -17,7 +17,7 @@ use Rattle.scope_core.specs.Syntax.{RQuery}
 use Rattle.scope_core.specs.Width.{width}
 use Rattle.scope_core.specs.Evaluation.{rows, world_of, view_rows, answer}
 use Rattle.scope_core.specs.Fitting.{HasTable, HasView, IsSoundOver, AreSoundViews}
-use Rattle.scope_core.specs.Relations.{views_of, tree_of}
+use Rattle.scope_core.specs.ViewTrees.{views_of, tree_of}
 use Rattle.scope_core.specs.WellFormed.{SchemaWellFormed, WellFormed}
 use Rattle.scope_core.proofs.Lists.{longer, get-between, get-before}
 use Rattle.scope_core.proofs.Relations.{answer-resolved}

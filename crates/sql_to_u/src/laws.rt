@@ -13,7 +13,7 @@ ghost use Rattle.u_terms.specs.Meaning.{meaning};
 ghost use Rattle.scope_core.specs.Syntax.{RQuery};
 ghost use Rattle.scope_core.specs.Evaluation.{answer as resolved_answer};
 ghost use Rattle.scope_core.specs.Fitting.{AreSoundViews, DoViewsFit, FitsViews, IsSoundOver};
-ghost use Rattle.scope_core.specs.Relations.{tree_of, views_of};
+ghost use Rattle.scope_core.specs.ViewTrees.{tree_of, views_of};
 ghost use Rattle.scope_core.specs.WellFormed.{SchemaWellFormed, WellFormed};
 ghost use Rattle.scope_core.specs.Width.{width};
 ghost use Rattle.sql_to_u.specs.Answer.{translation};

@@ -15,7 +15,7 @@ use Rattle.sql_model.specs.Relations.{answer}
 use Rattle.sql_model.specs.Meets.{Meets}
 use Rattle.sql_model.specs.Equivalent.{Equivalent}
 use Rattle.u_terms.specs.Meaning.{meaning}
-use Rattle.scope_core.specs.Relations.{tree_of, views_of}
+use Rattle.scope_core.specs.ViewTrees.{tree_of, views_of}
 use Rattle.scope_core.specs.WellFormed.{SchemaWellFormed, WellFormed}
 use Rattle.scope_core.specs.Width.{width}
 use Rattle.scope_core.proofs.AnswersFit.{rows-are-wide}

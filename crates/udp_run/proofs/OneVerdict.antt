@@ -8,7 +8,8 @@ use Rattle.sql_model.specs.declared.schema.Schema.{Schema}
 use Rattle.sql_model.specs.Meets.{base_table}
 use Rattle.schema_read.specs.SchemaFacts.{by_numbers}
 use Rattle.scope_core.specs.Resolving.{resolved}
-use Rattle.scope_core.specs.Relations.{known_relations, view_trees}
+use Rattle.scope_core.specs.Relations.{known_relations}
+use Rattle.scope_core.specs.ViewTrees.{view_trees}
 use Rattle.sql_to_u.specs.declared.fault.TermFault.{TermFault}
 use Rattle.sql_to_u.specs.declared.fault.TermFault.TheVariants as no_term
 use Rattle.sql_to_u.specs.Answer.{translation}
@@ -45,8 +46,8 @@ claim_over relations fkeys w = record {
     fkeys = map by_numbers fkeys;
   };
   outs = width_over relations w.left;
-  left = translation (view_trees [] [] relations) (resolved w.left (known_relations [] [] relations) []);
-  right = translation (view_trees [] [] relations) (resolved w.right (known_relations [] [] relations) []);
+  left = translation (view_trees [] [] relations) (resolved w.left (known_relations [] 0 relations) []);
+  right = translation (view_trees [] [] relations) (resolved w.right (known_relations [] 0 relations) []);
 }
 
 abbrev size_of : Claim → Option TermFault

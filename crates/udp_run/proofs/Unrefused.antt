@@ -167,11 +167,11 @@ Relations = List (Name × Relation)
 
 abbrev pub scope_fault_over : Relations → CaseText → Option ScopeFault
 scope_fault_over relations w =
-    option_or (relations_fault [] [] relations)
-    (option_or (first_fault (sites w.left (known_relations [] [] relations) [])) (first_fault (sites w.right (known_relations [] [] relations) [])))
+    option_or (relations_fault [] 0 relations)
+    (option_or (first_fault (sites w.left (known_relations [] 0 relations) [])) (first_fault (sites w.right (known_relations [] 0 relations) [])))
 
 abbrev pub width_over : Relations → Query → ℕ
-width_over relations query = length (output_columns query (map_list heading (known_relations [] [] relations)))
+width_over relations query = length (output_columns query (map_list heading (known_relations [] 0 relations)))
 
 none-some : {A : Type 0} (x : A) → None ≡ Some x → ⊥
 none-some x e = cc

@@ -9,8 +9,7 @@ use Rattle.sql_model.specs.Grouping.{is_one_group}
 use Rattle.sql_model.specs.Headings.{Heading, block_columns, headings, item_columns, items_columns, output_columns}
 use Rattle.scope_core.specs.Faults.{is_too_wide, most_outputs}
 use Rattle.scope_core.specs.Relations.{known_of}
-use Rattle.scope_core.specs.Resolving.{grouping_of}
-use Rattle.scope_core.specs.Scope.{Known, Levels, heading, headings_here, no_entry, output_level, rows_level}
+use Rattle.scope_core.specs.Scope.{Known, Levels, grouping_of, heading, headings_here, no_entry, output_level, rows_level}
 use Rattle.scope_core.specs.Sites.{Outputs, Site, TwoWidths, block_sites, entry_sites, group_by_sites, item_sites, items_sites, on_sites, sites, written_sites}
 use Rattle.scope_core.proofs.Each.{Each-left, Each-right}
 use Rattle.scope_core.specs.WellFormed.{IsWithinWidth, WithinWidth}

@@ -4,7 +4,7 @@ use Rattle.std.specs.Option.{option_or}
 use Rattle.sql_model.specs.declared.schema.Schema.{Schema}
 use Rattle.sql_model.specs.Syntax.{Query}
 use Rattle.sql_grammar.specs.Numbering.{Numbers}
-use Rattle.scope_core.specs.Relations.{tree_of, views_of}
+use Rattle.scope_core.specs.ViewTrees.{tree_of, views_of}
 use Rattle.u_terms.specs.declared.term.U.{U}
 use Rattle.sql_to_u.specs.declared.fault.TermFault.{TermFault}
 use Rattle.sql_to_u.specs.Answer.{translation}

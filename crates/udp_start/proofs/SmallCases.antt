@@ -1,5 +1,5 @@
 -- What is answered on cases of two filtered unions.
-use Rattle.std.proofs.Common.{◌≡◌, ℕ, ◌≤◌, Bool, List, [], ◌∷◌, Option, Some, None, length, map, refl, sym, ap, ◌∙◌, subst, inl, inr, arith}
+use Rattle.std.proofs.Common.{◌≡◌, ℕ, ◌+◌, ◌≤◌, Bool, List, [], ◌∷◌, Option, Some, None, length, map, refl, sym, ap, ◌∙◌, subst, inl, inr, arith}
 use Rattle.std.specs.Prelude.{◌⊎◌, IfSome, String, filter_map}
 use Rattle.std.specs.declared.alloc.Global.{Global}
 use Rattle.std.specs.Option.{option_or}
@@ -10,11 +10,12 @@ use Rattle.sql_model.specs.Relations.{Relation}
 use Rattle.sql_model.specs.Syntax.{Name, Query}
 use Rattle.sql_model.specs.declared.schema.Relation.TheVariants as relation
 use Rattle.sql_model.specs.declared.schema.Schema.{Schema}
-use Rattle.scope_core.specs.Relations.{known_of, known_relation, known_relations, known_with, tree_of, trees_with, view_trees, views_of}
+use Rattle.scope_core.specs.Relations.{count_views, known_of, known_relation, known_relations, known_with}
+use Rattle.scope_core.specs.ViewTrees.{tree_of, view_trees, views_of}
 use Rattle.scope_core.specs.Resolving.{resolved}
 use Rattle.scope_core.specs.Scope.{Known}
 use Rattle.scope_core.specs.Sound.{IsSound, IsSoundAlone, IsSoundSource, SeenBlocks}
-use Rattle.scope_core.specs.Syntax.{RQuery, RSource, Table, View, Derived}
+use Rattle.scope_core.specs.Syntax.{RSource, Table, View, Derived}
 use Rattle.scope_core.specs.WellFormed.{WellFormed}
 use Rattle.scope_core.specs.Width.{width}
 use Rattle.scope_core.proofs.Each.{Each-in, Each-end}
@@ -65,21 +66,21 @@ named-sound (Table number) wide seen named = tt
 named-sound (View place) wide seen named = tt
 named-sound (Derived query) wide seen named = absurd named
 
-relation-named : (known : List Known) (trees : List RQuery) (name : Name) (r : Relation) → IsNamed (known_relation known trees name r).source
-relation-named known trees name (relation.Table table) = tt
-relation-named known trees name (relation.View query at) = tt
+relation-named : (known : List Known) (views : ℕ) (name : Name) (r : Relation) → IsNamed (known_relation known views name r).source
+relation-named known views name (relation.Table table) = tt
+relation-named known views name (relation.View query at) = tt
 
-all-named : (relations : List (Name × Relation)) (known : List Known) (trees : List RQuery) → Each (λ k. IsNamed k.source) known
-    → Each (λ k. IsNamed k.source) (known_relations known trees relations)
-all-named [] known trees named = named
-all-named (r ∷ rest) known trees named =
-    all-named rest (known_with known trees r.0 r.1) (trees_with known trees r.1)
-    (Each-end (λ k. IsNamed k.source) known (known_relation known trees r.0 r.1) named (relation-named known trees r.0 r.1))
+all-named : (relations : List (Name × Relation)) (known : List Known) (views : ℕ) → Each (λ k. IsNamed k.source) known
+    → Each (λ k. IsNamed k.source) (known_relations known views relations)
+all-named [] known views named = named
+all-named (r ∷ rest) known views named =
+    all-named rest (known_with known views r.0 r.1) (views + count_views r.1)
+    (Each-end (λ k. IsNamed k.source) known (known_relation known views r.0 r.1) named (relation-named known views r.0 r.1))
 
 query-alone : (schema : Schema) (query : Query) → WellFormed schema query → IsSoundAlone (tree_of schema query)
 query-alone schema query fine =
     query-sound (λ number wide. Unit {0}) (λ place wide. Unit {0}) (known_of schema)
-    (Each-in _ _ (λ k named seen. named-sound k.source (length k.columns) seen named) (known_of schema) (all-named schema.relations.entries [] [] tt))
+    (Each-in _ _ (λ k named seen. named-sound k.source (length k.columns) seen named) (known_of schema) (all-named schema.relations.entries [] 0 tt))
     query [] [] (well_formed-resolvable query (known_of schema) fine) tt
 
 -- ---- the claim
@@ -92,8 +93,8 @@ claim_over relations fkeys w = record {
     fkeys = map by_numbers fkeys;
   };
   outs = width_over relations w.left;
-  left = translation (view_trees [] [] relations) (resolved w.left (known_relations [] [] relations) []);
-  right = translation (view_trees [] [] relations) (resolved w.right (known_relations [] [] relations) []);
+  left = translation (view_trees [] [] relations) (resolved w.left (known_relations [] 0 relations) []);
+  right = translation (view_trees [] [] relations) (resolved w.right (known_relations [] 0 relations) []);
 }
 
 -- and a text spells one case

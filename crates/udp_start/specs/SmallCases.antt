@@ -1,7 +1,7 @@
 -- Cases of two filtered unions, and what is promised of small ones that are alike.
 use Rattle.std.specs.Prelude.{◌≡◌, ℕ, ◌⊎◌, List, Option, IsSomeAnd}
 use Rattle.sql_model.specs.declared.schema.Schema.{Schema}
-use Rattle.scope_core.specs.Relations.{tree_of}
+use Rattle.scope_core.specs.ViewTrees.{tree_of}
 use Rattle.block_shapes.specs.Classes.{Alike, FilteredUnion, Small}
 use Rattle.case_core.specs.declared.text.CaseText.{CaseText}
 use Rattle.u_prover.specs.Proving.{IsEnough}

@@ -9,7 +9,8 @@ use Rattle.scope_core.specs.declared.tree.RQuery.TheVariants as query
 use Rattle.scope_core.specs.declared.tree.REntry.{REntry, roll-REntry}
 use Rattle.scope_core.specs.Syntax.{RQuery, Col}
 use Rattle.scope_core.specs.Resolving.{resolved}
-use Rattle.scope_core.specs.Relations.{known_relations, view_trees}
+use Rattle.scope_core.specs.Relations.{known_relations}
+use Rattle.scope_core.specs.ViewTrees.{view_trees}
 use Rattle.scope_core.specs.Evaluation.{answer}
 use Rattle.scope_core.specs.FirstFault.{relations_fault}
 use Rattle.scope_core.specs.Compute.{resolving}
@@ -35,13 +36,13 @@ a_view_sees_those_before_it = refl
 -- SELECT a FROM y
 abbrev over_views : RQuery
 unfolding resolving
-over_views = resolved (select (only (bare a)) (from y y ∷ [])) (known_relations [] [] relations) []
+over_views = resolved (select (only (bare a)) (from y y ∷ [])) (known_relations [] 0 relations) []
 
 a_view_shows_its_query : answer 4 reading db (view_trees [] [] relations) over_views
     ≡ (1 ∷ []) ∷ (2 ∷ []) ∷ (1 ∷ []) ∷ (0 ∷ []) ∷ (0 ∷ []) ∷ (1 ∷ []) ∷ []
 unfolding resolving
 a_view_shows_its_query = refl
 
-they_have_no_fault : relations_fault [] [] relations ≡ None
+they_have_no_fault : relations_fault [] 0 relations ≡ None
 unfolding resolving
 they_have_no_fault = refl

@@ -2,8 +2,7 @@ use Rattle.std.proofs.Common.{◌++◌, ◌∷◌, [], ap, sym, ◌∙◌}
 use Rattle.scope_core.specs.Lent.{levels_of}
 use Rattle.scope_core.specs.Answer.{IsCause}
 use Rattle.scope_core.specs.Parts.{columns_fault, places_listed}
-use Rattle.scope_core.specs.Resolving.{group_place}
-use Rattle.scope_core.specs.Scope.{rows_level}
+use Rattle.scope_core.specs.Scope.{rows_level, group_place}
 use Rattle.scope_core.proofs.Lists.{walk-step, walk-end}
 use Rattle.scope_core.proofs.Walks.{fault-step, fault-here, handed_on}
 use Rattle.scope_core.proofs.Groups.{columns-drop, columns-past, places-cons, places-nil}

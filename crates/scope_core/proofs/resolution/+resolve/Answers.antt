@@ -17,10 +17,10 @@ use Rattle.scope_core.proofs.Walks.{cause-first, cause-same, cause-second, fault
 use Rattle.scope_core.proofs.Values.{values-drop, values-past, trees-cons, trees-nil}
 use Rattle.scope_core.proofs.Conditions.{truths-drop, truths-past, conditions-cons, conditions-nil, conjuncts-cons, conjuncts-nil, conjuncts-single}
 use Rattle.scope_core.proofs.resolution.+resolve.Goals as goal
-use Rattle.scope_core.proofs.resolution.+resolve.Goals.{add_on_conditions-then-not-entry, add_on_conditions-else-not-entry}
+use Rattle.scope_core.proofs.resolution.+resolve.Goals.{blocks::add_on_conditions-then-not-entry, blocks::add_on_conditions-else-not-entry}
 
-pub resolve_values-returns-in_err-value-clause-err : goal.resolve_values-returns-in_err-value-clause-err
-resolve_values-returns-in_err-value-clause-err t c =
+pub values::resolve_values-returns-in_err-value-clause-err : goal.values::resolve_values-returns-in_err-value-clause-err
+values::resolve_values-returns-in_err-value-clause-err t c =
     let K = relations_of c.args.known.now in
     let L = levels_of c.args.levels.now in
     let xs = c.args.exprs.now in
@@ -29,8 +29,8 @@ resolve_values-returns-in_err-value-clause-err t c =
     handed_on c.from_residual-in_err-value.result c.in_err-value.field-0.0 (λ f. IsCause f (values_fault K L xs)) c.from_residual-in_err-value.ensures.1
     (fault-here (values_fault K L) xs i _ c.in_err-value.field-0.0 _ next c.in_err-value.ensures.err c.loop-expr.invariant.0)
 
-pub resolve_values-loop-expr-preserved : goal.resolve_values-loop-expr-preserved
-resolve_values-loop-expr-preserved t c =
+pub values::resolve_values-loop-expr-preserved : goal.values::resolve_values-loop-expr-preserved
+values::resolve_values-loop-expr-preserved t c =
     let K = relations_of c.args.known.now in
     let L = levels_of c.args.levels.now in
     let xs = c.args.exprs.now in
@@ -41,24 +41,24 @@ resolve_values-loop-expr-preserved t c =
           (c.in_ok-push.ensures.items ∙ ap (λ p. c.loop-expr.values.items ++ p ∷ []) c.in_ok-value.ensures.value) c.loop-expr.invariant.1,
     )
 
-pub resolve_values-returns-clause-fine : goal.resolve_values-returns-clause-fine
-resolve_values-returns-clause-fine t c =
+pub values::resolve_values-returns-clause-fine : goal.values::resolve_values-returns-clause-fine
+values::resolve_values-returns-clause-fine t c =
     let K = relations_of c.args.known.now in
     let L = levels_of c.args.levels.now in
     let xs = c.args.exprs.now in
     let i = c.loop-expr.expr-index in
     sym c.loop-expr.invariant.0 ∙ values-past K L xs i c.loop-expr-test.false
 
-pub resolve_values-returns-clause-value : goal.resolve_values-returns-clause-value
-resolve_values-returns-clause-value t c =
+pub values::resolve_values-returns-clause-value : goal.values::resolve_values-returns-clause-value
+values::resolve_values-returns-clause-value t c =
     let K = relations_of c.args.known.now in
     let L = levels_of c.args.levels.now in
     let xs = c.args.exprs.now in
     let i = c.loop-expr.expr-index in
     c.from_vec.ensures ∙ walk-end (values_listed K L) xs i _ _ c.loop-expr-test.false (trees-nil K L tt) c.loop-expr.invariant.1
 
-pub resolve_conditions-returns-in_err-condition-clause-err : goal.resolve_conditions-returns-in_err-condition-clause-err
-resolve_conditions-returns-in_err-condition-clause-err t c =
+pub conditions::resolve_conditions-returns-in_err-condition-clause-err : goal.conditions::resolve_conditions-returns-in_err-condition-clause-err
+conditions::resolve_conditions-returns-in_err-condition-clause-err t c =
     let K = relations_of c.args.known.now in
     let L = levels_of c.args.levels.now in
     let xs = c.args.parts.now in
@@ -67,8 +67,8 @@ resolve_conditions-returns-in_err-condition-clause-err t c =
     handed_on c.from_residual-in_err-condition.result c.in_err-condition.field-0.0 (λ f. IsCause f (truths_fault K L xs)) c.from_residual-in_err-condition.ensures.1
     (fault-here (truths_fault K L) xs i _ c.in_err-condition.field-0.0 _ next c.in_err-condition.ensures.err c.loop-part.invariant.0)
 
-pub resolve_conditions-loop-part-preserved : goal.resolve_conditions-loop-part-preserved
-resolve_conditions-loop-part-preserved t c =
+pub conditions::resolve_conditions-loop-part-preserved : goal.conditions::resolve_conditions-loop-part-preserved
+conditions::resolve_conditions-loop-part-preserved t c =
     let K = relations_of c.args.known.now in
     let L = levels_of c.args.levels.now in
     let xs = c.args.parts.now in
@@ -79,24 +79,24 @@ resolve_conditions-loop-part-preserved t c =
           (c.in_ok-push.ensures.items ∙ ap (λ p. c.loop-part.conditions.items ++ p ∷ []) c.in_ok-condition.ensures.value) c.loop-part.invariant.1,
     )
 
-pub resolve_conditions-returns-clause-fine : goal.resolve_conditions-returns-clause-fine
-resolve_conditions-returns-clause-fine t c =
+pub conditions::resolve_conditions-returns-clause-fine : goal.conditions::resolve_conditions-returns-clause-fine
+conditions::resolve_conditions-returns-clause-fine t c =
     let K = relations_of c.args.known.now in
     let L = levels_of c.args.levels.now in
     let xs = c.args.parts.now in
     let i = c.loop-part.part-index in
     sym c.loop-part.invariant.0 ∙ truths-past K L xs i c.loop-part-test.false
 
-pub resolve_conditions-returns-clause-value : goal.resolve_conditions-returns-clause-value
-resolve_conditions-returns-clause-value t c =
+pub conditions::resolve_conditions-returns-clause-value : goal.conditions::resolve_conditions-returns-clause-value
+conditions::resolve_conditions-returns-clause-value t c =
     let K = relations_of c.args.known.now in
     let L = levels_of c.args.levels.now in
     let xs = c.args.parts.now in
     let i = c.loop-part.part-index in
     c.from_vec.ensures ∙ walk-end (conditions_listed K L) xs i _ _ c.loop-part-test.false (conditions-nil K L tt) c.loop-part.invariant.1
 
-pub add_conjuncts_of_each-returns-in_err-add_conjuncts-clause-err : goal.add_conjuncts_of_each-returns-in_err-add_conjuncts-clause-err
-add_conjuncts_of_each-returns-in_err-add_conjuncts-clause-err t c =
+pub conditions::add_conjuncts_of_each-returns-in_err-add_conjuncts-clause-err : goal.conditions::add_conjuncts_of_each-returns-in_err-add_conjuncts-clause-err
+conditions::add_conjuncts_of_each-returns-in_err-add_conjuncts-clause-err t c =
     let K = relations_of c.args.known.now in
     let L = levels_of c.args.levels.now in
     let xs = c.args.parts.now in
@@ -105,8 +105,8 @@ add_conjuncts_of_each-returns-in_err-add_conjuncts-clause-err t c =
     handed_on c.from_residual.result c.in_err-add_conjuncts.field-0.0 (λ f. IsCause f (truths_fault K L xs)) c.from_residual.ensures.1
     (fault-here (truths_fault K L) xs i _ c.in_err-add_conjuncts.field-0.0 _ next c.in_err-add_conjuncts.ensures.err c.loop-part.invariant.0)
 
-pub add_conjuncts_of_each-loop-part-preserved : goal.add_conjuncts_of_each-loop-part-preserved
-add_conjuncts_of_each-loop-part-preserved t c =
+pub conditions::add_conjuncts_of_each-loop-part-preserved : goal.conditions::add_conjuncts_of_each-loop-part-preserved
+conditions::add_conjuncts_of_each-loop-part-preserved t c =
     let K = relations_of c.args.known.now in
     let L = levels_of c.args.levels.now in
     let xs = c.args.parts.now in
@@ -117,32 +117,32 @@ add_conjuncts_of_each-loop-part-preserved t c =
           (c.in_ok-add_conjuncts.ensures.value) c.loop-part.invariant.1,
     )
 
-pub add_conjuncts_of_each-returns-clause-fine : goal.add_conjuncts_of_each-returns-clause-fine
-add_conjuncts_of_each-returns-clause-fine t c =
+pub conditions::add_conjuncts_of_each-returns-clause-fine : goal.conditions::add_conjuncts_of_each-returns-clause-fine
+conditions::add_conjuncts_of_each-returns-clause-fine t c =
     let K = relations_of c.args.known.now in
     let L = levels_of c.args.levels.now in
     let xs = c.args.parts.now in
     let i = c.loop-part.part-index in
     sym c.loop-part.invariant.0 ∙ truths-past K L xs i c.loop-part-test.false
 
-pub add_conjuncts_of_each-returns-clause-value : goal.add_conjuncts_of_each-returns-clause-value
-add_conjuncts_of_each-returns-clause-value t c =
+pub conditions::add_conjuncts_of_each-returns-clause-value : goal.conditions::add_conjuncts_of_each-returns-clause-value
+conditions::add_conjuncts_of_each-returns-clause-value t c =
     let K = relations_of c.args.known.now in
     let L = levels_of c.args.levels.now in
     let xs = c.args.parts.now in
     let i = c.loop-part.part-index in
     walk-end (conjuncts_listed K L) xs i _ _ c.loop-part-test.false (conjuncts-nil K L tt) c.loop-part.invariant.1
 
-pub add_conjuncts-returns-in_ok-push-in-None-clause-value : goal.add_conjuncts-returns-in_ok-push-in-None-clause-value
-add_conjuncts-returns-in_ok-push-in-None-clause-value t c =
+pub conditions::add_conjuncts-returns-in_ok-push-in-None-clause-value : goal.conditions::add_conjuncts-returns-in_ok-push-in-None-clause-value
+conditions::add_conjuncts-returns-in_ok-push-in-None-clause-value t c =
     let K = relations_of c.args.known.now in
     let L = levels_of c.args.levels.now in
     c.in_ok-push-in-None.ensures.items
     ∙ ap (λ x. c.args.conditions.now.items ++ x)
     (ap (λ y. y ∷ []) c.in_ok-condition-in-None.ensures.value ∙ sym (conjuncts-single K L c.args.expr.now c.in-None.ensures.single))
 
-pub resolve_entries-returns-in_err-source-clause-err : goal.resolve_entries-returns-in_err-source-clause-err
-resolve_entries-returns-in_err-source-clause-err t c =
+pub blocks::resolve_entries-returns-in_err-source-clause-err : goal.blocks::resolve_entries-returns-in_err-source-clause-err
+blocks::resolve_entries-returns-in_err-source-clause-err t c =
     let K = relations_of c.args.known.now in
     let L = levels_of c.args.levels.now in
     let xs = c.args.entries.now in
@@ -153,8 +153,8 @@ resolve_entries-returns-in_err-source-clause-err t c =
     handed_on c.from_residual-in_err-source.result c.in_err-source.field-0.0 (λ f. IsCause f (entries_fault K L [] xs)) c.from_residual-in_err-source.ensures.1
     (cause-first c.in_err-source.field-0.0 (entries_fault K L [] xs) _ _ (sym c.loop-entry.invariant.0 ∙ eq) c.in_err-source.ensures.err)
 
-pub resolve_entries-returns-in_err-check_alias-clause-err : goal.resolve_entries-returns-in_err-check_alias-clause-err
-resolve_entries-returns-in_err-check_alias-clause-err t c =
+pub blocks::resolve_entries-returns-in_err-check_alias-clause-err : goal.blocks::resolve_entries-returns-in_err-check_alias-clause-err
+blocks::resolve_entries-returns-in_err-check_alias-clause-err t c =
     let K = relations_of c.args.known.now in
     let L = levels_of c.args.levels.now in
     let xs = c.args.entries.now in
@@ -168,8 +168,8 @@ resolve_entries-returns-in_err-check_alias-clause-err t c =
     (cause-second f (entries_fault K L [] xs) _ _ (sym c.loop-entry.invariant.0 ∙ eq) c.in_ok-source.ensures.fine
     (cause-first f _ _ _ refl (subst P c.as_slice.ensures.value c.in_err-check_alias.ensures.err)))
 
-pub resolve_entries-loop-entry-preserved : goal.resolve_entries-loop-entry-preserved
-resolve_entries-loop-entry-preserved t c =
+pub blocks::resolve_entries-loop-entry-preserved : goal.blocks::resolve_entries-loop-entry-preserved
+blocks::resolve_entries-loop-entry-preserved t c =
     let K = relations_of c.args.known.now in
     let L = levels_of c.args.levels.now in
     let xs = c.args.entries.now in
@@ -200,28 +200,28 @@ resolve_entries-loop-entry-preserved t c =
           ∙ ap (λ h. hs ++ h ∷ []) (c.new.ensures ∙ ap (λ cs. record { alias = e.alias; columns = cs }) c.in_ok-source.ensures.columns)) c.loop-entry.invariant.2,
     )
 
-pub resolve_entries-returns-clause-fine : goal.resolve_entries-returns-clause-fine
-resolve_entries-returns-clause-fine t c =
+pub blocks::resolve_entries-returns-clause-fine : goal.blocks::resolve_entries-returns-clause-fine
+blocks::resolve_entries-returns-clause-fine t c =
     let K = relations_of c.args.known.now in
     let L = levels_of c.args.levels.now in
     let before = map (λ h. h.alias) c.loop-entry.headings.items in
     sym c.loop-entry.invariant.0
     ∙ (at-end (entries_fault K L before) c.args.entries.now c.loop-entry.entry-index c.loop-entry-test.false ∙ entries_fault-nil K L before)
 
-pub resolve_entries-returns-clause-value : goal.resolve_entries-returns-clause-value
-resolve_entries-returns-clause-value t c =
+pub blocks::resolve_entries-returns-clause-value : goal.blocks::resolve_entries-returns-clause-value
+blocks::resolve_entries-returns-clause-value t c =
     let K = relations_of c.args.known.now in
     let L = levels_of c.args.levels.now in
     c.from_vec.ensures
     ∙ walk-end (entries_listed K L) c.args.entries.now c.loop-entry.entry-index _ _ c.loop-entry-test.false (entries_listed-nil K L tt) c.loop-entry.invariant.1
 
-pub resolve_entries-returns-clause-headings : goal.resolve_entries-returns-clause-headings
-resolve_entries-returns-clause-headings t c =
+pub blocks::resolve_entries-returns-clause-headings : goal.blocks::resolve_entries-returns-clause-headings
+blocks::resolve_entries-returns-clause-headings t c =
     walk-end (λ es. entries_headings es (headings_of c.args.known.now)) c.args.entries.now c.loop-entry.entry-index _ _ c.loop-entry-test.false
     (entries_headings-nil _) c.loop-entry.invariant.2
 
-pub resolve_items-returns-in_err-add_item-clause-err : goal.resolve_items-returns-in_err-add_item-clause-err
-resolve_items-returns-in_err-add_item-clause-err t c =
+pub blocks::resolve_items-returns-in_err-add_item-clause-err : goal.blocks::resolve_items-returns-in_err-add_item-clause-err
+blocks::resolve_items-returns-in_err-add_item-clause-err t c =
     let K = relations_of c.args.known.now in
     let L = levels_of c.args.levels.now in
     let xs = c.args.items.now in
@@ -232,8 +232,8 @@ resolve_items-returns-in_err-add_item-clause-err t c =
     handed_on c.from_residual-in_err-add_item.result c.in_err-add_item.field-0.0 (λ f. IsCause f (items_fault K L 0 xs)) c.from_residual-in_err-add_item.ensures.1
     (cause-first c.in_err-add_item.field-0.0 (items_fault K L 0 xs) _ _ (sym c.loop-item.invariant.0 ∙ eq) c.in_err-add_item.ensures.err)
 
-pub resolve_items-returns-in_err-check_outputs-clause-err : goal.resolve_items-returns-in_err-check_outputs-clause-err
-resolve_items-returns-in_err-check_outputs-clause-err t c =
+pub blocks::resolve_items-returns-in_err-check_outputs-clause-err : goal.blocks::resolve_items-returns-in_err-check_outputs-clause-err
+blocks::resolve_items-returns-in_err-check_outputs-clause-err t c =
     let K = relations_of c.args.known.now in
     let L = levels_of c.args.levels.now in
     let xs = c.args.items.now in
@@ -251,8 +251,8 @@ resolve_items-returns-in_err-check_outputs-clause-err t c =
     (cause-second f (items_fault K L 0 xs) _ _ (sym c.loop-item.invariant.0 ∙ eq) c.in_ok-add_item.ensures.fine
     (cause-first f _ _ _ refl (subst P (c.len.ensures ∙ longer) c.in_err-check_outputs.ensures.err)))
 
-pub resolve_items-loop-item-preserved : goal.resolve_items-loop-item-preserved
-resolve_items-loop-item-preserved t c =
+pub blocks::resolve_items-loop-item-preserved : goal.blocks::resolve_items-loop-item-preserved
+blocks::resolve_items-loop-item-preserved t c =
     let K = relations_of c.args.known.now in
     let L = levels_of c.args.levels.now in
     let xs = c.args.items.now in
@@ -275,46 +275,46 @@ resolve_items-loop-item-preserved t c =
           c.in_ok-add_item.ensures.value c.loop-item.invariant.1,
     )
 
-pub resolve_items-returns-clause-fine : goal.resolve_items-returns-clause-fine
-resolve_items-returns-clause-fine t c =
+pub blocks::resolve_items-returns-clause-fine : goal.blocks::resolve_items-returns-clause-fine
+blocks::resolve_items-returns-clause-fine t c =
     let K = relations_of c.args.known.now in
     let L = levels_of c.args.levels.now in
     let count = length c.loop-item.values in
     sym c.loop-item.invariant.0
     ∙ (at-end (items_fault K L count) c.args.items.now c.loop-item.item-index c.loop-item-test.false ∙ items_fault-nil K L count)
 
-pub resolve_items-returns-clause-value : goal.resolve_items-returns-clause-value
-resolve_items-returns-clause-value t c =
+pub blocks::resolve_items-returns-clause-value : goal.blocks::resolve_items-returns-clause-value
+blocks::resolve_items-returns-clause-value t c =
     let K = relations_of c.args.known.now in
     let L = levels_of c.args.levels.now in
     walk-end (items_listed K L) c.args.items.now c.loop-item.item-index _ _ c.loop-item-test.false (items_listed-nil K L tt) c.loop-item.invariant.1
 
-pub add_on_conditions-returns-clause-fine : goal.add_on_conditions-returns-clause-fine
-add_on_conditions-returns-clause-fine t c =
+pub blocks::add_on_conditions-returns-clause-fine : goal.blocks::add_on_conditions-returns-clause-fine
+blocks::add_on_conditions-returns-clause-fine t c =
     let K = relations_of c.args.known.now in
     let L = levels_of c.args.levels.now in
     let i = c.loop-index.index in
     let before : Level = record { first = c.loop-index.first; headings = drop c.loop-index.first (take i c.args.headings.now); sight = AsRows } in
     sym c.loop-index.invariant.0 ∙ (at-end (on_fault K L i before) c.args.entries.now i c.loop-index-test.false ∙ on_fault-nil K L i before)
 
-pub add_on_conditions-returns-clause-value : goal.add_on_conditions-returns-clause-value
-add_on_conditions-returns-clause-value t c =
+pub blocks::add_on_conditions-returns-clause-value : goal.blocks::add_on_conditions-returns-clause-value
+blocks::add_on_conditions-returns-clause-value t c =
     let K = relations_of c.args.known.now in
     let L = levels_of c.args.levels.now in
     let i = c.loop-index.index in
     let before : Level = record { first = c.loop-index.first; headings = drop c.loop-index.first (take i c.args.headings.now); sight = AsRows } in
     walk-end (on_listed K L i before) c.args.entries.now i _ _ c.loop-index-test.false (on_listed-nil K L i before) c.loop-index.invariant.1
 
-pub add_on_conditions-slice_bounds-seen-end : goal.add_on_conditions-slice_bounds-seen-end
-add_on_conditions-slice_bounds-seen-end t c =
+pub blocks::add_on_conditions-slice_bounds-seen-end : goal.blocks::add_on_conditions-slice_bounds-seen-end
+blocks::add_on_conditions-slice_bounds-seen-end t c =
     let long : length c.args.headings.now ≡ length c.args.entries.now =
     ap (λ hs. length hs) c.requires ∙ length-entries_headings c.args.entries.now (headings_of c.args.known.now) in
     let low : c.if-not-entry.first ≤ c.loop-index.index =
-    elim c.if-not-entry.branch [ add_on_conditions-then-not-entry w ↦ omega arith | add_on_conditions-else-not-entry w ↦ omega (arith, c.loop-index.invariant.2) ] in
+    elim c.if-not-entry.branch [ blocks::add_on_conditions-then-not-entry w ↦ omega arith | blocks::add_on_conditions-else-not-entry w ↦ omega (arith, c.loop-index.invariant.2) ] in
     search rules
 
-pub add_on_conditions-returns-in_err-add_written-clause-err : goal.add_on_conditions-returns-in_err-add_written-clause-err
-add_on_conditions-returns-in_err-add_written-clause-err t c =
+pub blocks::add_on_conditions-returns-in_err-add_written-clause-err : goal.blocks::add_on_conditions-returns-in_err-add_written-clause-err
+blocks::add_on_conditions-returns-in_err-add_written-clause-err t c =
     let K = relations_of c.args.known.now in
     let L = levels_of c.args.levels.now in
     let xs = c.args.entries.now in
@@ -328,11 +328,11 @@ add_on_conditions-returns-in_err-add_written-clause-err t c =
     let before : Level = record { first = first; headings = drop first (take i H); sight = AsRows } in
     let seen : (n : ℕ) → n ≡ first' → seen_by K i before e ≡ record { first = n; headings = drop first' (take (i + 1) H); sight = AsRows } =
     λ n same. elim c.if-not-entry.branch [
-      | add_on_conditions-then-not-entry w ↦ seen-apart K xs H i first first' n e c.requires test is same (grind (arith, w.if-not-entry)) w.first-is
-      | add_on_conditions-else-not-entry w ↦ seen-joined K xs H i first first' n e c.requires test is same (grind (arith, w.if-not-entry)) w.first-is c.loop-index.invariant.2
+      | blocks::add_on_conditions-then-not-entry w ↦ seen-apart K xs H i first first' n e c.requires test is same (grind (arith, w.if-not-entry)) w.first-is
+      | blocks::add_on_conditions-else-not-entry w ↦ seen-joined K xs H i first first' n e c.requires test is same (grind (arith, w.if-not-entry)) w.first-is c.loop-index.invariant.2
     ] in
     let low : first' ≤ i + 1 =
-    elim c.if-not-entry.branch [ add_on_conditions-then-not-entry w ↦ omega arith | add_on_conditions-else-not-entry w ↦ omega (arith, c.loop-index.invariant.2) ] in
+    elim c.if-not-entry.branch [ blocks::add_on_conditions-then-not-entry w ↦ omega arith | blocks::add_on_conditions-else-not-entry w ↦ omega (arith, c.loop-index.invariant.2) ] in
     let n = c.in_ok-number.field-0 in
     let here = seen n c.in_ok-number.ensures.fits ∙ ap (λ hs. record { first = n; headings = hs; sight = AsRows }) (sym (between first' (i + 1) H low)) in
     let eq = at-head (on_fault K L i before) xs i e test is ∙ on_fault-cons K L i before e (drop (i + 1) xs) in
@@ -341,8 +341,8 @@ add_on_conditions-returns-in_err-add_written-clause-err t c =
     (cause-first f (on_fault K L 0 no_entry xs) _ _ (sym c.loop-index.invariant.0 ∙ eq)
     (cause-same f _ _ (ap (λ s. written_fault K (s ∷ L) e.on) here) c.in_err-add_written.ensures.err))
 
-pub add_on_conditions-loop-index-preserved : goal.add_on_conditions-loop-index-preserved
-add_on_conditions-loop-index-preserved t c =
+pub blocks::add_on_conditions-loop-index-preserved : goal.blocks::add_on_conditions-loop-index-preserved
+blocks::add_on_conditions-loop-index-preserved t c =
     let K = relations_of c.args.known.now in
     let L = levels_of c.args.levels.now in
     let xs = c.args.entries.now in
@@ -356,11 +356,11 @@ add_on_conditions-loop-index-preserved t c =
     let before : Level = record { first = first; headings = drop first (take i H); sight = AsRows } in
     let seen : (n : ℕ) → n ≡ first' → seen_by K i before e ≡ record { first = n; headings = drop first' (take (i + 1) H); sight = AsRows } =
     λ n same. elim c.if-not-entry.branch [
-      | add_on_conditions-then-not-entry w ↦ seen-apart K xs H i first first' n e c.requires test is same (grind (arith, w.if-not-entry)) w.first-is
-      | add_on_conditions-else-not-entry w ↦ seen-joined K xs H i first first' n e c.requires test is same (grind (arith, w.if-not-entry)) w.first-is c.loop-index.invariant.2
+      | blocks::add_on_conditions-then-not-entry w ↦ seen-apart K xs H i first first' n e c.requires test is same (grind (arith, w.if-not-entry)) w.first-is
+      | blocks::add_on_conditions-else-not-entry w ↦ seen-joined K xs H i first first' n e c.requires test is same (grind (arith, w.if-not-entry)) w.first-is c.loop-index.invariant.2
     ] in
     let low : first' ≤ i + 1 =
-    elim c.if-not-entry.branch [ add_on_conditions-then-not-entry w ↦ omega arith | add_on_conditions-else-not-entry w ↦ omega (arith, c.loop-index.invariant.2) ] in
+    elim c.if-not-entry.branch [ blocks::add_on_conditions-then-not-entry w ↦ omega arith | blocks::add_on_conditions-else-not-entry w ↦ omega (arith, c.loop-index.invariant.2) ] in
     let n = c.in_ok-number.field-0 in
     let here = seen n c.in_ok-number.ensures.fits ∙ ap (λ hs. record { first = n; headings = hs; sight = AsRows }) (sym (between first' (i + 1) H low)) in
     let eq = at-head (on_fault K L i before) xs i e test is ∙ on_fault-cons K L i before e (drop (i + 1) xs) in
@@ -377,16 +377,16 @@ add_on_conditions-loop-index-preserved t c =
       low,
     )
 
-pub resolve_block-new-requires : goal.resolve_block-new-requires
-resolve_block-new-requires t c =
+pub blocks::resolve_block-new-requires : goal.blocks::resolve_block-new-requires
+blocks::resolve_block-new-requires t c =
     let same = c.as_slice-2.ensures ∙ sym c.as_slice-3.ensures in
     c.len-width.ensures
     ∙ (ap (λ vs. length vs) c.in_ok-items.ensures.value
     ∙ (length-items_listed c.as_slice-2.result.now (relations_of c.args.known.now) _
     ∙ (λ i. length (list_columns (same i) (c.as_slice-headings.ensures.value i)))))
 
-pub resolve_block-returns-clause-columns : goal.resolve_block-returns-clause-columns
-resolve_block-returns-clause-columns t c =
+pub blocks::resolve_block-returns-clause-columns : goal.blocks::resolve_block-returns-clause-columns
+blocks::resolve_block-returns-clause-columns t c =
     c.new.ensures
     ∙ (rw (c.as_slice-3.ensures, c.in_ok-from.ensures.headings, c.as_slice-entries.ensures)
     (sym (block_columns-fields c.args.block.now (headings_of c.args.known.now))))

@@ -1,4 +1,4 @@
-use Rattle.std.proofs.Common.{◌≡◌, ◌∷◌, ◌++◌, [], None, length, map, vec_len, ap, sym, ◌∙◌, arith}
+use Rattle.std.proofs.Common.{◌≡◌, ◌∷◌, ◌++◌, [], None, length, map, ap, sym, ◌∙◌, arith}
 use Rattle.std.proofs.lemmas.List.{map-append}
 use Rattle.sql_model.specs.Headings.{output_columns}
 use Rattle.sql_model.specs.declared.schema.Relation.TheVariants as relation
@@ -19,7 +19,7 @@ returns-in_ok-push-in-Table-clause-known c =
     let name = c.args.name.now in
     ap (λ ks. relations_of ks) c.in_ok-push-in-Table.ensures.items
     ∙ (map-append relation_of c.args.known.now.items _
-    ∙ ap (λ k. K ++ k ∷ []) (c.in_ok-table-in-Table.ensures.value K trees ∙ ap (λ r. known_relation K trees name r) (sym c.in-Table.is)))
+    ∙ ap (λ k. K ++ k ∷ []) (c.in_ok-table-in-Table.ensures.value K (length trees) ∙ ap (λ r. known_relation K (length trees) name r) (sym c.in-Table.is)))
 
 pub returns-in_err-check_names-in-View-clause-err : goal.returns-in_err-check_names-in-View-clause-err
 returns-in_err-check_names-in-View-clause-err c =
@@ -28,10 +28,11 @@ returns-in_err-check_names-in-View-clause-err c =
     let name = c.args.name.now in
     let query = c.in-View.query in
     let at = c.in-View.at in
-    let counted : vec_len c.args.trees.now ≡ length trees = grind (arith, c.args.trees.now.ok) in
-    let view : relation_of c.in_ok-view-in-View.view ≡ known_relation K trees name (relation.View query at) =
-    c.in_ok-view-in-View.ensures.value trees at (sym (c.len.ensures ∙ counted))
-    ∙ ap (λ ks. known_relation (relations_of ks) trees name (relation.View query at)) c.as_slice-in-View.ensures.value in
+    let counted : c.len.result ≡ length trees = c.len.ensures ∙ grind (arith, c.args.trees.now.ok) in
+    let view : relation_of c.in_ok-view-in-View.view ≡ known_relation K (length trees) name (relation.View query at) =
+    c.in_ok-view-in-View.ensures.value at
+    ∙ (ap (λ ks. known_relation (relations_of ks) c.len.result name (relation.View query at)) c.as_slice-in-View.ensures.value
+    ∙ ap (λ views. known_relation K views name (relation.View query at)) counted) in
     let columns : c.in_ok-view-in-View.view.columns ≡ output_columns query (map heading K) = ap (λ k. k.columns) view in
     let fine : fault_within K [] query ≡ None =
     ap (λ ks. fault_within (relations_of ks) [] query) (sym c.as_slice.ensures.value) ∙ c.in_ok-tree-in-View.ensures.fine in
@@ -48,10 +49,11 @@ returns-in_ok-push-in-View-2-clause-fine c =
     let name = c.args.name.now in
     let query = c.in-View.query in
     let at = c.in-View.at in
-    let counted : vec_len c.args.trees.now ≡ length trees = grind (arith, c.args.trees.now.ok) in
-    let view : relation_of c.in_ok-view-in-View.view ≡ known_relation K trees name (relation.View query at) =
-    c.in_ok-view-in-View.ensures.value trees at (sym (c.len.ensures ∙ counted))
-    ∙ ap (λ ks. known_relation (relations_of ks) trees name (relation.View query at)) c.as_slice-in-View.ensures.value in
+    let counted : c.len.result ≡ length trees = c.len.ensures ∙ grind (arith, c.args.trees.now.ok) in
+    let view : relation_of c.in_ok-view-in-View.view ≡ known_relation K (length trees) name (relation.View query at) =
+    c.in_ok-view-in-View.ensures.value at
+    ∙ (ap (λ ks. known_relation (relations_of ks) c.len.result name (relation.View query at)) c.as_slice-in-View.ensures.value
+    ∙ ap (λ views. known_relation K views name (relation.View query at)) counted) in
     let columns : c.in_ok-view-in-View.view.columns ≡ output_columns query (map heading K) = ap (λ k. k.columns) view in
     let fine : fault_within K [] query ≡ None =
     ap (λ ks. fault_within (relations_of ks) [] query) (sym c.as_slice.ensures.value) ∙ c.in_ok-tree-in-View.ensures.fine in
@@ -64,13 +66,14 @@ returns-in_ok-push-in-View-2-clause-known c =
     let name = c.args.name.now in
     let query = c.in-View.query in
     let at = c.in-View.at in
-    let counted : vec_len c.args.trees.now ≡ length trees = grind (arith, c.args.trees.now.ok) in
-    let view : relation_of c.in_ok-view-in-View.view ≡ known_relation K trees name (relation.View query at) =
-    c.in_ok-view-in-View.ensures.value trees at (sym (c.len.ensures ∙ counted))
-    ∙ ap (λ ks. known_relation (relations_of ks) trees name (relation.View query at)) c.as_slice-in-View.ensures.value in
+    let counted : c.len.result ≡ length trees = c.len.ensures ∙ grind (arith, c.args.trees.now.ok) in
+    let view : relation_of c.in_ok-view-in-View.view ≡ known_relation K (length trees) name (relation.View query at) =
+    c.in_ok-view-in-View.ensures.value at
+    ∙ (ap (λ ks. known_relation (relations_of ks) c.len.result name (relation.View query at)) c.as_slice-in-View.ensures.value
+    ∙ ap (λ views. known_relation K views name (relation.View query at)) counted) in
     let columns : c.in_ok-view-in-View.view.columns ≡ output_columns query (map heading K) = ap (λ k. k.columns) view in
     let fine : fault_within K [] query ≡ None =
     ap (λ ks. fault_within (relations_of ks) [] query) (sym c.as_slice.ensures.value) ∙ c.in_ok-tree-in-View.ensures.fine in
     ap (λ ks. relations_of ks) c.in_ok-push-in-View.ensures.items
     ∙ (map-append relation_of c.args.known.now.items _
-    ∙ ap (λ k. K ++ k ∷ []) (view ∙ ap (λ r. known_relation K trees name r) (sym c.in-View.is)))
+    ∙ ap (λ k. K ++ k ∷ []) (view ∙ ap (λ r. known_relation K (length trees) name r) (sym c.in-View.is)))

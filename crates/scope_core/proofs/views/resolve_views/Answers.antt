@@ -1,11 +1,11 @@
-use Rattle.std.proofs.Common.{◌≡◌, ◌∷◌, [], None, ap, sym, subst, ◌∙◌}
+use Rattle.std.proofs.Common.{◌≡◌, ◌∷◌, [], None, length, ap, sym, subst, ◌∙◌}
 use Rattle.data_model.specs.Lists.{Each}
 use Rattle.scope_core.specs.Answer.{IsCause}
 use Rattle.scope_core.specs.FirstFault.{relations_fault, schema_fault}
 use Rattle.scope_core.specs.Fitting.{AreSoundViews, DoViewsFit}
 use Rattle.scope_core.specs.Lent.{relations_of}
 use Rattle.scope_core.specs.Literals.{TreeFits}
-use Rattle.scope_core.specs.Relations.{view_trees, views_of}
+use Rattle.scope_core.specs.ViewTrees.{view_trees, views_of}
 use Rattle.scope_core.proofs.FittingTrees as fitting
 use Rattle.scope_core.proofs.NoFault.{schema_fault-none}
 use Rattle.scope_core.proofs.SoundTrees.{views-sound}
@@ -20,21 +20,21 @@ returns-in_err-add_relation-clause-err c =
     let step : c.loop-name.name-iterator ≡ (c.in-Some.name.now, c.in-Some.relation.now) ∷ c.next.new.self = c.in-Some.ensures.steps in
     let f = c.in_err-add_relation.field-0.0 in
     handed_on c.from_residual-in_err-add_relation.result f (λ g. IsCause g (schema_fault c.args.schema.now)) c.from_residual-in_err-add_relation.ensures.1
-    (cause-first f (schema_fault c.args.schema.now) _ _ (sym c.loop-name.invariant.2 ∙ ap (λ rs. relations_fault K trees rs) step)
+    (cause-first f (schema_fault c.args.schema.now) _ _ (sym c.loop-name.invariant.2 ∙ ap (λ rs. relations_fault K (length trees) rs) step)
     c.in_err-add_relation.ensures.err)
 
 pub returns-clause-well_formed : goal.returns-clause-well_formed
 returns-clause-well_formed c =
     let K = relations_of c.loop-name.known.items in
     let trees = c.loop-name.trees.items in
-    let none : schema_fault c.args.schema.now ≡ None = sym c.loop-name.invariant.2 ∙ ap (λ rs. relations_fault K trees rs) c.in-None.ensures.steps.0 in
+    let none : schema_fault c.args.schema.now ≡ None = sym c.loop-name.invariant.2 ∙ ap (λ rs. relations_fault K (length trees) rs) c.in-None.ensures.steps.0 in
     (schema_fault-none c.args.schema.now).0 none
 
 pub returns-clause-sound : goal.returns-clause-sound
 returns-clause-sound c =
     let K = relations_of c.loop-name.known.items in
     let trees = c.loop-name.trees.items in
-    let none : schema_fault c.args.schema.now ≡ None = sym c.loop-name.invariant.2 ∙ ap (λ rs. relations_fault K trees rs) c.in-None.ensures.steps.0 in
+    let none : schema_fault c.args.schema.now ≡ None = sym c.loop-name.invariant.2 ∙ ap (λ rs. relations_fault K (length trees) rs) c.in-None.ensures.steps.0 in
     let well = (schema_fault-none c.args.schema.now).0 none in
     let all : trees ≡ views_of c.args.schema.now = sym (ap (λ rs. view_trees K trees rs) c.in-None.ensures.steps.0) ∙ c.loop-name.invariant.3 in
     subst (λ vs. AreSoundViews c.args.schema.now.relations.entries [] vs) (sym (c.new.ensures ∙ (c.from_vec.ensures ∙ all))) (views-sound c.args.schema.now well.0)
@@ -50,7 +50,7 @@ pub new-requires : goal.new-requires
 new-requires c =
     let K = relations_of c.loop-name.known.items in
     let trees = c.loop-name.trees.items in
-    let none : schema_fault c.args.schema.now ≡ None = sym c.loop-name.invariant.2 ∙ ap (λ rs. relations_fault K trees rs) c.in-None.ensures.steps.0 in
+    let none : schema_fault c.args.schema.now ≡ None = sym c.loop-name.invariant.2 ∙ ap (λ rs. relations_fault K (length trees) rs) c.in-None.ensures.steps.0 in
     let well = (schema_fault-none c.args.schema.now).0 none in
     let all : trees ≡ views_of c.args.schema.now = sym (ap (λ rs. view_trees K trees rs) c.in-None.ensures.steps.0) ∙ c.loop-name.invariant.3 in
     subst (λ vs. DoViewsFit [] vs) (sym (c.from_vec.ensures ∙ all))

@@ -1,0 +1,242 @@
+//! Blocks: their entries, conditions, groups and items.
+ghost use Rattle.std.specs.Prelude.{◌≡◌, ◌++◌, [], OnOk, IfOk, IfErr, None};
+ghost use Rattle.sql_model.specs.Headings.{block_columns, source_columns};
+ghost use Rattle.scope_core.specs.Answer.{IsCause};
+ghost use Rattle.scope_core.specs.Held.{columns_held};
+ghost use Rattle.scope_core.specs.Lent.{entries_headings, headings_of, levels_of, relations_of};
+ghost use Rattle.scope_core.specs.Parts.{block_fault, entries_fault, entries_listed, item_fault, items_fault, items_listed, on_fault, on_listed, source_fault};
+ghost use Rattle.scope_core.specs.Resolving.{resolved_block, resolved_item, resolved_source};
+ghost use Rattle.scope_core.specs.Scope.{no_entry};
+
+use super::Projected;
+use super::conditions::{add_written, resolve_having};
+use super::queries::resolve_query;
+use super::values::resolve_value;
+use crate::checks::{check_alias, check_outputs, is_one_group, resolve_name};
+use crate::fault::{ScopeFault, number};
+use crate::grouping::{resolve_grouping, sight_by};
+use crate::heading::{Heading, Held, Known};
+use crate::items::Items;
+use crate::level::{Levels, Sight};
+use crate::output::{Projection, named_columns};
+use crate::star::{add_alias_star, add_star};
+use crate::tree::{RBlock, RCond, REntry, RSource, RVal};
+use plain_data::List;
+use sql_model::{Block, Entry, Item, Query, Source};
+use std::alloc::Global;
+
+/// A block: its entries, then what stands in ON and WHERE, GROUP BY, the items and HAVING.
+#[cycle(resolve)]
+#[inline(never)]
+#[tactic(auto, using(crate::proofs::Blocks::laws, crate::proofs::Blocks::tree))]
+pub fn resolve_block<'k, 'a>(
+    alloc: Global,
+    block: &'a Block,
+    known: &'k [Known<'a>],
+    levels: &Levels<'_, 'k, 'a>,
+) -> Result<Projected<'k, 'a, RBlock>, ScopeFault>
+    ensures fine { IfOk result (λ v. block_fault (relations_of known.now) (levels_of levels.now) block.now ≡ None) }
+    ensures value { IfOk result (λ v. v.tree ≡ resolved_block block.now (relations_of known.now) (levels_of levels.now)) }
+    ensures columns { IfOk result (λ v. v.columns ≡ block_columns block.now (headings_of known.now)) }
+    ensures err { IfErr result (λ f. IsCause f (block_fault (relations_of known.now) (levels_of levels.now) block.now)) }
+{
+    let entries = block.entries.as_slice();
+    let from = resolve_entries(alloc, entries, &*known, &*levels)?;
+    let headings = from.headings.as_slice();
+    let mut conds = Vec::new(alloc);
+    add_on_conditions(&mut conds, alloc, entries, headings, &*known, &*levels)?;
+    let rows = Levels::Block {
+        first: 0,
+        headings: headings,
+        sight: Sight::Rows,
+        outer: &*levels,
+    };
+    add_written(&mut conds, alloc, &block.cond, &*known, &rows)?;
+    let one_group = is_one_group(block.items.as_slice(), &block.having);
+    let grouping = resolve_grouping(alloc, &block.groups, one_group, headings, &*levels)?;
+    let output = Levels::Block {
+        first: 0,
+        headings: headings,
+        sight: sight_by(&grouping),
+        outer: &*levels,
+    };
+    let items = resolve_items(alloc, block.items.as_slice(), &*known, &output)?;
+    let having = resolve_having(alloc, &block.having, &*known, &output)?;
+    let width = items.len();
+    let tree = RBlock {
+        distinct: block.distinct,
+        entries: from.entries,
+        conds: List::from_vec(conds),
+        grouping,
+        having,
+        items,
+    };
+    Ok(Projected {
+        tree,
+        columns: Projection::new(block.items.as_slice(), from.headings, width),
+    })
+}
+
+/// The entries of FROM, and what stands behind their names.
+#[derive(Drop)]
+struct FromClause<'k, 'a> {
+    entries: List<REntry>,
+    headings: Vec<Heading<'k, 'a>>,
+}
+
+#[cycle(resolve)]
+#[inline(never)]
+#[tactic(auto, using(crate::proofs::Queries::laws))]
+fn resolve_entries<'k, 'a>(
+    alloc: Global,
+    entries: &'a [Entry],
+    known: &'k [Known<'a>],
+    levels: &Levels<'_, 'k, 'a>,
+) -> Result<FromClause<'k, 'a>, ScopeFault>
+    ensures fine { IfOk result (λ v. entries_fault (relations_of known.now) (levels_of levels.now) [] entries.now ≡ None) }
+    ensures value { IfOk result (λ v. v.entries ≡ entries_listed (relations_of known.now) (levels_of levels.now) entries.now) }
+    ensures headings { IfOk result (λ v. v.headings.items ≡ entries_headings entries.now (headings_of known.now)) }
+    ensures err { IfErr result (λ f. IsCause f (entries_fault (relations_of known.now) (levels_of levels.now) [] entries.now)) }
+{
+    let mut resolved = Vec::with_capacity(alloc, entries.len())?;
+    let mut headings = Vec::with_capacity(alloc, entries.len())?;
+    for entry in entries {
+        let source = resolve_source(alloc, &entry.source, known, levels)?;
+        check_alias(&entry.alias, entry.at, headings.as_slice())?;
+        let width = number(source.columns.columns().len())?;
+        resolved.push(REntry {
+            source: source.tree,
+            width,
+        })?;
+        headings.push(Heading::new(&entry.alias, source.columns))?;
+    }
+    Ok(FromClause {
+        entries: List::from_vec(resolved),
+        headings,
+    })
+}
+
+/// What an entry takes its rows from, and its columns.
+#[derive(Drop)]
+struct FromSource<'k, 'a> {
+    tree: RSource,
+    columns: Held<'k, 'a>,
+}
+
+#[cycle(resolve)]
+#[inline(never)]
+#[tactic(auto, using(crate::proofs::Queries::laws, crate::proofs::Outputs::outputs))]
+fn resolve_source<'k, 'a>(
+    alloc: Global,
+    source: &'a Source,
+    known: &'k [Known<'a>],
+    levels: &Levels<'_, 'k, 'a>,
+) -> Result<FromSource<'k, 'a>, ScopeFault>
+    ensures fine { IfOk result (λ v. source_fault (relations_of known.now) (levels_of levels.now) source.now ≡ None) }
+    ensures value { IfOk result (λ v. v.tree ≡ resolved_source source.now (relations_of known.now) (levels_of levels.now)) }
+    ensures columns { IfOk result (λ v. columns_held v.columns ≡ source_columns source.now (headings_of known.now)) }
+    ensures err { IfErr result (λ f. IsCause f (source_fault (relations_of known.now) (levels_of levels.now) source.now)) }
+{
+    match source {
+        Source::Named { name, at } => Ok(FromSource {
+            tree: resolve_name(name, *at, known)?,
+            columns: named_columns(alloc, name, known),
+        }),
+        Source::Query { query } => {
+            let query = resolve_query(alloc, query.get(), known, levels)?;
+            Ok(FromSource {
+                columns: query.columns.into_columns(alloc)?,
+                tree: RSource::Query { query: query.tree },
+            })
+        }
+    }
+}
+
+/// Appends the conjuncts of the ON conditions. After a comma an ON sees its own entry alone, after a JOIN those before it too.
+#[cycle(resolve)]
+#[inline(never)]
+#[tactic(auto, using(crate::proofs::Queries::laws))]
+fn add_on_conditions<'s, 'k, 'a>(
+    conditions: &mut Vec<RCond>,
+    alloc: Global,
+    entries: &'a [Entry],
+    headings: &'s [Heading<'k, 'a>],
+    known: &'k [Known<'a>],
+    levels: &'s Levels<'s, 'k, 'a>,
+) -> Result<(), ScopeFault>
+    requires { headings.now ≡ entries_headings entries.now (headings_of known.now) }
+    ensures fine { OnOk result (on_fault (relations_of known.now) (levels_of levels.now) 0 no_entry entries.now ≡ None) }
+    ensures value { OnOk result (conditions.new.items ≡ conditions.old.items ++ on_listed (relations_of known.now) (levels_of levels.now) 0 no_entry entries.now) }
+    ensures err { IfErr result (λ f. IsCause f (on_fault (relations_of known.now) (levels_of levels.now) 0 no_entry entries.now)) }
+{
+    let mut first = 0;
+    for (index, entry) in entries.iter().enumerate() {
+        if !entry.joined {
+            first = index;
+        }
+        let seen = Levels::Block {
+            first: number(first)?,
+            headings: &headings[first..=index],
+            sight: Sight::Rows,
+            outer: levels,
+        };
+        add_written(conditions, alloc, &entry.on, known, &seen)?;
+    }
+    Ok(())
+}
+
+/// The values of the items, one for each output.
+#[cycle(resolve)]
+#[inline(never)]
+#[tactic(auto, using(crate::proofs::Queries::laws))]
+fn resolve_items<'k, 'a>(
+    alloc: Global,
+    items: &'a [Item],
+    known: &'k [Known<'a>],
+    levels: &Levels<'_, 'k, 'a>,
+) -> Result<Items<RVal>, ScopeFault>
+    ensures fine { IfOk result (λ v. items_fault (relations_of known.now) (levels_of levels.now) 0 items.now ≡ None) }
+    ensures value { IfOk result (λ v. v ≡ items_listed (relations_of known.now) (levels_of levels.now) items.now) }
+    ensures err { IfErr result (λ f. IsCause f (items_fault (relations_of known.now) (levels_of levels.now) 0 items.now)) }
+{
+    let mut values = Items::with_capacity(alloc, count_values(items))?;
+    for item in items {
+        add_item(item, &mut values, alloc, known, levels)?;
+        check_outputs(values.len())?;
+    }
+    Ok(values)
+}
+
+/// How many items are values.
+fn count_values(items: &[Item]) -> usize {
+    items
+        .iter()
+        .filter(|item| matches!(item, Item::Value { .. }))
+        .count()
+}
+
+/// Appends the values of an item.
+#[cycle(resolve)]
+#[inline(never)]
+#[tactic(auto, using(crate::proofs::Queries::laws))]
+fn add_item<'k, 'a>(
+    item: &'a Item,
+    values: &mut Items<RVal>,
+    alloc: Global,
+    known: &'k [Known<'a>],
+    levels: &Levels<'_, 'k, 'a>,
+) -> Result<(), ScopeFault>
+    ensures fine { OnOk result (item_fault (relations_of known.now) (levels_of levels.now) item.now ≡ None) }
+    ensures value { OnOk result (values.new ≡ values.old ++ resolved_item item.now (relations_of known.now) (levels_of levels.now)) }
+    ensures err { IfErr result (λ f. IsCause f (item_fault (relations_of known.now) (levels_of levels.now) item.now)) }
+{
+    match item {
+        Item::Star { at } => add_star(values, alloc, *at, levels),
+        Item::AliasStar { alias, at } => add_alias_star(values, alloc, alias, *at, levels),
+        Item::Value { expr, .. } => {
+            let value = resolve_value(alloc, expr, known, levels)?;
+            values.push(value)?;
+            Ok(())
+        }
+    }
+}

@@ -1,0 +1,252 @@
+//! Conditions, and the lists of their conjuncts.
+ghost use Rattle.std.specs.Prelude.{◌≡◌, ◌++◌, OnOk, IfOk, IfErr, None};
+ghost use Rattle.sql_model.specs.declared.tree.Expr.TheVariants as expr;
+ghost use Rattle.scope_core.specs.declared.tree.RCond.TheVariants as condition;
+ghost use Rattle.scope_core.specs.Answer.{IsCause};
+ghost use Rattle.scope_core.specs.Lent.{levels_of, relations_of};
+ghost use Rattle.scope_core.specs.Parts.{conditions_listed, conjuncts_listed, truth_fault, truths_fault, values_fault, values_listed, written_fault, written_listed, having_listed};
+ghost use Rattle.scope_core.specs.Resolving.{conjunction, conjuncts, resolved};
+
+use super::check_subquery;
+use super::queries::resolve_query;
+use super::values::{resolve_value, resolve_values};
+use crate::checks::{check_widths, conjuncts_of};
+use crate::fault::{ScopeCode, ScopeFault, refused};
+use crate::grouping::conjunction;
+use crate::heading::Known;
+use crate::level::Levels;
+use crate::tree::RCond;
+use plain_data::{Boxed, List};
+use sql_model::{Expr, Query};
+use std::alloc::Global;
+
+/// A condition: an AND of its conjuncts, where it has more than one.
+#[cycle(resolve)]
+#[tactic(auto, using(crate::proofs::Conditions::laws))]
+fn resolve_condition<'k, 'a>(
+    alloc: Global,
+    expr: &'a Expr,
+    known: &'k [Known<'a>],
+    levels: &Levels<'_, 'k, 'a>,
+) -> Result<RCond, ScopeFault>
+    ensures fine { IfOk result (λ v. truth_fault (relations_of known.now) (levels_of levels.now) expr.now ≡ None) }
+    ensures value { IfOk result (λ v. v ≡ conjunction (conjuncts expr.now (relations_of known.now) (levels_of levels.now))) }
+    ensures err { IfErr result (λ f. IsCause f (truth_fault (relations_of known.now) (levels_of levels.now) expr.now)) }
+{
+    match expr {
+        Expr::Pred { sym, args, .. } => predicate(alloc, *sym, args.as_slice(), known, levels),
+        Expr::Call { sym, args, .. } => predicate(alloc, *sym, args.as_slice(), known, levels),
+        Expr::Eq { left, right, .. } => {
+            let left = resolve_value(alloc, left.get(), known, levels)?;
+            let right = resolve_value(alloc, right.get(), known, levels)?;
+            Ok(RCond::Eq { left, right })
+        }
+        Expr::And { parts, .. } => resolve_and(alloc, parts.as_slice(), known, levels),
+        Expr::Or { parts, .. } => Ok(RCond::Or {
+            parts: resolve_conditions(alloc, parts.as_slice(), known, levels)?,
+        }),
+        Expr::Not { part, .. } => Ok(RCond::Not {
+            part: resolve_part(alloc, part, known, levels)?,
+        }),
+        Expr::Exists { query, at } => resolve_exists(alloc, query, *at, known, levels),
+        Expr::In {
+            value,
+            query,
+            at,
+            in_at,
+        } => {
+            check_subquery(*at, levels)?;
+            let value = resolve_value(alloc, value.get(), known, levels)?;
+            let query = resolve_query(alloc, query.get(), known, levels)?;
+            check_widths(1, query.columns.width(), *in_at)?;
+            Ok(RCond::In {
+                value,
+                query: query.tree,
+            })
+        }
+        Expr::Col { at, .. } => Err(refused(ScopeCode::NotTruth, *at)),
+        Expr::Lit { at, .. } => Err(refused(ScopeCode::NotTruth, *at)),
+        Expr::Fun { at, .. } => Err(refused(ScopeCode::NotTruth, *at)),
+        Expr::Agg { at, .. } => Err(refused(ScopeCode::NotTruth, *at)),
+        Expr::Sub { at, .. } => Err(refused(ScopeCode::NotTruth, *at)),
+    }
+}
+
+/// A predicate or a called name.
+#[cycle(resolve)]
+#[inline(never)]
+#[tactic(auto, using(crate::proofs::Conditions::laws))]
+fn predicate<'k, 'a>(
+    alloc: Global,
+    sym: u32,
+    args: &'a [Expr],
+    known: &'k [Known<'a>],
+    levels: &Levels<'_, 'k, 'a>,
+) -> Result<RCond, ScopeFault>
+    ensures fine { IfOk result (λ v. values_fault (relations_of known.now) (levels_of levels.now) args.now ≡ None) }
+    ensures value { IfOk result (λ v. v ≡ condition.Pred sym (values_listed (relations_of known.now) (levels_of levels.now) args.now)) }
+    ensures err { IfErr result (λ f. IsCause f (values_fault (relations_of known.now) (levels_of levels.now) args.now)) }
+{
+    Ok(RCond::Pred {
+        sym,
+        args: resolve_values(alloc, args, known, levels)?,
+    })
+}
+
+/// An EXISTS at this place.
+#[cycle(resolve)]
+#[inline(never)]
+#[tactic(auto, using(crate::proofs::Conditions::laws))]
+fn resolve_exists<'k, 'a>(
+    alloc: Global,
+    query: &'a Boxed<Query>,
+    at: u32,
+    known: &'k [Known<'a>],
+    levels: &Levels<'_, 'k, 'a>,
+) -> Result<RCond, ScopeFault>
+    ensures fine { IfOk result (λ v. truth_fault (relations_of known.now) (levels_of levels.now) (expr.Exists query.now at) ≡ None) }
+    ensures value { IfOk result (λ v. v ≡ condition.Exists (resolved query.now (relations_of known.now) (levels_of levels.now))) }
+    ensures err { IfErr result (λ f. IsCause f (truth_fault (relations_of known.now) (levels_of levels.now) (expr.Exists query.now at))) }
+{
+    check_subquery(at, levels)?;
+    let query = resolve_query(alloc, query.get(), known, levels)?;
+    Ok(RCond::Exists { query: query.tree })
+}
+
+#[cycle(resolve)]
+#[inline(never)]
+#[tactic(auto, using(crate::proofs::Conditions::laws))]
+fn resolve_and<'k, 'a>(
+    alloc: Global,
+    parts: &'a [Expr],
+    known: &'k [Known<'a>],
+    levels: &Levels<'_, 'k, 'a>,
+) -> Result<RCond, ScopeFault>
+    ensures fine { IfOk result (λ v. truths_fault (relations_of known.now) (levels_of levels.now) parts.now ≡ None) }
+    ensures value { IfOk result (λ v. v ≡ conjunction (conjuncts_listed (relations_of known.now) (levels_of levels.now) parts.now)) }
+    ensures err { IfErr result (λ f. IsCause f (truths_fault (relations_of known.now) (levels_of levels.now) parts.now)) }
+{
+    let mut conditions = Vec::new(alloc);
+    add_conjuncts_of_each(&mut conditions, alloc, parts, known, levels)?;
+    Ok(conjunction(conditions))
+}
+
+#[cycle(resolve)]
+#[inline(never)]
+#[tactic(auto, using(crate::proofs::Conditions::laws))]
+fn resolve_part<'k, 'a>(
+    alloc: Global,
+    part: &'a Boxed<Expr>,
+    known: &'k [Known<'a>],
+    levels: &Levels<'_, 'k, 'a>,
+) -> Result<Boxed<RCond>, ScopeFault>
+    ensures fine { IfOk result (λ v. truth_fault (relations_of known.now) (levels_of levels.now) part.now ≡ None) }
+    ensures value { IfOk result (λ v. v ≡ conjunction (conjuncts part.now (relations_of known.now) (levels_of levels.now))) }
+    ensures err { IfErr result (λ f. IsCause f (truth_fault (relations_of known.now) (levels_of levels.now) part.now)) }
+{
+    let part = resolve_condition(alloc, part.get(), known, levels)?;
+    Ok(Boxed::new(alloc, part)?)
+}
+
+#[cycle(resolve)]
+#[tactic(auto, using(crate::proofs::Conditions::laws))]
+fn resolve_conditions<'k, 'a>(
+    alloc: Global,
+    parts: &'a [Expr],
+    known: &'k [Known<'a>],
+    levels: &Levels<'_, 'k, 'a>,
+) -> Result<List<RCond>, ScopeFault>
+    ensures fine { IfOk result (λ v. truths_fault (relations_of known.now) (levels_of levels.now) parts.now ≡ None) }
+    ensures value { IfOk result (λ v. v ≡ conditions_listed (relations_of known.now) (levels_of levels.now) parts.now) }
+    ensures err { IfErr result (λ f. IsCause f (truths_fault (relations_of known.now) (levels_of levels.now) parts.now)) }
+{
+    let mut conditions = Vec::with_capacity(alloc, parts.len())?;
+    for part in parts {
+        let condition = resolve_condition(alloc, part, known, levels)?;
+        conditions.push(condition)?;
+    }
+    Ok(List::from_vec(conditions))
+}
+
+/// Appends the conjuncts of a condition: those of an AND's parts, and else the condition itself.
+#[cycle(resolve)]
+#[tactic(auto, using(crate::proofs::Conditions::laws))]
+fn add_conjuncts<'k, 'a>(
+    conditions: &mut Vec<RCond>,
+    alloc: Global,
+    expr: &'a Expr,
+    known: &'k [Known<'a>],
+    levels: &Levels<'_, 'k, 'a>,
+) -> Result<(), ScopeFault>
+    ensures fine { OnOk result (truth_fault (relations_of known.now) (levels_of levels.now) expr.now ≡ None) }
+    ensures value { OnOk result (conditions.new.items ≡ conditions.old.items ++ conjuncts expr.now (relations_of known.now) (levels_of levels.now)) }
+    ensures err { IfErr result (λ f. IsCause f (truth_fault (relations_of known.now) (levels_of levels.now) expr.now)) }
+{
+    match conjuncts_of(expr) {
+        Some(parts) => add_conjuncts_of_each(conditions, alloc, parts, known, levels),
+        None => {
+            let condition = resolve_condition(alloc, expr, known, levels)?;
+            conditions.push(condition)?;
+            Ok(())
+        }
+    }
+}
+
+#[cycle(resolve)]
+#[tactic(auto, using(crate::proofs::Conditions::laws))]
+fn add_conjuncts_of_each<'k, 'a>(
+    conditions: &mut Vec<RCond>,
+    alloc: Global,
+    parts: &'a [Expr],
+    known: &'k [Known<'a>],
+    levels: &Levels<'_, 'k, 'a>,
+) -> Result<(), ScopeFault>
+    ensures fine { OnOk result (truths_fault (relations_of known.now) (levels_of levels.now) parts.now ≡ None) }
+    ensures value { OnOk result (conditions.new.items ≡ conditions.old.items ++ conjuncts_listed (relations_of known.now) (levels_of levels.now) parts.now) }
+    ensures err { IfErr result (λ f. IsCause f (truths_fault (relations_of known.now) (levels_of levels.now) parts.now)) }
+{
+    for part in parts {
+        add_conjuncts(conditions, alloc, part, known, levels)?;
+    }
+    Ok(())
+}
+
+/// Appends the conjuncts of a condition, if one is written.
+#[cycle(resolve)]
+#[inline(never)]
+#[tactic(auto, using(crate::proofs::Conditions::laws))]
+pub fn add_written<'k, 'a>(
+    conditions: &mut Vec<RCond>,
+    alloc: Global,
+    condition: &'a Option<Expr>,
+    known: &'k [Known<'a>],
+    levels: &Levels<'_, 'k, 'a>,
+) -> Result<(), ScopeFault>
+    ensures fine { OnOk result (written_fault (relations_of known.now) (levels_of levels.now) condition.now ≡ None) }
+    ensures value { OnOk result (conditions.new.items ≡ conditions.old.items ++ written_listed (relations_of known.now) (levels_of levels.now) condition.now) }
+    ensures err { IfErr result (λ f. IsCause f (written_fault (relations_of known.now) (levels_of levels.now) condition.now)) }
+{
+    match condition {
+        Some(expr) => add_conjuncts(conditions, alloc, expr, known, levels),
+        None => Ok(()),
+    }
+}
+
+#[cycle(resolve)]
+#[inline(never)]
+#[tactic(auto, using(crate::proofs::Conditions::laws))]
+pub fn resolve_having<'k, 'a>(
+    alloc: Global,
+    condition: &'a Option<Expr>,
+    known: &'k [Known<'a>],
+    levels: &Levels<'_, 'k, 'a>,
+) -> Result<Option<RCond>, ScopeFault>
+    ensures fine { IfOk result (λ v. written_fault (relations_of known.now) (levels_of levels.now) condition.now ≡ None) }
+    ensures value { IfOk result (λ v. v ≡ having_listed (relations_of known.now) (levels_of levels.now) condition.now) }
+    ensures err { IfErr result (λ f. IsCause f (written_fault (relations_of known.now) (levels_of levels.now) condition.now)) }
+{
+    match condition {
+        Some(expr) => Ok(Some(resolve_condition(alloc, expr, known, levels)?)),
+        None => Ok(None),
+    }
+}
