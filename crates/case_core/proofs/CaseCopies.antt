@@ -1,181 +1,130 @@
--- The token with which too much is copied: one that is too many for a part of a case is too many for the case.
-use Rattle.std.proofs.Common.{◌≡◌, ◌+◌, ◌≤◌, ℕ, List, [], ◌∷◌, ◌++◌, ◌⊎◌, None, inl, inr, refl, sym, ◌∙◌, ap, subst, append_assoc, arith}
+-- What a case copies is what its statements and its two queries copy, and where it passes the limit.
+use Rattle.std.proofs.Common.{◌≡◌, ◌≤◌, ◌+◌, ℕ, List, [], ◌∷◌, ◌++◌, refl, ap, arith}
 use Rattle.grammar.specs.Form.{ref}
-use Rattle.grammar.proofs.Cut.{not_nil}
+use Rattle.grammar.specs.Language.{HasFronts}
 use Rattle.sql_lex.specs.Lexemes.{Lexeme}
 use Rattle.sql_model.specs.declared.statement.Statement.{Statement}
 use Rattle.sql_model.specs.declared.tree.Query.{Query}
-use Rattle.sql_read.specs.declared.fault.LimitKind.TheVariants as limit
 use Rattle.sql_read.specs.declared.fault.ReadFault.{ReadFault}
-use Rattle.sql_read.specs.declared.fault.ReadFault.TheVariants.{Lex, Unexpected, LeftOut, TooDeep, Limit, NoMemory}
 use Rattle.sql_read.specs.Cursor.{Cursor}
-use Rattle.sql_read.specs.Eating.{Extends}
-use Rattle.sql_read.specs.Reads.{Gives, Refuses, RefusesWithin, TellsEntries, Told, few_form, relations_too}
+use Rattle.sql_read.specs.Reads.{Gives}
+use Rattle.sql_read.proofs.ReadCopiedSteps.{on_still}
+use Rattle.sql_read.proofs.ReadCopies.{Going, at_start, on_first, on_mapped, on_taken}
+use Rattle.sql_grammar.specs.declared.kinds.Kind.TheVariants as k
+use Rattle.sql_grammar.specs.Numbering.{Built, each}
 use Rattle.sql_grammar.specs.Queries.{most_levels}
-use Rattle.sql_grammar.specs.QueryCopies as queries
-use Rattle.sql_grammar.specs.QueryCopies.{CopiesOf, most_copies}
-use Rattle.sql_grammar.specs.QueryGrammar.{The, query}
-use Rattle.sql_grammar.proofs.Copies.{whole_copies}
-use Rattle.sql_grammar.proofs.CopyOnce.{never_too_many}
-use Rattle.schema_read.specs.CopiedStatements.{CopiedToFault, LastTooMany, NoneTooMany, TooMany}
+use Rattle.sql_grammar.specs.QueryCopies.{most_copies}
+use Rattle.sql_grammar.specs.QueryGrammar.{query}
+use Rattle.sql_grammar.proofs.PlanPrices.{EvenIn, evenly}
+use Rattle.sql_grammar.proofs.QueryFillings.{Filled, fill_first, fill_map, fill_query, fill_seq, select_one}
+use Rattle.grammar.proofs.Prices.{priced_then_skip}
+use Rattle.schema_read.specs.CopiedStatements.{CopiedToFault, CopiesCounted}
 use Rattle.schema_read.specs.StatementGrammar.{statements}
-use Rattle.schema_read.specs.StatementLimits as of_statements
-use Rattle.schema_read.specs.StatementLimits.{IsTooManyBehind}
-use Rattle.schema_read.proofs.CopiedParts.{passed_tokens}
-use Rattle.schema_read.proofs.CopiedViews.{Spelled, front_told, taken_spelled}
-use Rattle.schema_read.proofs.StatementCopies.{never}
-use Rattle.schema_read.proofs.StatementFronts.{form_has_fronts}
-use Rattle.schema_read.proofs.Unlimited.{gl}
+use Rattle.schema_read.proofs.CopiedParts.{copied_to, counted_before}
+use Rattle.schema_read.proofs.PassedCopies.{LastBeyond, counted_within, last_beyond}
+use Rattle.schema_read.proofs.StatementCompletions.{Completed, Goes, completed, fill_semicolon, fill_statements, goes_first, goes_map, goes_query, goes_seq, goes_statements, goes_token}
+use Rattle.schema_read.proofs.StatementCopies.{free, fronts_from, none_beyond, passed_once, statements_even, whole_within}
+use Rattle.sql_read.specs.Copied.{CopiesTooMuch}
+use Rattle.case_core.specs.declared.text.CaseText.{CaseText}
 use Rattle.case_core.specs.CaseGrammar as g
-use Rattle.case_core.specs.CaseGrammar.{one_query}
-use Rattle.case_core.specs.Cases.{CopiesFew, IsCopyTooMany}
+use Rattle.case_core.specs.Cases.{CopiesFew, IsCopyTooMany, cases, few_copy_cases}
 use Rattle.case_core.proofs.CaseCounts.{ReadsQuery, StatementsRead}
-use Rattle.case_core.proofs.CaseFewCopies.{InFirst, InSecond, behind_first, front_begins, in_queries, in_statements, no_second_behind, not_in_first, whole_begins}
 
--- in no whole query that is within the limit a token is too many
-pub none_in_query : {start here after : Cursor} {value : Query} → Gives (ref query) most_levels (λ read. read) start start value here → after ≡ here → NoneTooMany (queries.IsCopyTooMany start.copies) start after
-none_in_query {start} {here} {after} r s = record {
-  none = λ l x y t e m.
-      let w = taken_spelled r.takes in
-      never_too_many start.copies r.read.copies x y t
-      (subst (λ z. CopiesOf z r.read.copies)
-      (passed_tokens start.tokens w.taken x y here.tokens t w.whole (subst (λ z. start.tokens ≡ x ++ t ∷ (y ++ z.tokens)) s e)) (whole_copies w.taken r.read w.spelled))
-      (omega (arith, l, r.builds.copies, ap (λ z. z.copies) s)) m;
-}
+-- ---- cases as forms
+
+fill_ended : Filled g.ended_query select_one
+fill_ended = fill_first fill_query fill_semicolon
+
+fill_two : Filled g.two_queries (select_one, select_one)
+fill_two = fill_seq fill_ended fill_ended
+
+ended_even : EvenIn g.ended_query (λ read. read.copies)
+ended_even = priced_then_skip evenly (evenly.of_ref query) (free _)
+
+pub case_even : EvenIn g.case (λ read. read.copies)
+case_even = evenly.of_map g.case_of (λ read. read.copies) (evenly.of_seq statements_even (evenly.of_seq ended_even ended_even)) (λ v. refl)
+
+goes_ended : Goes g.ended_query
+goes_ended = goes_first goes_query (goes_token k.Semicolon) fill_semicolon
+
+pub case_completed : (ts : List Lexeme) → cases.front ts → Completed g.case ts
+case_completed = completed (goes_map g.case_of (goes_seq goes_statements (goes_seq goes_ended goes_ended fill_ended) fill_two)) (fill_case)
+  where
+    fill_case : Filled g.case (g.case_of (each [], (select_one, select_one)))
+    fill_case = fill_map g.case_of (fill_seq fill_statements fill_two)
+
+abbrev copies_of : Built CaseText → ℕ
+copies_of read = read.copies
+
+-- ---- the limit
+
+pub copied_fronts : (copied : ℕ) (x : List Lexeme) → (few_copy_cases copied).front x → HasFronts (few_copy_cases copied)
+copied_fronts copied x s = fronts_from g.case refl copies_of case_even case_completed copied x s
+
+pub copied_once : (copied : ℕ) (x more y others : List Lexeme) (t u : Lexeme) → IsCopyTooMany copied x t → IsCopyTooMany copied y u → x ++ t ∷ more ≡ y ++ u ∷ others → (x ≡ y) × (t ≡ u)
+copied_once copied x more y others t u m n e = passed_once g.case refl copies_of case_even case_completed copied x more y others t u m.within m.beyond n.within n.beyond e
+
+pub few_copies : (copied : ℕ) (ts : List Lexeme) → (few_copy_cases copied).front ts → CopiesFew copied ts
+few_copies copied ts s x more t e m = none_beyond g.case refl copies_of case_even case_completed copied ts x more t s e m.beyond
+
+-- a whole case
+pub whole_few : (copied : ℕ) (ts : List Lexeme) (read : Built CaseText) → cases.spells ts read → copied + read.copies ≤ most_copies → (few_copy_cases copied).front ts
+whole_few copied ts read s l = whole_within g.case refl copies_of case_even case_completed copied ts read (s, l)
 
 -- what a refusal says of copies
 abbrev pub CopiedAll : Cursor → ReadFault → Cursor → Type 0
-CopiedAll before fault after = CopiedToFault (IsCopyTooMany before.copies) before fault after
+CopiedAll before fault after = CopiedToFault g.case (λ read. read) before before fault after
 
--- with none of the tokens that were passed too much is copied
-pub few_copies : {before after : Cursor} (taken : List Lexeme) → before.tokens ≡ taken ++ after.tokens → NoneTooMany (IsCopyTooMany before.copies) before after → after.copies ≤ most_copies
-    → CopiesFew before.copies taken
-few_copies {before} {after} taken e n l x y t i m = n.none l x y t (e ∙ (ap (λ z. z ++ after.tokens) i ∙ append_assoc x (t ∷ y) after.tokens)) m
+abbrev pub Counted : Cursor → Cursor → Type 0
+Counted before after = CopiesCounted g.case (λ read. read) before before after
 
--- from a part that was refused, which begins here, to the case
-told_by : {A : Type 0} {limits : Told} {f : The A} {levels : ℕ} {P : TooMany} {here start after : Cursor} → TellsEntries limits → (fault : ReadFault) → RefusesWithin limits f (few_form f) levels here fault after
-    → CopiedToFault P here fault after → (LastTooMany P here after → LastTooMany (IsCopyTooMany start.copies) start after)
-    → (NoneTooMany P here after → (taken : List Lexeme) → here.tokens ≡ taken ++ after.tokens → (gl f).front taken → NoneTooMany (IsCopyTooMany start.copies) start after) → CopiedAll start fault after
-told_by n (Limit limit.Copies) r s l k = record { says = l s.says }
-told_by n (Lex fault) r s l k = front_told n (Lex fault) r (λ z. cc) (k s.says)
-told_by n (Unexpected at) r s l k = front_told n (Unexpected at) r (λ z. cc) (k s.says)
-told_by n (LeftOut word at) r s l k = front_told n (LeftOut word at) r (λ z. cc) (k s.says)
-told_by n (TooDeep at) r s l k = front_told n (TooDeep at) r (λ z. cc) (k s.says)
-told_by n (Limit limit.Columns) r s l k = front_told n (Limit limit.Columns) r (λ z. cc) (k s.says)
-told_by n (Limit limit.Entries) r s l k = front_told n (Limit limit.Entries) r (λ z. cc) (k s.says)
-told_by n (Limit limit.Relations) r s l k = front_told n (Limit limit.Relations) r (λ z. cc) (k s.says)
-told_by n NoMemory r s l k = record { says = tt }
+pub counted_few : {before after : Cursor} → Counted before after → after.copies ≤ most_copies → (taken : List Lexeme) → before.tokens ≡ taken ++ after.tokens → CopiesFew before.copies taken
+counted_few {before} {after} r most taken e = few_copies before.copies taken (counted_within g.case refl case_even case_completed before after r most taken e)
 
-last_in : {P Q : TooMany} {a b : Cursor} → ((x : List Lexeme) (t : Lexeme) → P x t → Q x t) → LastTooMany P a b → LastTooMany Q a b
-last_in i r = record { taken = r.taken; token = r.token; whole = r.whole; too_many = i r.taken r.token r.too_many }
+pub last_copied : {before after : Cursor} → CopiesTooMuch g.case (λ read. read) before before after → LastBeyond g.case refl case_even case_completed before after
+last_copied {before} {after} r = last_beyond g.case refl case_even case_completed before after r
 
--- in a query behind what was read
-behind_head : {A : Type 0} (head : The A) (count : A → ℕ) {value : A} {a b c : Cursor} → Spelled head a.tokens value b.tokens → b.copies ≡ count value
-    → LastTooMany (queries.IsCopyTooMany b.copies) b c → LastTooMany (IsTooManyBehind head count) a c
-behind_head head count {value} {a} {b} {c} t i r = record {
-  taken = t.taken ++ r.taken;
-  token = r.token;
-  whole = t.whole ∙ (ap (λ z. t.taken ++ z) r.whole ∙ sym (append_assoc t.taken r.taken (r.token ∷ c.tokens)));
-  too_many = record {
-    words = t.taken;
-    of_query = r.taken;
-    whole = refl;
-    read = value;
-    spelled = t.spelled;
-    too_many = subst (λ z. queries.IsCopyTooMany z r.taken r.token) i r.too_many;
-  };
-}
+-- ---- one query
+
+pub to_query : (start : Cursor) → Going (ref query) start.tokens g.ended_query start.tokens (λ v. v)
+to_query start = on_first (on_mapped at_start) fill_semicolon
+
+-- its semicolon is missed
+pub at_semicolon : {start here after : Cursor} {value : Query} → Gives (ref query) most_levels (λ read. read) start start value here → after ≡ here → CopiesCounted g.ended_query (λ read. read) start start after
+at_semicolon r s = counted_before (on_still (on_taken most_levels (on_mapped at_start) r.takes.took) s) fill_semicolon (omega (arith, r.builds.copies, ap (λ z. z.copies) s))
 
 -- ---- statements
 
-none_in_statements : {a b : Cursor} → NoneTooMany (of_statements.IsCopyTooMany a.copies) a b → (taken : List Lexeme) → a.tokens ≡ taken ++ b.tokens → (gl statements).front taken
-    → NoneTooMany (IsCopyTooMany a.copies) a b
-none_in_statements {a} {b} n taken e f = record {
-  none = λ l x y t i m. n.none l x y t i (in_statements a.copies x y t (subst (gl statements).front (passed_tokens a.tokens taken x y b.tokens t e i) f) m);
-}
-
-pub statements_copied : {a b : Cursor} (fault : ReadFault) → RefusesWithin relations_too statements (few_form statements) most_levels a fault b → CopiedToFault (of_statements.IsCopyTooMany a.copies) a fault b → CopiedAll a fault b
-statements_copied fault r s = told_by tt fault r s (last_in (λ x u m. inl m)) none_in_statements
+pub statements_copied : {a b : Cursor} (fault : ReadFault) → CopiedToFault statements (λ read. read) a a fault b → CopiedAll a fault b
+statements_copied {a} fault s = copied_to fault (on_first (on_mapped at_start) fill_two) (λ v. alone a.copies v.copies) s
+  where
+    alone : (n v : ℕ) → n + (v + (0 + 0)) ≡ n + v
+    alone n v = omega arith
 
 module _ {a b : Cursor} {list : List Statement} (s : StatementsRead a list b) where
-  words : Spelled statements a.tokens s.reads.read b.tokens
-  words = taken_spelled s.reads.takes
-
-  copies : b.copies ≡ a.copies + s.reads.read.copies
-  copies = s.reads.builds.copies
+  to_queries : Going g.two_queries b.tokens g.case a.tokens (λ queries. g.case_of (s.reads.read, queries))
+  to_queries = on_taken most_levels (on_mapped at_start) s.reads.takes.took
 
   -- no query was read
-  pub none_behind : NoneTooMany (IsCopyTooMany a.copies) a b
-  none_behind = none_in_statements (record {
-    none = λ l x y t i m. never a.copies words.taken s.reads.read words.spelled (omega (arith, l, copies)) x y t (passed_tokens a.tokens words.taken x y b.tokens t words.whole i) m;
-  }) words.taken words.whole ((form_has_fronts None statements).spelled words.taken s.reads.read words.spelled)
+  pub behind_statements : Counted a b
+  behind_statements = counted_before to_queries fill_two (omega (arith, s.reads.builds.copies))
 
-  -- ---- the first query
-
-  module _ {c : Cursor} (y : Extends b c) where
-    none_in_first : NoneTooMany (queries.IsCopyTooMany b.copies) b c → (taken : List Lexeme) → b.tokens ≡ taken ++ c.tokens → (gl g.ended_query).front taken → NoneTooMany (IsCopyTooMany a.copies) a c
-    none_in_first n taken e f = record { none = none }
-      where
-        none : c.copies ≤ most_copies → (x z : List Lexeme) (t : Lexeme) → a.tokens ≡ x ++ t ∷ (z ++ c.tokens) → IsCopyTooMany a.copies x t → ⊥
-        none l x z t i m =
-            let whole = words.whole ∙ (ap (λ k. words.taken ++ k) e ∙ sym (append_assoc words.taken taken c.tokens)) in
-            let passed = passed_tokens a.tokens (words.taken ++ taken) x z c.tokens t whole i in
-            at (in_queries a.copies words.taken taken x z t s.reads.read words.spelled (front_begins taken f) passed (omega (arith, l, y.copies, copies)) m)
-          where
-            at : InFirst (a.copies + s.reads.read.copies) taken z t ⊎ InSecond (a.copies + s.reads.read.copies) taken z t → ⊥
-            at (inl q) =
-                n.none l q.of_query z t (e ∙ (ap (λ k. k ++ c.tokens) q.whole ∙ append_assoc q.of_query (t ∷ z) c.tokens))
-                (subst (λ k. queries.IsCopyTooMany k q.of_query t) (sym copies) q.too_many)
-            at (inr q) = no_second_behind (a.copies + s.reads.read.copies) taken z t f q
-
-    pub first_copied : (fault : ReadFault) → Refuses g.ended_query most_levels b fault c → CopiedToFault (queries.IsCopyTooMany b.copies) b fault c → CopiedAll a fault c
-    first_copied fault r m =
-        told_by tt fault r m (λ q. last_in (λ x u k. inr (inl k)) (behind_head statements (λ read. a.copies + read.copies) words copies q)) none_in_first
-
-  -- ---- the second query
+  pub first_copied : {c : Cursor} (fault : ReadFault) → CopiedToFault g.ended_query (λ read. read) b b fault c → CopiedAll a fault c
+  first_copied fault m = copied_to fault (on_first to_queries fill_ended) (λ v. behind v.copies b.copies s.reads.read.copies s.reads.builds.copies) m
+    where
+      behind : (v m r : ℕ) → m ≡ a.copies + r → a.copies + (r + (v + 0)) ≡ m + v
+      behind v m r i = omega (arith, i)
 
   module _ {c : Cursor} {left : Query} (p : ReadsQuery b left c) where
-    one : Spelled g.ended_query b.tokens p.read c.tokens
-    one = taken_spelled p.takes
-
-    copies_with_first : c.copies ≡ (a.copies + s.reads.read.copies) + p.read.copies
-    copies_with_first = omega (arith, copies, p.builds.copies)
-
-    -- the token stands behind the first query
-    in_rest : (r x z : List Lexeme) (t : Lexeme) → c.tokens ≡ r → a.tokens ≡ x ++ t ∷ z → c.copies ≤ most_copies → IsCopyTooMany a.copies x t → InFirst c.copies r z t
-    in_rest r x z t e i l m =
-        at (in_queries a.copies words.taken (one.taken ++ r) x z t s.reads.read words.spelled (whole_begins one.taken r p.read one.spelled)
-        (sym (words.whole ∙ ap (λ k. words.taken ++ k) (one.whole ∙ ap (λ k. one.taken ++ k) e)) ∙ i) (omega (arith, l, copies_with_first)) m)
-      where
-        at : InFirst (a.copies + s.reads.read.copies) (one.taken ++ r) z t ⊎ InSecond (a.copies + s.reads.read.copies) (one.taken ++ r) z t → InFirst c.copies r z t
-        at (inl q) = absurd (not_in_first (a.copies + s.reads.read.copies) one.taken r z t p.read one.spelled (omega (arith, l, copies_with_first)) q)
-        at (inr q) = subst (λ k. InFirst k r z t) (sym copies_with_first) (behind_first (a.copies + s.reads.read.copies) one.taken r z t p.read one.spelled q)
-
-    module _ {d : Cursor} (y : Extends c d) where
-      none_in_second : NoneTooMany (queries.IsCopyTooMany c.copies) c d → NoneTooMany (IsCopyTooMany a.copies) a d
-      none_in_second n = record {
-        none = λ l x z t i m. let q = in_rest c.tokens x (z ++ d.tokens) t refl i (omega (arith, l, y.copies)) m in n.none l q.of_query z t q.whole q.too_many;
-      }
-
-      pub second_copied : (fault : ReadFault) → Refuses g.ended_query most_levels c fault d → CopiedToFault (queries.IsCopyTooMany c.copies) c fault d → CopiedAll a fault d
-      second_copied fault r m =
-          told_by tt fault r m (λ q. last_in (λ x u k. inr (inr k)) (behind_head one_query (λ read. a.copies + (read.0.copies + read.1.copies)) one_taken (omega (arith, copies, p.builds.copies)) q))
-          (λ n taken e f. none_in_second n)
-        where
-          one_taken : Spelled one_query a.tokens (s.reads.read, p.read) c.tokens
-          one_taken = record {
-            taken = words.taken ++ one.taken;
-            whole = words.whole ∙ (ap (λ k. words.taken ++ k) one.whole ∙ sym (append_assoc words.taken one.taken c.tokens));
-            spelled = (words.taken, one.taken, refl, words.spelled, one.spelled);
-          }
+    to_second : Going g.ended_query c.tokens g.case a.tokens (λ right. g.case_of (s.reads.read, (p.read, right)))
+    to_second = on_taken most_levels to_queries p.takes.took
 
     -- no second query was read
-    pub none_behind_first : c.tokens ≡ [] → c.copies ≤ most_copies → CopiesFew a.copies a.tokens
-    none_behind_first e l x z t i m = let q = in_rest [] x z t e i l m in not_nil q.of_query z t (sym q.whole)
+    pub behind_first : Counted a c
+    behind_first = counted_before to_second fill_ended (omega (arith, s.reads.builds.copies, p.builds.copies))
 
-    -- two were
-    pub none_behind_second : {d : Cursor} {right : Query} → ReadsQuery c right d → d.copies ≤ most_copies → CopiesFew a.copies a.tokens
-    none_behind_second {d} r l x z t i m =
-        let w = taken_spelled r.takes in
-        let q = in_rest (w.taken ++ d.tokens) x z t w.whole i (omega (arith, l, r.builds.copies)) m in
-        not_in_first c.copies w.taken d.tokens z t r.read w.spelled (omega (arith, l, r.builds.copies)) q
+    pub second_copied : {d : Cursor} (fault : ReadFault) → CopiedToFault g.ended_query (λ read. read) c c fault d → CopiedAll a fault d
+    second_copied fault m = copied_to fault to_second (λ v. behind v.copies b.copies c.copies s.reads.read.copies p.read.copies s.reads.builds.copies p.builds.copies) m
+      where
+        behind : (v m n r o : ℕ) → m ≡ a.copies + r → n ≡ m + o → a.copies + (r + (o + v)) ≡ n + v
+        behind v m n r o i j = omega (arith, i, j)

@@ -1,5 +1,5 @@
 -- The steps of the reader of a case: statements, the first query and the second, and what it answers behind each.
-use Rattle.std.proofs.Common.{◌≡◌, ◌≤◌, ℕ, true, List, [], ◌∷◌, ◌++◌, Some, None, inl, inr, refl, sym, ◌∙◌, ap, subst, append_assoc}
+use Rattle.std.proofs.Common.{◌≡◌, ◌≤◌, ℕ, true, List, [], ◌∷◌, ◌++◌, Some, None, inl, inr, refl, sym, ◌∙◌, ap, subst, append_assoc, arith}
 use Rattle.std.proofs.lemmas.Bool.{false≢true}
 use Rattle.std.proofs.lemmas.List.{append-nil}
 use Rattle.grammar.specs.Reading.{Stops, Took}
@@ -15,7 +15,6 @@ use Rattle.sql_read.specs.Eating.{Extends, IsNextAt, is_next}
 use Rattle.sql_grammar.specs.Kinds.{among}
 use Rattle.sql_grammar.specs.Numbering.{Built}
 use Rattle.sql_grammar.specs.Queries.{most_levels}
-use Rattle.sql_grammar.specs.QueryCopies as queries
 use Rattle.sql_grammar.specs.QueryCopies.{most_copies}
 use Rattle.sql_grammar.specs.QueryGrammar.{The}
 use Rattle.sql_read.specs.Reads.{Refuses, few_form, relations_too}
@@ -31,11 +30,11 @@ use Rattle.case_core.specs.declared.fault.CaseFault.{CaseFault}
 use Rattle.case_core.specs.declared.fault.CaseFault.TheVariants.{Read, Schema, Scope, QueriesDiffer, NotTwoQueries, NoMemory}
 use Rattle.case_core.specs.declared.text.CaseText.{CaseText}
 use Rattle.case_core.specs.CaseGrammar as g
-use Rattle.case_core.specs.Cases.{IsShallow, KeepsCounts, cases, shallow_cases, within}
+use Rattle.case_core.specs.Cases.{IsShallow, KeepsCounts, cases, few_copy_cases, shallow_cases, within}
 use Rattle.case_core.specs.ReadingCases.{IsEnded, IsMore, IsNoEnd, IsTrailing, RefusesCase, TakesCase}
 use Rattle.case_core.specs.Refusals.{GoesOnBehind, Says}
 use Rattle.case_core.specs.Wrapping.{of_read}
-use Rattle.case_core.proofs.CaseCopies.{CopiedAll, few_copies, first_copied, none_behind, none_behind_first, none_behind_second, second_copied}
+use Rattle.case_core.proofs.CaseCopies.{CopiedAll, behind_first, behind_statements, copied_fronts, counted_few, few_copies, first_copied, second_copied, whole_few}
 use Rattle.case_core.proofs.CaseCounts.{CountsRefused, ReadsQuery, StatementsRead, first_counted, keeps_behind, keeps_behind_first, keeps_counts, second_counted, taken_within, within_fronts}
 use Rattle.case_core.proofs.CaseFronts.{fronts, kept_to, shallow_fronts, shallow_included, third_there}
 use Rattle.case_core.proofs.Outcomes.{Behind, RefusesAll, TakesAll, more_behind, not_two_excluded, refusal_here, refused, says_next, took}
@@ -78,13 +77,13 @@ module _ {a b : Cursor} {list : List Statement} (s : StatementsRead a list b) (x
           );
           shallow = kept_to shallow_cases shallow_fronts a.tokens t.taken [] (all ∙ sym (append-nil t.taken)) begun tt;
           few = keeps_counts (keeps_behind s entries) t.taken t.whole (stops_at_end t.taken b.tokens n.tokens);
-          few_copies = few_copies a.tokens (sym (append-nil a.tokens) ∙ ap (λ z. a.tokens ++ z) (sym n.tokens)) (none_behind s) most;
+          few_copies = counted_few (behind_statements s) most a.tokens (sym (append-nil a.tokens) ∙ ap (λ z. a.tokens ++ z) (sym n.tokens));
         };
   }
 
-  pub first_refused : IsMore b → {c : Cursor} {fault : ReadFault} → Refuses g.ended_query most_levels b fault c → CopiedToFault (queries.IsCopyTooMany b.copies) b fault c → Extends b c → RefusesCase a (of_read fault) c
+  pub first_refused : IsMore b → {c : Cursor} {fault : ReadFault} → Refuses g.ended_query most_levels b fault c → CopiedToFault g.ended_query (λ read. read) b b fault c → Extends b c → RefusesCase a (of_read fault) c
   first_refused more r m y =
-      refused (refuses (first_part queries_left refl) (refused_more with_both r)) (first_counted s r) (first_copied s y _ r m) (x ⨟ y) (inl (behind s.reads.takes x more))
+      refused (refuses (first_part queries_left refl) (refused_more with_both r)) (first_counted s r) (first_copied s _ m) (x ⨟ y) (inl (behind s.reads.takes x more))
       (inr (refuses (blocks (second whole refl s.reads.takes)) (refused_more with_both r)))
 
 -- ---- one query
@@ -119,13 +118,13 @@ module _ {a b c : Cursor} {list : List Statement} {left : Query} (s : Statements
             ));
             shallow = kept_to shallow_cases shallow_fronts a.tokens t.taken [] (all ∙ sym (append-nil t.taken)) begun tt;
             few = keeps_counts (keeps_behind_first s p entries) t.taken t.whole (stops_at_end t.taken c.tokens n.tokens);
-            few_copies = none_behind_first s p n.tokens most;
+            few_copies = counted_few (behind_first s p) most a.tokens (sym (append-nil a.tokens) ∙ ap (λ z. a.tokens ++ z) (sym n.tokens));
           };
     }
 
-    pub second_refused : IsMore b → IsMore c → {d : Cursor} {fault : ReadFault} → Refuses g.ended_query most_levels c fault d → CopiedToFault (queries.IsCopyTooMany c.copies) c fault d → Extends c d → RefusesCase a (of_read fault) d
+    pub second_refused : IsMore b → IsMore c → {d : Cursor} {fault : ReadFault} → Refuses g.ended_query most_levels c fault d → CopiedToFault g.ended_query (λ read. read) c c fault d → Extends c d → RefusesCase a (of_read fault) d
     second_refused first_more more r m z =
-        refused (refuses (blocks (query_left x)) (refused_more with_both r)) (second_counted s p r) (second_copied s p z _ r m) ((x ⨟ y) ⨟ z) (inl (behind s.reads.takes x first_more))
+        refused (refuses (blocks (query_left x)) (refused_more with_both r)) (second_counted s p r) (second_copied s p _ m) ((x ⨟ y) ⨟ z) (inl (behind s.reads.takes x first_more))
         (inl (behind one_taken (x ⨟ y) more))
 
 -- ---- two queries
@@ -149,6 +148,9 @@ module _ {a b c d : Cursor} {list : List Statement} {left right : Query} (s : St
 
   spelled : cases.spells taken value
   spelled = shallow_included.spells taken value the_case.spelled
+
+  case_few : d.copies ≤ most_copies → (few_copy_cases a.copies).front taken
+  case_few most = whole_few a.copies taken value spelled (omega (arith, most, s.reads.builds.copies, p.builds.copies, q.builds.copies))
 
   is_shallow : IsShallow a.tokens
   is_shallow = kept_to shallow_cases shallow_fronts a.tokens taken d.tokens the_case.whole (shallow_fronts.spelled taken value the_case.spelled) the_case.stops
@@ -184,7 +186,7 @@ module _ {a b c d : Cursor} {list : List Statement} {left right : Query} (s : St
           not_counted = not_two_excluded a (more_behind (behind s.reads.takes x first_more)) (more_behind (behind (one_taken s p) (x ⨟ y) second_more)) (λ at third. no_third third);
           shallow = is_shallow;
           few = is_counted;
-          few_copies = λ u v t i. none_behind_second s p q most u (v ++ d.tokens) t (the_case.whole ∙ (ap (λ k. k ++ d.tokens) i ∙ append_assoc u (t ∷ v) d.tokens));
+          few_copies = few_copies a.copies taken (case_few most);
           refusal = refl;
         }))
       where
@@ -215,7 +217,7 @@ module _ {a b c d : Cursor} {list : List Statement} {left right : Query} (s : St
       counted = inr (inr (n.0, third_behind at d.tokens refl n.1.begins n.1.place));
       shallow = is_shallow;
       few = is_counted;
-      few_copies = none_behind_second s p q most;
+      few_copies = kept_to (few_copy_cases a.copies) (copied_fronts a.copies taken (case_few most)) a.tokens taken d.tokens the_case.whole (case_few most) the_case.stops;
     }
     says_no_end first_more second_more NoMemory n most = tt
 

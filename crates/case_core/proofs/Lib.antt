@@ -1,6 +1,5 @@
 pub mod CaseFronts
 pub mod CaseCounts
-pub mod CaseFewCopies
 pub mod CaseCopies
 pub mod Outcomes
 pub mod CaseSteps

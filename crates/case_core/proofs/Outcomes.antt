@@ -12,6 +12,7 @@ use Rattle.sql_read.specs.declared.fault.ReadFault.{ReadFault}
 use Rattle.sql_read.specs.declared.fault.ReadFault.TheVariants.{Lex, Unexpected, LeftOut, TooDeep, Limit, NoMemory}
 use Rattle.sql_read.specs.declared.fault.LimitKind.{LimitKind}
 use Rattle.sql_read.specs.declared.fault.LimitKind.TheVariants as limit
+use Rattle.sql_read.specs.Copied.{CopiesTooMuch}
 use Rattle.sql_read.specs.Cursor.{Cursor, next}
 use Rattle.sql_read.specs.Eating.{Extends, IsNextAt}
 use Rattle.sql_grammar.specs.Queries.{most_levels}
@@ -20,7 +21,6 @@ use Rattle.sql_grammar.specs.QueryGrammar.{The}
 use Rattle.sql_read.specs.Reads.{Exceeds, Fails, RefusesWithin, Spends, TakesWithin, few_form, relations_too}
 use Rattle.sql_read.specs.Refusals.{is_left_out_word, refusal, refusal_of}
 use Rattle.sql_read.proofs.ReadSteps.{same_taken}
-use Rattle.schema_read.specs.CopiedStatements.{LastTooMany}
 use Rattle.schema_read.specs.Counting.{IsPlaced}
 use Rattle.schema_read.specs.StatementGrammar.{statements}
 use Rattle.schema_read.specs.Statements.{in_plan, of_form}
@@ -28,11 +28,11 @@ use Rattle.schema_read.proofs.CountSteps.{begun_free}
 use Rattle.schema_read.proofs.StatementFronts.{form_has_fronts, known_includes, planned_includes}
 use Rattle.case_core.specs.declared.fault.CaseFault.TheVariants.{Read}
 use Rattle.case_core.specs.CaseGrammar as g
-use Rattle.case_core.specs.Cases.{CopiesFew, IsCopyTooMany, cases, shallow_cases, within}
+use Rattle.case_core.specs.Cases.{CopiesFew, cases, shallow_cases, within}
 use Rattle.case_core.specs.ReadingCases.{IsMore, RefusesCase}
 use Rattle.case_core.specs.Refusals.{GoesOnBehind, HasNotTwoQueries, IsLimited, IsUnfinished, PassesCopies, PassesCount, PassesDepth, Says}
 use Rattle.case_core.specs.Wrapping.{of_read}
-use Rattle.case_core.proofs.CaseCopies.{CopiedAll, few_copies}
+use Rattle.case_core.proofs.CaseCopies.{CopiedAll, counted_few, last_copied}
 use Rattle.case_core.proofs.CaseCounts.{CountsRefused, KeepsAll, few_before, keeps_counts, planned_within, within_same}
 use Rattle.case_core.proofs.CaseFronts.{fronts, kept_to, no_third, shallow_fronts, shallow_included}
 
@@ -198,29 +198,29 @@ module _ {before after : Cursor} {fault : ReadFault} (r : RefusesAll g.case befo
 
 -- ---- a copy that passes its limit
 
-passed_copies : {before after : Cursor} → Spends relations_too g.case (few_form g.case) most_levels before after → LastTooMany (IsCopyTooMany before.copies) before after → KeepsAll before.tokens after.tokens
+passed_copies : {before after : Cursor} → Spends relations_too g.case (few_form g.case) most_levels before after → CopiesTooMuch g.case (λ read. read) before before after → KeepsAll before.tokens after.tokens
     → PassesCopies before.copies before.tokens
-passed_copies {before} {after} s r few = record {
-  taken = r.taken;
-  token = r.token;
-  rest = after.tokens;
-  parts = r.whole;
-  too_many = r.too_many;
-  few = few_before few (r.taken ++ r.token ∷ []) with_token;
-  shallow = subst shallow_cases.front (same_taken before.tokens after.tokens s.goes_on.taken (r.taken ++ r.token ∷ []) s.goes_on.whole with_token) ((shallow_same g.case).there.front _ s.goes_on.begun);
-}
-  where
-    with_token : before.tokens ≡ (r.taken ++ r.token ∷ []) ++ after.tokens
-    with_token = r.whole ∙ sym (append_assoc r.taken (r.token ∷ []) after.tokens)
+passed_copies {before} {after} s c few =
+    let r = last_copied c in
+    let with_token = r.whole ∙ sym (append_assoc r.taken (r.token ∷ []) after.tokens) in
+    record {
+      taken = r.taken;
+      token = r.token;
+      rest = after.tokens;
+      parts = r.whole;
+      too_many = record { goes_on = r.goes_on; within = r.within; beyond = r.beyond };
+      few = few_before few (r.taken ++ r.token ∷ []) with_token;
+      shallow = subst shallow_cases.front (same_taken before.tokens after.tokens s.goes_on.taken (r.taken ++ r.token ∷ []) s.goes_on.whole with_token) ((shallow_same g.case).there.front _ s.goes_on.begun);
+    }
 
 limited : (before after : Cursor) (what : LimitKind) → after.copies ≤ most_copies → RefusesAll g.case before (Limit what) after → CountsRefused before (Limit what) after → CopiedAll before (Limit what) after → IsLimited before.copies before.tokens what
 limited before after limit.Entries l r n c =
     let t = r.says in let e = t.few tt in
-    passes_count before after limit.Entries t.token t.more t.next t.goes_on e (keeps_all r n tt (record { taken = e.taken; whole = e.whole; begun = e.begun })) (λ taken i. few_copies taken i c.says l)
+    passes_count before after limit.Entries t.token t.more t.next t.goes_on e (keeps_all r n tt (record { taken = e.taken; whole = e.whole; begun = e.begun })) (counted_few c.says l)
 limited before after limit.Columns l r n c =
-    let t = r.says in passes_count before after limit.Columns t.token t.more t.next t.goes_on (n.columns.passed refl) (keeps_all r n tt (t.few tt)) (λ taken i. few_copies taken i c.says l)
+    let t = r.says in passes_count before after limit.Columns t.token t.more t.next t.goes_on (n.columns.passed refl) (keeps_all r n tt (t.few tt)) (counted_few c.says l)
 limited before after limit.Relations l r n c =
-    let t = r.says in passes_count before after limit.Relations t.token t.more t.next t.goes_on (n.relations.passed refl) (keeps_all r n tt (t.few tt)) (λ taken i. few_copies taken i c.says l)
+    let t = r.says in passes_count before after limit.Relations t.token t.more t.next t.goes_on (n.relations.passed refl) (keeps_all r n tt (t.few tt)) (counted_few c.says l)
 limited before after limit.Copies l r n c = passed_copies r.says c.says (keeps_all r n tt (r.says.few tt))
 
 -- ---- all refusals
@@ -233,12 +233,12 @@ fails_within r n placed f = let t = f.few tt in keeps_all r n placed (record { t
 says_refused : {before after : Cursor} {fault : ReadFault} → RefusesAll g.case before fault after → CountsRefused before fault after → CopiedAll before fault after → Extends before after
     → Excluded statements before fault after → Excluded g.one_query before fault after → after.copies ≤ most_copies → Says before.copies before.tokens before.fault before.end (of_read fault)
 says_refused {fault = Lex fault} r n c x none one l =
-    unfinished r.says (fails_within r n tt r.says) (λ taken i. few_copies taken i c.says l) x (excluded (λ q. q.says) none) (excluded (λ q. q.says) one)
+    unfinished r.says (fails_within r n tt r.says) (counted_few c.says l) x (excluded (λ q. q.says) none) (excluded (λ q. q.says) one)
 says_refused {fault = Unexpected at} r n c x none one l =
-    unfinished r.says (fails_within r n tt r.says) (λ taken i. few_copies taken i c.says l) x (excluded (λ q. q.says) none) (excluded (λ q. q.says) one)
+    unfinished r.says (fails_within r n tt r.says) (counted_few c.says l) x (excluded (λ q. q.says) none) (excluded (λ q. q.says) one)
 says_refused {fault = LeftOut word at} r n c x none one l =
-    unfinished r.says (fails_within r n tt r.says) (λ taken i. few_copies taken i c.says l) x (excluded (λ q. q.says) none) (excluded (λ q. q.says) one)
-says_refused {fault = TooDeep at} r n c x none one l = passed r.says (keeps_all r n tt (r.says.few tt)) (λ taken i. few_copies taken i c.says l)
+    unfinished r.says (fails_within r n tt r.says) (counted_few c.says l) x (excluded (λ q. q.says) none) (excluded (λ q. q.says) one)
+says_refused {fault = TooDeep at} r n c x none one l = passed r.says (keeps_all r n tt (r.says.few tt)) (counted_few c.says l)
 says_refused {before} {after} {fault = Limit what} r n c x none one l = limited before after what l r n c
 says_refused {fault = NoMemory} r n c x none one l = tt
 

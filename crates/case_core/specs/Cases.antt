@@ -16,7 +16,7 @@ use Rattle.sql_grammar.specs.QueryEntries.{few_rules, most_further}
 use Rattle.schema_read.specs.Declarations.{IsSmall}
 use Rattle.schema_read.specs.StatementGrammar.{statements}
 use Rattle.schema_read.specs.StatementLimits as of_statements
-use Rattle.schema_read.specs.StatementLimits.{IsTooManyBehind, most_relations}
+use Rattle.schema_read.specs.StatementLimits.{most_relations, within_copies}
 use Rattle.schema_read.specs.Statements.{of_form}
 use Rattle.case_core.specs.declared.text.CaseText.{CaseText}
 use Rattle.case_core.specs.CaseGrammar as g
@@ -35,8 +35,8 @@ cases_behind L = map_language g.case_of (seq_language L (of_form None g.two_quer
 abbrev pub few_entry_cases : Language Lexeme (Built CaseText)
 few_entry_cases = form_language kind_of (language kind_of (few_rules most_further)) None g.case
 
--- The cases that keep the limit on this count. Queries have neither columns nor relations to count, and no language of cases keeps the limit
--- on copies.
+-- The cases that keep the limit on this count. Queries have neither columns nor relations to count, and what may be copied goes by what was
+-- copied before (`few_copy_cases`).
 abbrev pub within : LimitKind → Language Lexeme (Built CaseText)
 within limit.Columns = cases_behind (of_statements.within limit.Columns)
 within limit.Entries = few_entry_cases
@@ -73,17 +73,17 @@ IsOneTooMany what = IsFirstBeyond (within what)
 abbrev pub KeepsCounts : List Lexeme → Type 0
 KeepsCounts ts = (what : LimitKind) → KeepsWithin (within what) ts
 
--- With so much copied before the case, the token is the first with which more is copied than may be: in the query of a view, in the first query
--- behind the statements, or in the second one behind both.
+-- with so much copied before them, the cases that copy no more than may be
+abbrev pub few_copy_cases : ℕ → Language Lexeme (Built CaseText)
+few_copy_cases copied = within_copies (λ read. copied + read.copies) cases
+
+-- With so much copied before the case, the token is the first with which more is copied than may be.
 abbrev pub IsCopyTooMany : ℕ → List Lexeme → Lexeme → Type 0
-IsCopyTooMany copied before token =
-    of_statements.IsCopyTooMany copied before token
-    ⊎ (IsTooManyBehind statements (λ read. copied + read.copies) before token
-    ⊎ IsTooManyBehind g.one_query (λ read. copied + (read.0.copies + read.1.copies)) before token)
+IsCopyTooMany copied = IsFirstBeyond (few_copy_cases copied)
 
 -- with none of these tokens too much is copied
 abbrev pub CopiesFew : ℕ → List Lexeme → Type 0
-CopiesFew copied ts = (before after : List Lexeme) (token : Lexeme) → ts ≡ before ++ token ∷ after → IsCopyTooMany copied before token → ⊥
+CopiesFew copied = KeepsWithin (few_copy_cases copied)
 
 -- The text is blanks, comments and tokens, and these spell the statements and the two queries; at its end the literals and called
 -- names have these numbers.

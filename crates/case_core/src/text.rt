@@ -4,7 +4,6 @@ ghost use Rattle.data_model.specs.Lists.{Each};
 ghost use Rattle.sql_read.specs.Cursor.{numbers_of};
 ghost use Rattle.sql_read.specs.Eating.{Extends};
 ghost use Rattle.sql_grammar.specs.Queries.{most_levels};
-ghost use Rattle.sql_grammar.specs.QueryCopies.{IsCopyTooMany};
 ghost use Rattle.sql_read.specs.Reads.{Reads};
 ghost use Rattle.schema_read.specs.CopiedStatements.{Copied};
 ghost use Rattle.schema_read.specs.Declarations.{IsSmall};
@@ -65,7 +64,7 @@ fn case_text(alloc: Global, tokens: &mut Tokens<'_>, end: u32) -> Result<CaseTex
 /// `query ;`
 fn ended_query(alloc: Global, tokens: &mut Tokens<'_>) -> Result<Query, ReadFault>
     ensures reads { Reads g.ended_query most_levels (λ read. read) tokens.old tokens.old result tokens.new }
-    ensures copied { Copied (IsCopyTooMany tokens.old.copies) tokens.old result tokens.new }
+    ensures copied { Copied g.ended_query (λ read. read) tokens.old tokens.old result tokens.new }
     ensures extends { Extends tokens.old tokens.new }
 {
     let query = read_inner_query(alloc, tokens, MOST_LEVELS)?;

@@ -1,24 +1,58 @@
--- How what a part of a statement has copied is what the statement has copied.
-use Rattle.std.proofs.Common.{◌≡◌, ◌≢◌, List, ◌∷◌, ◌++◌, length, length-append, Result, Ok, Err, refl, sym, ◌∙◌, ap, subst, append_assoc, arith}
+-- How what a part of statements, or of a case, has copied is what the whole has copied.
+use Rattle.std.proofs.Common.{◌≡◌, ◌≢◌, ◌≤◌, ◌+◌, ℕ, List, ◌∷◌, ◌++◌, None, Result, Ok, Err, refl, sym, ◌∙◌, ap, subst, arith}
 use Rattle.std.specs.Result.{IsErrAnd}
-use Rattle.std.proofs.lemmas.List.{append_cancel_right}
 use Rattle.std.proofs.lemmas.Result.{err_from_is_err_and}
+use Rattle.grammar.specs.Completions.{Completes, Continues, Reaches}
+use Rattle.grammar.specs.Form.{ref}
+use Rattle.grammar.specs.Language.{Includes}
+use Rattle.grammar.proofs.Completing as c
+use Rattle.grammar.proofs.Forms.{includes_through}
 use Rattle.sql_lex.specs.Lexemes.{Lexeme}
+use Rattle.sql_model.specs.declared.tree.Query.{Query}
 use Rattle.sql_read.specs.declared.fault.LimitKind.TheVariants as limit
 use Rattle.sql_read.specs.declared.fault.ReadFault.{ReadFault}
 use Rattle.sql_read.specs.declared.fault.ReadFault.TheVariants.{Lex, Unexpected, LeftOut, TooDeep, Limit, NoMemory}
+use Rattle.sql_read.specs.Copied as of_query
+use Rattle.sql_read.specs.Copied.{CopiesTooMuch}
 use Rattle.sql_read.specs.Cursor.{Cursor}
+use Rattle.sql_read.specs.Reads.{ReadsWithin, RefusesWithin, TakesWithin, TellsEntries, Told, few_form, of_form}
+use Rattle.sql_read.proofs.ReadCopies.{Going, SamePrice}
+use Rattle.sql_grammar.specs.Numbering.{Built}
+use Rattle.sql_grammar.specs.QueryCopies.{copies_nothing, most_copies}
+use Rattle.sql_grammar.specs.QueryGrammar.{The, query}
+use Rattle.sql_grammar.proofs.CopySteps.{plan_filled}
+use Rattle.sql_grammar.proofs.QueryFillings.{Filled}
+use Rattle.sql_grammar.proofs.QueryTable.{planned}
 use Rattle.schema_read.specs.Counting.{IsPlaced}
-use Rattle.schema_read.specs.CopiedStatements.{Copied, CopiedToFault, CopiesNothing, LastTooMany, NoneTooMany, TooMany}
+use Rattle.schema_read.specs.CopiedStatements.{Copied, CopiedToFault, CopiesCounted, CopiesNothing, Says}
+use Rattle.schema_read.specs.Statements.{in_plan}
+use Rattle.schema_read.proofs.CountSteps.{begun_free}
+use Rattle.schema_read.proofs.StatementCompletions.{Completed}
+use Rattle.schema_read.proofs.StatementFronts.{known_includes, planned_includes, roomier}
+use Rattle.schema_read.proofs.Unlimited.{gl}
+
+-- ---- what was read, in the grammar of statements
+
+-- these tokens spell the value
+pub record Spelled {A : Type 0} (f : The A) (here : List Lexeme) (value : A) (rest : List Lexeme) : Type 0 where
+  pub taken : List Lexeme
+  pub whole : here ≡ taken ++ rest
+  pub spelled : (gl f).spells taken value
+
+pub taken_spelled : {A : Type 0} {limits : Told} {f : The A} {levels : ℕ} {here rest : List Lexeme} {value : A} → TakesWithin limits f (few_form f) levels here value rest → Spelled f here value rest
+taken_spelled {f = f} {levels = levels} {value = value} t =
+    let unlimited : Includes (gl f) (in_plan _ f) = includes_through _ _ _ (known_includes _ f) (roomier _ None tt f) in
+    record { taken = t.took.taken; whole = t.took.whole; spelled = unlimited.spells t.took.taken value t.took.spelled }
+
+-- f goes on in M, and this in N
+pub going_through : {C B A : Type 0} {f : The C} {M : The B} {N : The A} {here start : List Lexeme} {h : C → B} {k : B → A} → Going f here M start h → Going M start N start k → Going f here N start (λ v. k (h v))
+going_through {h = h} l m = record { goes = record { reaches = λ v rest r. m.goes.reaches (h v) rest (l.goes.reaches v rest r) } }
 
 -- ---- refusals
 
-longer : (ts x y : List Lexeme) (t : Lexeme) → ts ≡ x ++ t ∷ (y ++ ts) → ⊥
-longer ts x y t e = omega (arith, ap length e, length-append x (t ∷ (y ++ ts)), length-append y ts)
-
-module _ {is_too_many : TooMany} {a b : Cursor} where
+module _ {A Y : Type 0} {N : The A} {whole : A → Built Y} {start first after : Cursor} where
   -- where the fault tells where it comes
-  pub told_if : (fault : ReadFault) → fault ≢ Limit limit.Copies → (IsPlaced fault → NoneTooMany is_too_many a b) → CopiedToFault is_too_many a fault b
+  pub told_if : (fault : ReadFault) → fault ≢ Limit limit.Copies → (IsPlaced fault → CopiesCounted N whole start first after) → CopiedToFault N whole start first fault after
   told_if (Lex fault) n s = record { says = s tt }
   told_if (Unexpected at) n s = record { says = s tt }
   told_if (LeftOut word at) n s = record { says = s tt }
@@ -29,62 +63,91 @@ module _ {is_too_many : TooMany} {a b : Cursor} where
   told_if (Limit limit.Relations) n s = record { says = s tt }
   told_if NoMemory n s = record { says = tt }
 
-  pub told : (fault : ReadFault) → fault ≢ Limit limit.Copies → NoneTooMany is_too_many a b → CopiedToFault is_too_many a fault b
-  told fault n s = told_if fault n (λ p. s)
-
-  pub copied_exit : {A : Type 0} {fault : ReadFault} {result : Result A ReadFault} → IsErrAnd result (λ y. y ≡ fault) → CopiedToFault is_too_many a fault b → Copied is_too_many a result b
+  pub copied_exit : {D : Type 0} {fault : ReadFault} {result : Result D ReadFault} → IsErrAnd result (λ y. y ≡ fault) → CopiedToFault N whole start first fault after → Copied N whole start first result after
   copied_exit {result = result} i t =
       let p = err_from_is_err_and result i in
-      subst (λ z. Copied is_too_many a z b) (sym p.1) (record { answers = subst (λ z. CopiedToFault is_too_many a z b) (sym p.2) t })
+      subst (λ z. Copied N whole start first z after) (sym p.1) (record { answers = subst (λ z. CopiedToFault N whole start first z after) (sym p.2) t })
 
-  -- of what copies nothing
-  pub copied_unless : {A : Type 0} (result : Result A ReadFault) → CopiesNothing result → NoneTooMany is_too_many a b → Copied is_too_many a result b
-  copied_unless (Ok value) n s = record { answers = tt }
-  copied_unless (Err fault) n s = record { answers = told fault n s }
+  module _ {C : Type 0} {f : The C} {h : C → A} where
+    -- nothing of what remains stands here
+    pub counted_before : {v : C} → Going f after.tokens N first.tokens h → Filled f v → start.copies + (whole (h v)).copies ≤ after.copies → CopiesCounted N whole start first after
+    counted_before {v = v} l b e = record {
+      value = h v;
+      up_to = c.left_filled planned 0 copies_nothing (of_form None N) first.tokens f after.tokens h l.goes v (plan_filled f v b);
+      count = e;
+    }
 
-  -- where no token was passed
-  pub none_passed : b ≡ a → NoneTooMany is_too_many a b
-  none_passed s = record { none = λ l x y t e m. longer a.tokens x y t (subst (λ z. a.tokens ≡ x ++ t ∷ (y ++ z.tokens)) s e) }
+    -- these tokens of the part stand before
+    pub counted_behind : {here taken : List Lexeme} → Going f here N first.tokens h → (r : Completed f taken) → here ≡ taken ++ after.tokens → start.copies + (whole (h r.value)).copies ≤ after.copies
+        → CopiesCounted N whole start first after
+    counted_behind {taken = taken} l r i e = record {
+      value = h r.value;
+      up_to = l.goes.reaches r.value after.tokens (record {
+        taken = taken;
+        whole = i;
+        completes = record { more = r.by.more; are_chosen = r.by.are_chosen; spelled = (planned_includes None f).spells (taken ++ r.by.more) r.value r.by.spelled };
+      });
+      count = e;
+    }
 
-pub copied_for_memory : {A : Type 0} {is_too_many : TooMany} {a b : Cursor} {result : Result A ReadFault} → IsErrAnd result (λ y. y ≡ NoMemory) → Copied is_too_many a result b
-copied_for_memory i = copied_exit i (record { says = tt })
+    -- a part is refused of which no query is part
+    pub free_refused : {limits : Told} {levels : ℕ} {here : Cursor} → TellsEntries limits → (fault : ReadFault) → RefusesWithin limits f (few_form f) levels here fault after → fault ≢ Limit limit.Copies
+        → Going f here.tokens N first.tokens h → ((ts : List Lexeme) → (gl f).front ts → Completed f ts)
+        → ((ts : List Lexeme) (v : C) → (gl f).spells ts v → start.copies + (whole (h v)).copies ≤ after.copies) → CopiedToFault N whole start first fault after
+    free_refused t fault r n l goes e =
+        told_if fault n (λ p.
+        let b = begun_free t fault r p in let d = goes b.taken ((known_includes None f).front b.taken b.begun) in
+        counted_behind l d b.whole (e (b.taken ++ d.by.more) d.value d.by.spelled))
 
--- the tokens that were passed
-pub passed_tokens : (ts taken x y rest : List Lexeme) (t : Lexeme) → ts ≡ taken ++ rest → ts ≡ x ++ t ∷ (y ++ rest) → taken ≡ x ++ t ∷ y
-passed_tokens ts taken x y rest t e i = append_cancel_right taken (x ++ t ∷ y) rest (sym e ∙ (i ∙ sym (append_assoc x (t ∷ y) rest)))
+    pub free_part : {limits : Told} {levels : ℕ} {D : Type 0} {k : C → Built D} {begun here : Cursor} → TellsEntries limits → (result : Result D ReadFault) → ReadsWithin limits f (few_form f) levels k begun here result after
+        → CopiesNothing result → Going f here.tokens N first.tokens h → ((ts : List Lexeme) → (gl f).front ts → Completed f ts)
+        → ((ts : List Lexeme) (v : C) → (gl f).spells ts v → start.copies + (whole (h v)).copies ≤ after.copies) → Copied N whole start first result after
+    free_part t (Ok value) r n l goes e = record { answers = tt }
+    free_part t (Err fault) r n l goes e = record { answers = free_refused t fault r.answers n l goes e }
 
--- ---- from a part to the whole
+    -- the whole has copied what its part has
+    pub copied_to : {X : Type 0} {part : C → Built X} {began before : Cursor} (fault : ReadFault) → Going f before.tokens N first.tokens h → SamePrice start (λ v. whole (h v)) began part
+        → CopiedToFault f part began before fault after → CopiedToFault N whole start first fault after
+    copied_to {X = X} {part = part} {began = began} {before = before} fault l e s = record { says = by fault s.says }
+      where
+        counted : CopiesCounted f part began before after → CopiesCounted N whole start first after
+        counted r = record { value = h r.value; up_to = l.goes.reaches r.value after.tokens r.up_to; count = omega (arith, r.count, e r.value) }
 
--- The part begins here, behind tokens that were passed: a token is too many for the whole where it is for the part, and nowhere before.
-pub record Part (of_part : TooMany) (here : Cursor) (of_whole : TooMany) (start : Cursor) : Type 0 where
-  pub taken : List Lexeme
-  pub whole : start.tokens ≡ taken ++ here.tokens
-  pub there : (x : List Lexeme) (t : Lexeme) → of_part x t → of_whole (taken ++ x) t
-  pub back : (x rest : List Lexeme) (t : Lexeme) → start.tokens ≡ x ++ t ∷ rest → of_whole x t → (y : List Lexeme) × (here.tokens ≡ y ++ t ∷ rest) × of_part y t
+        too_much : CopiesTooMuch f part began before after → CopiesTooMuch N whole start first after
+        too_much r = record {
+          token = r.token;
+          overspends = c.overspends_from copies_nothing (of_form None f) before.tokens (of_form None N) first.tokens h l.goes (λ v. (part v).copies) (λ v. (whole v).copies) most_copies began.copies start.copies e (r.token ∷ after.tokens) r.overspends;
+        }
 
-module _ {of_part of_whole : TooMany} {here start after : Cursor} (p : Part of_part here of_whole start) where
-  none_in : NoneTooMany of_part here after → NoneTooMany of_whole start after
-  none_in n = record { none = λ l x y t e m. let r = p.back x (y ++ after.tokens) t e m in n.none l r.0 y t r.1 r.2 }
+        by : (fault : ReadFault) → Says f part began before fault after → Says N whole start first fault after
+        by (Lex fault) s = counted s
+        by (Unexpected at) s = counted s
+        by (LeftOut word at) s = counted s
+        by (TooDeep at) s = counted s
+        by (Limit limit.Copies) s = too_much s
+        by (Limit limit.Entries) s = counted s
+        by (Limit limit.Columns) s = counted s
+        by (Limit limit.Relations) s = counted s
+        by NoMemory s = tt
 
-  last_in : LastTooMany of_part here after → LastTooMany of_whole start after
-  last_in r = record {
-    taken = p.taken ++ r.taken;
-    token = r.token;
-    whole = p.whole ∙ (ap (λ z. p.taken ++ z) r.whole ∙ sym (append_assoc p.taken r.taken (r.token ∷ after.tokens)));
-    too_many = p.there r.taken r.token r.too_many;
-  }
+    pub copied_in : {X D : Type 0} {part : C → Built X} {began before : Cursor} (result : Result D ReadFault) → Going f before.tokens N first.tokens h → SamePrice start (λ v. whole (h v)) began part
+        → Copied f part began before result after → Copied N whole start first result after
+    copied_in (Ok value) l e q = record { answers = tt }
+    copied_in (Err fault) l e q = record { answers = copied_to fault l e q.answers }
 
-  pub copied_to : (fault : ReadFault) → CopiedToFault of_part here fault after → CopiedToFault of_whole start fault after
-  copied_to (Lex fault) s = record { says = none_in s.says }
-  copied_to (Unexpected at) s = record { says = none_in s.says }
-  copied_to (LeftOut word at) s = record { says = none_in s.says }
-  copied_to (TooDeep at) s = record { says = none_in s.says }
-  copied_to (Limit limit.Copies) s = record { says = last_in s.says }
-  copied_to (Limit limit.Entries) s = record { says = none_in s.says }
-  copied_to (Limit limit.Columns) s = record { says = none_in s.says }
-  copied_to (Limit limit.Relations) s = record { says = none_in s.says }
-  copied_to NoMemory s = record { says = tt }
+-- ---- the query of a view, and of a case
 
-  pub copied_in : {A : Type 0} (result : Result A ReadFault) → Copied of_part here result after → Copied of_whole start result after
-  copied_in (Ok value) q = record { answers = tt }
-  copied_in (Err fault) q = record { answers = copied_to fault q.answers }
+module _ {here after : Cursor} where
+  counted_in_query : of_query.CopiesSoFar (ref query) (λ read. read) here here after → CopiesCounted (ref query) (λ read. read) here here after
+  counted_in_query r = record { value = r.value; up_to = r.up_to; count = omega (arith, r.count) }
+
+  pub query_copied : (fault : ReadFault) → of_query.CopiedToFault (ref query) (λ read. read) here here fault after → CopiedToFault (ref query) (λ read. read) here here fault after
+  query_copied (Lex fault) s = record { says = counted_in_query s.says }
+  query_copied (Unexpected at) s = record { says = counted_in_query s.says }
+  query_copied (LeftOut word at) s = record { says = counted_in_query s.says }
+  query_copied (TooDeep at) s = record { says = counted_in_query s.says }
+  query_copied (Limit limit.Copies) s = record { says = s.says }
+  query_copied (Limit limit.Entries) s = record { says = counted_in_query s.says }
+  query_copied (Limit limit.Columns) s = absurd s.says
+  query_copied (Limit limit.Relations) s = absurd s.says
+  query_copied NoMemory s = record { says = tt }

@@ -22,7 +22,7 @@ use Rattle.schema_read.specs.StatementTrees as t
 use Rattle.schema_read.specs.StatementTrees.{Elements}
 use Rattle.schema_read.proofs.CountSteps.{Holds, Rest, free, rest_by_token, rest_first, rest_mapped, rest_nested, rest_other, rest_second, whole_rest}
 use Rattle.schema_read.proofs.StatementFronts.{listed_below, statement_below, table_below}
-use Rattle.schema_read.proofs.ViewCopies.{ended}
+use Rattle.schema_read.specs.StatementGrammar.{ended}
 use Rattle.schema_read.proofs.StatementParts.{table_begins, view_begins}
 use Rattle.schema_read.proofs.TableColumns.{narrow_listed}
 use Rattle.schema_read.proofs.TableElements.{listed}

@@ -28,11 +28,10 @@ use Rattle.sql_grammar.proofs.EveryKind.{every_kind_is_there}
 use Rattle.schema_read.specs.StatementGrammar as g
 use Rattle.schema_read.specs.StatementLimits.{few_columns, few_entry_statements, few_statements, most_further_columns, most_relations, narrow_statements}
 use Rattle.schema_read.specs.Statements.{IsFirstBeyond, OfStatements, statements}
-use Rattle.schema_read.proofs.StatementCopies.{ended_alone, same_ended}
 use Rattle.schema_read.proofs.StatementFronts.{ended_below, few_form_included, form_has_fronts, statement_below}
 use Rattle.schema_read.proofs.StatementKnown.{known}
 use Rattle.schema_read.proofs.Unlimited.{gl}
-use Rattle.schema_read.proofs.ViewCopies.{ended}
+use Rattle.schema_read.specs.StatementGrammar.{ended}
 use Rattle.schema_read.proofs.WholeStatements.{few_grammar}
 
 abbrev Ended : Type 1
@@ -46,6 +45,27 @@ few_ended = few_grammar ended
 
 ended_known : Known kind_of (gl ended) (lookahead table ended)
 ended_known = known ended refl None
+
+-- no statement with its semicolon begins another
+ended_alone : (ts k : List Lexeme) (read : Built Statement) (t : Lexeme) → (gl ended).spells ts read → (gl ended).front (ts ++ t ∷ k) → ⊥
+ended_alone ts k read t s f = let e : false ≡ true = ended_known.ahead.last ts read t k s f in cc
+
+-- where two begin one text they are the same
+record SameEnded (x more y others : List Lexeme) (v w : Built Statement) : Type 0 where
+  tokens : x ≡ y
+  values : v ≡ w
+  behind : more ≡ others
+
+same_ended : (x more y others : List Lexeme) (v w : Built Statement) → (gl ended).spells x v → (gl ended).spells y w → x ++ more ≡ y ++ others → SameEnded x more y others v w
+same_ended x more y others v w s r e = go (cut x more y others e)
+  where
+    fronts : (ts : List Lexeme) (read : Built Statement) → (gl ended).spells ts read → (gl ended).front ts
+    fronts = (form_has_fronts None ended).spelled
+
+    go : Cut x more y others → SameEnded x more y others v w
+    go (longer t k i j) = absurd (ended_alone x k v t s (subst (gl ended).front i (fronts y w r)))
+    go (same i j) = record { tokens = sym i; values = ended_known.unique x v w s (subst (λ z. (gl ended).spells z w) i r); behind = sym j }
+    go (shorter t k i j) = absurd (ended_alone y k w t r (subst (gl ended).front i (fronts x v s)))
 
 statement_known : Known kind_of (gl g.statement) (lookahead table g.statement)
 statement_known = known g.statement refl None

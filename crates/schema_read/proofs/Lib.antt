@@ -18,7 +18,7 @@ pub mod StatementColumns
 pub mod Unlimited
 pub mod StatementFronts
 pub mod StatementCounts
-pub mod ViewCopies
+pub mod StatementCompletions
 pub mod StatementCopies
 pub mod Readings
 pub mod NameLists
@@ -31,8 +31,8 @@ pub mod TableColumns
 pub mod ElementCounts
 pub mod StatementParts
 pub mod NoCopies
+pub mod PassedCopies
 pub mod CopiedParts
-pub mod CopiedQueries
 pub mod CopiedViews
 pub mod StatementLists
 pub mod CopiedLists

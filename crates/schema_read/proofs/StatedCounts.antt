@@ -28,7 +28,7 @@ use Rattle.schema_read.proofs.CountParts.{narrow_ended}
 use Rattle.schema_read.proofs.CountSteps.{Rest, RestOf, below_within, free, held, rest_mapped, rest_of, whole_rest}
 use Rattle.schema_read.proofs.StatementFronts.{ended_below}
 use Rattle.schema_read.proofs.StatementLists.{create_begins}
-use Rattle.schema_read.proofs.ViewCopies.{ended}
+use Rattle.schema_read.specs.StatementGrammar.{ended}
 use Rattle.schema_read.proofs.Unlimited.{itself}
 
 ended_within : IsWithin (free ended) narrow_ended

@@ -1,216 +1,145 @@
--- Where the views of statements copy too much: in no whole statements that are within the limit, so at one token of a text.
-use Rattle.std.proofs.Common.{◌≡◌, ℕ, ◌+◌, ◌≤◌, true, false, List, [], ◌∷◌, ◌++◌, refl, sym, ◌∙◌, ap, subst, append_assoc, None, arith}
+-- Where too much is copied: at one token of a text, and at none of what is within the limit.
+use Rattle.std.proofs.Common.{◌≡◌, ℕ, zero, suc, ◌+◌, ◌≤◌, true, List, [], ◌∷◌, ◌++◌, refl, sym, ◌∙◌, subst, append_assoc, None, arith}
 use Rattle.std.proofs.lemmas.List.{append-nil}
-use Rattle.grammar.specs.Form.{seq}
-use Rattle.grammar.specs.Language.{Concatenates}
-use Rattle.grammar.specs.Lookahead.{lookahead}
-use Rattle.grammar.proofs.Cut.{Cut, longer, same, shorter, cut, not_nil}
-use Rattle.grammar.proofs.Known.{Known}
+use Rattle.std.specs.List.{list_all}
+use Rattle.grammar.specs.Form.{Room, map, language_within}
+use Rattle.grammar.specs.Language.{HasFronts, Language}
+use Rattle.grammar.specs.Lookahead.{is_predictive}
+use Rattle.grammar.specs.Completions.{Completes}
+use Rattle.grammar.proofs.Heights.{spelled_at}
+use Rattle.grammar.proofs.Predictions.{named}
+use Rattle.grammar.proofs.Prices.{priced_skip_then, priced_then_skip}
+use Rattle.grammar.proofs.Sets.{and_both}
+use Rattle.grammar.proofs.SameFronts.{alike, same_fronts, still_of, still_texts}
 use Rattle.sql_lex.specs.Lexemes.{Lexeme}
 use Rattle.sql_model.specs.declared.statement.Statement.{Statement}
-use Rattle.sql_grammar.specs.Kinds.{kind_of}
+use Rattle.sql_grammar.specs.Kinds.{every_kind, kind_of}
 use Rattle.sql_grammar.specs.Numbering.{Built, each}
-use Rattle.sql_grammar.specs.QueryCopies as queries
-use Rattle.sql_grammar.specs.QueryCopies.{most_copies}
+use Rattle.sql_grammar.specs.QueryCopies.{copies_nothing, most_copies}
+use Rattle.sql_grammar.specs.QueryGrammar.{Production, Read, The, query}
 use Rattle.sql_grammar.specs.QueryLookahead.{table}
-use Rattle.sql_grammar.proofs.CopyOnce.{too_many_once}
+use Rattle.sql_grammar.specs.QueryPlan.{plan, of_plan}
+use Rattle.sql_grammar.proofs.CopyOnce.{loose_rule, same_rule, still_rule}
+use Rattle.sql_grammar.proofs.CopyPrices.{each_copies}
+use Rattle.sql_grammar.proofs.PlanPrices.{any, EvenIn, SameRead, StillRead, LooseRead, evenly, none}
+use Rattle.sql_grammar.proofs.QueryFronts.{beyond_once}
+use Rattle.sql_grammar.proofs.QueryTable.{planned}
 use Rattle.schema_read.specs.StatementGrammar as g
-use Rattle.schema_read.specs.StatementLimits.{CopiesFew, IsCopyTooMany, create_view}
-use Rattle.schema_read.specs.Statements.{statements}
-use Rattle.schema_read.proofs.StatementFronts.{form_has_fronts}
-use Rattle.schema_read.proofs.StatementKnown.{known}
+use Rattle.schema_read.specs.StatementLimits.{CopiesFew, IsCopyTooMany, few_copy_statements, within_copies}
+use Rattle.schema_read.specs.StatementTrees as t
+use Rattle.schema_read.specs.Statements.{in_plan, statements}
+use Rattle.schema_read.proofs.StatementCompletions.{Completed, completed, fill_statements, goes_statements}
+use Rattle.schema_read.proofs.StatementFronts.{form_has_fronts, planned_includes}
 use Rattle.schema_read.proofs.Unlimited.{gl}
-use Rattle.schema_read.proofs.ViewCopies.{Four, IsTooManyInView, ended, not_in_ended, same_rest, up_to_query, with_more}
 
--- ---- no statement with its semicolon begins another
+-- ---- two texts of a form that begin alike
 
-ended_known : Known kind_of (gl ended) (lookahead table ended)
-ended_known = known ended refl None
+any_tokens : (ts : List Lexeme) → list_all any ts ≡ true
+any_tokens [] = refl
+any_tokens (t ∷ ts) = and_both true (list_all any ts) refl (any_tokens ts)
 
-pub ended_alone : (ts k : List Lexeme) (read : Built Statement) (t : Lexeme) → (gl ended).spells ts read → (gl ended).front (ts ++ t ∷ k) → ⊥
-ended_alone ts k read t s f = let e : false ≡ true = ended_known.ahead.last ts read t k s f in cc
+still_name : (p : Production) (ts : List Lexeme) (v : Read p) → list_all copies_nothing ts ≡ true → (of_plan None p).spells ts v → StillRead p v
+still_name p ts v c s = still_texts planned copies_nothing any SameRead StillRead LooseRead still_rule loose_rule same_rule p ts v c s
 
--- where two begin one text they are the same
-pub record SameEnded (x more y others : List Lexeme) (v w : Built Statement) : Type 0 where
-  pub tokens : x ≡ y
-  pub values : v ≡ w
-  pub behind : more ≡ others
+loose_at : (h : ℕ) (p : Production) (ts : List Lexeme) (v : Read p) → list_all any ts ≡ true → (language_within kind_of plan h None p).spells ts v → LooseRead p v
+loose_at zero p ts v c s = absurd s
+loose_at (suc h) p ts v c s = loose_rule p v (still_of planned any LooseRead (language_within kind_of plan h) (loose_at h) (plan p) ts v c s)
 
-pub same_ended : (x more y others : List Lexeme) (v w : Built Statement) → (gl ended).spells x v → (gl ended).spells y w → x ++ more ≡ y ++ others → SameEnded x more y others v w
-same_ended x more y others v w s r e = go (cut x more y others e)
-  where
-    fronts : (ts : List Lexeme) (read : Built Statement) → (gl ended).spells ts read → (gl ended).front ts
-    fronts = (form_has_fronts None ended).spelled
+loose_name : (p : Production) (ts : List Lexeme) (v : Read p) → list_all any ts ≡ true → (of_plan None p).spells ts v → LooseRead p v
+loose_name p ts v c s = let r = spelled_at kind_of plan None p ts v s in loose_at r.0 p ts v c r.1
 
-    go : Cut x more y others → SameEnded x more y others v w
-    go (longer t k i j) = absurd (ended_alone x k v t s (subst (gl ended).front i (fronts y w r)))
-    go (same i j) = record { tokens = sym i; values = ended_known.unique x v w s (subst (λ z. (gl ended).spells z w) i r); behind = sym j }
-    go (shorter t k i j) = absurd (ended_alone y k w t r (subst (gl ended).front i (fronts x v s)))
+same_name : (p : Production) (b c x y z : List Lexeme) (v w : Read p) → b ≡ x ++ y → c ≡ x ++ z → (x ≡ [] → ⊥) → list_all copies_nothing y ≡ true → list_all any z ≡ true
+    → (of_plan None p).spells b v → (of_plan None p).spells c w → SameRead p v w
+same_name p b c x y z v w i j n d e s r =
+    same_fronts planned copies_nothing any SameRead StillRead LooseRead still_rule loose_rule same_rule p x y z v w n d e
+    (subst (λ k. (of_plan None p).spells k v) i s) (subst (λ k. (of_plan None p).spells k w) j r)
 
--- ---- whole statements that are within the limit
+module _ {A : Type 0} (f : The A) (o : is_predictive every_kind table f ≡ true) (price : A → ℕ) (l : EvenIn f price) where
+  -- the one that goes on with tokens that copy nothing copies no more
+  pub no_less : (x y z : List Lexeme) (v w : A) → list_all copies_nothing y ≡ true → (gl f).spells (x ++ y) v → (gl f).spells (x ++ z) w → price v ≤ price w
+  no_less [] y z v w c s r =
+      least (price v) (price w) (l.still v (still_of planned copies_nothing StillRead of_plan still_name f y v c ((planned_includes None f).spells y v s)))
+    where
+      least : (a b : ℕ) → a ≡ 0 → a ≤ b
+      least a b i = omega (arith, i)
+  no_less (u ∷ x) y z v w c s r =
+      l.same v w (alike planned copies_nothing any SameRead StillRead LooseRead of_plan (λ room p. named planned room p) still_name loose_name same_name f o
+      (u ∷ (x ++ y)) (u ∷ (x ++ z)) (u ∷ x) y z v w refl refl (λ e. cc) c (any_tokens z)
+      ((planned_includes None f).spells (u ∷ (x ++ y)) v s) ((planned_includes None f).spells (u ∷ (x ++ z)) w r))
 
--- a token that is too many, by the statements that stand before its view
-pub record Stands (bs : List (Built Statement)) (copied : ℕ) (x : List Lexeme) (t : Lexeme) : Type 0 where
-  pub done : List Lexeme
-  pub begun : List Lexeme
-  pub whole : x ≡ done ++ begun
-  pub spelled : Concatenates (gl ended).spells done bs
-  pub too_many : IsTooManyInView (copied + (each bs).copies) begun t
+  -- ---- the limit, with so much copied before
 
-pub stands : (copied : ℕ) (x : List Lexeme) (t : Lexeme) → IsCopyTooMany copied x t → (bs : List (Built Statement)) × Stands bs copied x t
-stands copied x t m = go m.spelled
-  where
-    go : (gl (seq g.statements create_view)).spells m.words m.read → (bs : List (Built Statement)) × Stands bs copied x t
-    go (d, h, e, (bs, s, j), w) = (
-      bs,
-      record {
-        done = d;
-        begun = h ++ m.of_query;
-        whole = m.whole ∙ (ap (λ z. z ++ m.of_query) e ∙ append_assoc d h m.of_query);
-        spelled = s;
-        too_many = record {
-          words = h;
-          of_query = m.of_query;
-          whole = refl;
-          read = m.read.1;
-          spelled = w;
-          too_many = subst (λ z. queries.IsCopyTooMany (copied + z.copies) m.of_query t) j m.too_many;
-        };
-      },
-    )
+  module _ (goes : (ts : List Lexeme) → (gl f).front ts → Completed f ts) (spent : ℕ) where
+    abbrev B : Language Lexeme A
+    B = within_copies (λ v. spent + price v) (gl f)
 
--- behind whole statements
-pub too_many_behind : (bs : List (Built Statement)) (copied : ℕ) (done begun : List Lexeme) (t : Lexeme) → Concatenates (gl ended).spells done bs → IsTooManyInView (copied + (each bs).copies) begun t
-    → IsCopyTooMany copied (done ++ begun) t
-too_many_behind bs copied done begun t s m = record {
-  words = done ++ m.words;
-  of_query = m.of_query;
-  whole = ap (λ z. done ++ z) m.whole ∙ sym (append_assoc done m.words m.of_query);
-  read = (each bs, m.read);
-  spelled = (done, m.words, refl, (bs, s, refl), m.spelled);
-  too_many = m.too_many;
-}
+    pub shorter_within : (x y : List Lexeme) → B.front (x ++ y) → B.front x
+    shorter_within x y (v, c, within) =
+        let fronts = form_has_fronts None f in
+        let r = goes x (fronts.shorter x y (fronts.shorter (x ++ y) c.more (fronts.spelled ((x ++ y) ++ c.more) v c.spelled))) in
+        (r.value, r.by, no_more (price r.value) (price v) (no_less x r.by.more (y ++ c.more) r.value v r.by.are_chosen r.by.spelled (subst (λ z. (gl f).spells z v) (append_assoc x y c.more) c.spelled)) within)
+      where
+        no_more : (a b : ℕ) → a ≤ b → spent + b ≤ most_copies → spent + a ≤ most_copies
+        no_more a b i j = omega (arith, i, j)
 
--- it stands behind these whole statements, and is too many there
-pub record Behind (copied : ℕ) (done more x y : List Lexeme) (t : Lexeme) : Type 0 where
-  pub begun : List Lexeme
-  pub whole : x ≡ done ++ begun
-  pub rest : more ≡ begun ++ t ∷ y
-  pub before : List (Built Statement)
-  pub too_many : Stands before copied begun t
+    pub whole_within : (ts : List Lexeme) (v : A) → B.spells ts v → B.front ts
+    whole_within ts v s = (v, record { more = []; are_chosen = refl; spelled = subst (λ z. (gl f).spells z v) (sym (append-nil ts)) s.0 }, s.1)
 
--- the first of them is the same, and what stands behind it
-record Next (first tail x y : List Lexeme) (cs : List (Built Statement)) (copied : ℕ) (t : Lexeme) : Type 0 where
-  rest : List Lexeme
-  whole : x ≡ first ++ rest
-  text : tail ≡ rest ++ t ∷ y
-  too_many : Stands cs copied rest t
+    pub fronts_from : (x : List Lexeme) → B.front x → HasFronts B
+    fronts_from x s = record { empty = shorter_within [] x s; shorter = shorter_within; spelled = whole_within }
 
-behind_first : (first tail x y : List Lexeme) (b c : Built Statement) (cs : List (Built Statement)) (copied : ℕ) (t : Lexeme) → (gl ended).spells first b → Stands (c ∷ cs) copied x t
-    → first ++ tail ≡ x ++ t ∷ y → Next first tail x y cs (copied + b.copies) t
-behind_first first tail x y b c cs copied t s w e = go w.spelled
-  where
-    same_count : (m n o p : ℕ) → n ≡ o → m + (o + p) ≡ (m + n) + p
-    same_count m n o p q = omega (arith, q)
+    pub passed_once : (x more y others : List Lexeme) (t u : Lexeme) → B.front x → (B.front (x ++ t ∷ []) → ⊥) → B.front y → (B.front (y ++ u ∷ []) → ⊥) → x ++ t ∷ more ≡ y ++ u ∷ others → (x ≡ y) × (t ≡ u)
+    passed_once x more y others t u w b d e i = beyond_once B (fronts_from x w) x more y others t u (record { within = w; beyond = b }) (record { within = d; beyond = e }) i
 
-    go : Concatenates (gl ended).spells w.done (c ∷ cs) → Next first tail x y cs (copied + b.copies) t
-    go (x1, x2, j, r, rs) =
-        let split : x ≡ x1 ++ (x2 ++ w.begun) = w.whole ∙ (ap (λ z. z ++ w.begun) j ∙ append_assoc x1 x2 w.begun) in
-        let same_one = same_ended first tail x1 ((x2 ++ w.begun) ++ t ∷ y) b c s r (e ∙ (ap (λ z. z ++ t ∷ y) split ∙ append_assoc x1 (x2 ++ w.begun) (t ∷ y))) in
-        record {
-          rest = x2 ++ w.begun;
-          whole = split ∙ ap (λ z. z ++ (x2 ++ w.begun)) (sym same_one.tokens);
-          text = same_one.behind;
-          too_many = record {
-            done = x2;
-            begun = w.begun;
-            whole = refl;
-            spelled = rs;
-            too_many = subst (λ z. IsTooManyInView z w.begun t) (same_count copied b.copies c.copies (each cs).copies (ap (λ z. z.copies) same_one.values)) w.too_many;
-          };
-        }
+    -- no token of a front that is within the limit passes it
+    pub none_beyond : (ts x more : List Lexeme) (t : Lexeme) → B.front ts → ts ≡ x ++ t ∷ more → (B.front (x ++ t ∷ []) → ⊥) → ⊥
+    none_beyond ts x more t s i b = b (shorter_within (x ++ t ∷ []) more (subst B.front (i ∙ sym (append_assoc x (t ∷ []) more)) s))
 
-no_more : (n : ℕ) → n ≡ n + 0
-no_more n = omega arith
+    -- where what goes on so is beyond the limit, so is all else
+    pub beyond_limit : (ts more : List Lexeme) (v : A) → list_all copies_nothing more ≡ true → (gl f).spells (ts ++ more) v → suc most_copies ≤ spent + price v → B.front ts → ⊥
+    beyond_limit ts more v c s over (w, d, within) = clash (price v) (price w) (no_less ts more d.more v w c s d.spelled) over within
+      where
+        clash : (a b : ℕ) → a ≤ b → suc most_copies ≤ spent + a → spent + b ≤ most_copies → ⊥
+        clash a b i j k = omega (arith, i, j, k)
 
-grouped : (m n o : ℕ) → (m + n) + o ≡ m + (n + o)
-grouped m n o = omega arith
+-- ---- statements
 
-pub behind : (bs cs : List (Built Statement)) (copied : ℕ) (done more x y : List Lexeme) (t : Lexeme) → Concatenates (gl ended).spells done bs → Stands cs copied x t → done ++ more ≡ x ++ t ∷ y
-    → copied + (each bs).copies ≤ most_copies → Behind (copied + (each bs).copies) done more x y t
-behind [] cs copied done more x y t i w e l = record {
-  begun = x;
-  whole = ap (λ z. z ++ x) (sym i);
-  rest = ap (λ z. z ++ more) (sym i) ∙ e;
-  before = cs;
-  too_many = subst (λ z. Stands cs z x t) (no_more copied) w;
-}
-behind (b ∷ bs) [] copied done more x y t (d1, d2, i, s, ss) w e l =
-    let split : d1 ++ (d2 ++ more) ≡ w.begun ++ t ∷ y =
-    sym (ap (λ z. z ++ more) i ∙ append_assoc d1 d2 more) ∙ (e ∙ ap (λ z. z ++ t ∷ y) (w.whole ∙ ap (λ z. z ++ w.begun) w.spelled)) in
-    absurd (not_in_ended (copied + 0) w.begun t w.too_many d1 (d2 ++ more) y b s split (omega (arith, l)))
-behind (b ∷ bs) (c ∷ cs) copied done more x y t (d1, d2, i, s, ss) w e l =
-    let n = behind_first d1 (d2 ++ more) x y b c cs copied t s w (sym (ap (λ z. z ++ more) i ∙ append_assoc d1 d2 more) ∙ e) in
-    let r = behind bs cs (copied + b.copies) d2 more n.rest y t ss n.too_many n.text (omega (arith, l)) in
-    record {
-      begun = r.begun;
-      whole = n.whole ∙ (ap (λ z. d1 ++ z) r.whole ∙ sym (ap (λ z. z ++ r.begun) i ∙ append_assoc d1 d2 r.begun));
-      rest = r.rest;
-      before = r.before;
-      too_many = subst (λ z. Stands r.before z r.begun t) (grouped copied b.copies (each bs).copies) r.too_many;
-    }
+-- what no query is part of copies nothing
+pub free : {A : Type 0} (f : The A) → EvenIn f (λ v. 0)
+free f = record { same = λ v w s. none; still = λ v s. refl }
 
--- ---- each text
+table_even : EvenIn (g.table_with g.elements) (λ read. read.copies)
+table_even = evenly.of_map (λ p. t.table p.0 p.1.0 p.1.1) (λ read. read.copies) (free _) (λ v. refl)
 
-pub never : (copied : ℕ) (ts : List Lexeme) (read : Built (List Statement)) → statements.spells ts read → copied + read.copies ≤ most_copies → CopiesFew copied ts
-never copied ts read (bs, s, j) l x y t e m =
-    let w = stands copied x t m in
-    let r = behind bs w.0 copied ts [] x y t s w.1 (append-nil ts ∙ e) (omega (arith, l, ap (λ z. z.copies) j)) in
-    not_nil r.begun y t (sym r.rest)
+index_even : EvenIn g.index (λ read. read.copies)
+index_even = evenly.of_map (λ p. t.index p.0 p.1.0 p.1.1.0 p.1.1.1) (λ read. read.copies) (free _) (λ v. refl)
 
--- two texts that begin with four tokens each
-same_four : {x y rest others more last : List Lexeme} (v : Four x rest) (w : Four y others) {ts us : List Lexeme} → ts ≡ v.first ∷ v.second ∷ v.third ∷ v.fourth ∷ more
-    → us ≡ w.first ∷ w.second ∷ w.third ∷ w.fourth ∷ last → ts ≡ us → rest ≡ others → x ≡ y
-same_four v w i j e r = cc (v.whole, w.whole, i, j, e, r)
+from_zero : (n : ℕ) → n ≡ 0 + n
+from_zero n = omega arith
 
--- of two in one view
-same_in_view : (cs : List (Built Statement)) (copied : ℕ) (x more y others : List Lexeme) (t u : Lexeme) → IsTooManyInView copied x t → Stands cs copied y u → x ++ t ∷ more ≡ y ++ u ∷ others → (x ≡ y) × (t ≡ u)
-same_in_view [] copied x more y others t u m w e = (same_start, same_tokens.1)
-  where
-    there : Four x m.of_query
-    there = up_to_query copied x t m
+view_even : EvenIn g.view (λ read. read.copies)
+view_even =
+    evenly.of_map (λ p. t.view p.0 p.1) (λ read. read.copies)
+    (priced_skip_then evenly (free _) (evenly.of_seq (free _) (priced_skip_then evenly (free _) (evenly.of_ref query)))) (λ v. from_zero v.1.copies)
 
-    begins : y ≡ w.begun
-    begins = w.whole ∙ ap (λ z. z ++ w.begun) w.spelled
+ended_even : EvenIn (g.ended_with g.elements) (λ read. read.copies)
+ended_even = priced_then_skip evenly (priced_skip_then evenly (free _) (evenly.of_alt table_even (evenly.of_alt view_even index_even))) (free _)
 
-    here : Four w.begun w.too_many.of_query
-    here = up_to_query (copied + 0) w.begun u w.too_many
+pub statements_even : EvenIn g.statements (λ read. read.copies)
+statements_even = evenly.of_map (λ read. each read) (λ read. read.copies) (evenly.of_star None ended_even) (λ v. each_copies v)
 
-    texts : x ++ t ∷ more ≡ w.begun ++ u ∷ others
-    texts = e ∙ ap (λ z. z ++ u ∷ others) begins
+pub statements_completed : (ts : List Lexeme) → statements.front ts → Completed g.statements ts
+statements_completed = completed goes_statements fill_statements
 
-    same_tokens : (m.of_query ≡ w.too_many.of_query) × (t ≡ u)
-    same_tokens =
-        too_many_once copied m.of_query more w.too_many.of_query others t u m.too_many
-        (subst (λ z. queries.IsCopyTooMany z w.too_many.of_query u) (sym (no_more copied)) w.too_many.too_many)
-        (same_rest (with_more (t ∷ more) there) (with_more (u ∷ others) here) texts)
-
-    same_start : x ≡ y
-    same_start = same_four there here (with_more (t ∷ more) there).whole (with_more (u ∷ others) here).whole texts same_tokens.0 ∙ sym begins
-same_in_view (c ∷ cs) copied x more y others t u m w e = go w.spelled
-  where
-    go : Concatenates (gl ended).spells w.done (c ∷ cs) → (x ≡ y) × (t ≡ u)
-    go (d1, d2, i, s, ss) =
-        absurd (not_in_ended copied x t m d1 (d2 ++ (w.begun ++ u ∷ others)) more c s
-        (sym (e ∙ (ap (λ z. z ++ u ∷ others) (w.whole ∙ (ap (λ z. z ++ w.begun) i ∙ append_assoc d1 d2 w.begun))
-        ∙ (append_assoc d1 (d2 ++ w.begun) (u ∷ others) ∙ ap (λ z. d1 ++ z) (append_assoc d2 w.begun (u ∷ others))))))
-        (omega (arith, w.too_many.too_many.within)))
+abbrev OfStatements : Built (List Statement) → ℕ
+OfStatements read = read.copies
 
 pub once : (copied : ℕ) (x more y others : List Lexeme) (t u : Lexeme) → IsCopyTooMany copied x t → IsCopyTooMany copied y u → x ++ t ∷ more ≡ y ++ u ∷ others → (x ≡ y) × (t ≡ u)
-once copied x more y others t u m n e =
-    let a = stands copied x t m in
-    let b = stands copied y u n in
-    let r = behind a.0 b.0 copied a.1.done (a.1.begun ++ t ∷ more) y others u a.1.spelled b.1
-    (sym (ap (λ z. z ++ t ∷ more) a.1.whole ∙ append_assoc a.1.done a.1.begun (t ∷ more)) ∙ e) (omega (arith, a.1.too_many.too_many.within)) in
-    let s = same_in_view r.before (copied + (each a.0).copies) a.1.begun more r.begun others t u a.1.too_many r.too_many r.rest in
-    (a.1.whole ∙ (ap (λ z. a.1.done ++ z) s.0 ∙ sym r.whole), s.1)
+once copied x more y others t u m n e = passed_once g.statements refl OfStatements statements_even statements_completed copied x more y others t u m.within m.beyond n.within n.beyond e
+
+-- in a front that is within the limit
+pub few_copies : (copied : ℕ) (ts : List Lexeme) → (few_copy_statements copied).front ts → CopiesFew copied ts
+few_copies copied ts s x more t e m = none_beyond g.statements refl OfStatements statements_even statements_completed copied ts x more t s e m.beyond
+
+pub never : (copied : ℕ) (ts : List Lexeme) (read : Built (List Statement)) → statements.spells ts read → copied + read.copies ≤ most_copies → CopiesFew copied ts
+never copied ts read s l = few_copies copied ts (whole_within g.statements refl OfStatements statements_even statements_completed copied ts read (s, l))

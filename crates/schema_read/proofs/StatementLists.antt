@@ -20,25 +20,29 @@ use Rattle.sql_grammar.specs.Queries.{most_levels}
 use Rattle.sql_read.specs.Reads.{Builds, GivesWithin, columns_too, few_form, relations_too}
 use Rattle.sql_read.proofs.Extending.{◌⨟◌, extends_itself}
 use Rattle.sql_read.proofs.ReadChains.{built_by, built_each}
+use Rattle.sql_read.proofs.ReadCopiedSteps.{on_next_taken}
+use Rattle.sql_read.proofs.ReadCopies.{Going, at_start}
 use Rattle.sql_read.proofs.ReadLoops.{Begins, begins_here, first_there, repeated_begins, repeated_end, repeated_next}
 use Rattle.sql_read.proofs.ReadSteps.{LeftOf, absent_unless, plain_here, refuses, whole}
 use Rattle.sql_read.proofs.ReadUnlimited.{takes_tokens}
 use Rattle.schema_read.specs.StatementGrammar as g
-use Rattle.schema_read.proofs.CopiedViews.{taken_spelled}
+use Rattle.schema_read.proofs.CopiedParts.{taken_spelled}
 use Rattle.schema_read.proofs.Readings.{RefusesOf, map_refused, map_taken}
 use Rattle.schema_read.proofs.Telling.{refused_more, taken_more, with_relations}
 use Rattle.schema_read.proofs.Unlimited.{gl}
-use Rattle.schema_read.proofs.ViewCopies.{ended}
+use Rattle.schema_read.specs.StatementGrammar.{ended}
 
 pub create_begins : Begins (same k.Create) ended
 create_begins t i = inl (inl (inr (t, refl, i)))
 
 -- these statements were read, and are within their limits
 pub record Stating (start here : Cursor) (list : List Statement) : Type 0 where
-  join : List (Built Statement) → List (Built Statement)
+  pub join : List (Built Statement) → List (Built Statement)
   remains : LeftOf relations_too (star None ended) most_levels here.tokens (star None ended) (few_form (star None ended)) most_levels start.tokens join
+  -- how they go on, on to what is copied
+  pub going : Going (star None ended) here.tokens (star None ended) start.tokens join
   pub done : List (Built Statement)
-  same_done : (more : List (Built Statement)) → join more ≡ done ++ more
+  pub same_done : (more : List (Built Statement)) → join more ≡ done ++ more
   pub builds : Builds (each done) start list here
   pub extends : Extends start here
   -- the tokens that spell them
@@ -50,6 +54,7 @@ pub stating : {start : Cursor} → Stating start start []
 stating = record {
   join = λ more. more;
   remains = whole;
+  going = at_start;
   done = [];
   same_done = λ more. refl;
   builds = plain_here;
@@ -100,6 +105,7 @@ module _ {start here : Cursor} {list : List Statement} (l : Stating start here l
       record {
         join = λ more. l.join (x.read ∷ more);
         remains = repeated_next {most = None} l.remains refl (taken_more with_relations x.takes);
+        going = on_next_taken l.going most_levels x.takes.took;
         done = l.done ++ x.read ∷ [];
         same_done = λ more. l.same_done (x.read ∷ more) ∙ sym (append_assoc l.done (x.read ∷ []) more);
         builds = built_each l.done l.builds x.builds;

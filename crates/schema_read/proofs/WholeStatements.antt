@@ -17,6 +17,7 @@ use Rattle.sql_read.specs.declared.fault.ReadFault.{ReadFault}
 use Rattle.sql_read.specs.declared.fault.ReadFault.TheVariants.{Lex, Unexpected, LeftOut, TooDeep, Limit, NoMemory}
 use Rattle.sql_read.specs.declared.fault.LimitKind.{LimitKind}
 use Rattle.sql_read.specs.declared.fault.LimitKind.TheVariants as limit
+use Rattle.sql_read.specs.Copied.{CopiesTooMuch}
 use Rattle.sql_read.specs.Cursor.{Cursor, most_tokens, next}
 use Rattle.sql_read.specs.Eating.{Extends, IsNextAt}
 use Rattle.sql_grammar.specs.Numbering.{Built, each}
@@ -30,14 +31,15 @@ use Rattle.sql_read.specs.Reads.{Fails, Exceeds, GivesWithin, RefusesWithin, Spe
 use Rattle.sql_read.specs.Refusals.{refusal_of}
 use Rattle.sql_grammar.proofs.FewPlan.{few_plan_includes, few_rules_include}
 use Rattle.sql_read.proofs.ReadSteps.{same_taken}
-use Rattle.schema_read.specs.CopiedStatements.{Copied, CopiedToFault, LastTooMany}
+use Rattle.schema_read.specs.CopiedStatements.{Copied, CopiedToFault, CopiesCounted}
 use Rattle.schema_read.specs.Declarations.{IsSmall}
 use Rattle.schema_read.specs.Counting.{Counts, IsPlaced, ReadsTelling, RefusesCounted, TakesCounted, few_planned, narrowly}
 use Rattle.schema_read.specs.ReadingStatements.{IsLimited, IsRead, IsRefused, IsUnfinished, PassesCopies, PassesCount, PassesDepth}
 use Rattle.schema_read.specs.StatementGrammar as g
-use Rattle.schema_read.specs.StatementLimits.{CopiesFew, IsCopyTooMany, column_count, most_further_columns, most_relations, rule_count, within}
+use Rattle.schema_read.specs.StatementLimits.{CopiesFew, column_count, most_further_columns, most_relations, rule_count, within}
 use Rattle.schema_read.specs.Statements.{IsShallow, OfStatements, in_plan, shallow_statements, statements}
-use Rattle.schema_read.proofs.CopiedLists.{few_copies}
+use Rattle.schema_read.proofs.PassedCopies.{counted_within, last_beyond}
+use Rattle.schema_read.proofs.StatementCopies.{few_copies, statements_completed, statements_even}
 use Rattle.schema_read.proofs.CountSteps.{begun_free, below_within, same_read, took_free}
 use Rattle.schema_read.proofs.StatedCounts.{few_within}
 use Rattle.schema_read.proofs.Unlimited.{itself}
@@ -265,25 +267,30 @@ module _ (before after : Cursor) (what : LimitKind) (token : Lexeme) (more : Lis
 
 -- ---- a copy that passes its limit
 
-passed_copies : {before after : Cursor} → Spends relations_too g.statements (few_form g.statements) most_levels before after → LastTooMany (IsCopyTooMany before.copies) before after → FewBefore before after
+-- what was counted up to here is within the limit, and so is all that stands before
+counted_few : {before after : Cursor} → CopiesCounted g.statements (λ read. read) before before after → after.copies ≤ most_copies → FewCopied before after
+counted_few {before} {after} r most taken e = few_copies before.copies taken (counted_within g.statements refl statements_even statements_completed before after r most taken e)
+
+passed_copies : {before after : Cursor} → Spends relations_too g.statements (few_form g.statements) most_levels before after → CopiesTooMuch g.statements (λ read. read) before before after → FewBefore before after
     → PassesCopies before
-passed_copies {before} {after} s r few = record {
-  taken = r.taken;
-  token = r.token;
-  rest = after.tokens;
-  whole = r.whole;
-  too_many = r.too_many;
-  few = few (r.taken ++ r.token ∷ []) (r.whole ∙ sym (append_assoc r.taken (r.token ∷ []) after.tokens));
-  shallow = is_shallow _ (subst shallow_statements.front taken_on (shallow_same.there.front _ s.goes_on.begun));
-}
-  where
-    taken_on : s.goes_on.taken ≡ r.taken ++ r.token ∷ []
-    taken_on = same_taken before.tokens after.tokens s.goes_on.taken (r.taken ++ r.token ∷ []) s.goes_on.whole (r.whole ∙ sym (append_assoc r.taken (r.token ∷ []) after.tokens))
+passed_copies {before} {after} s r few =
+    let b = last_beyond g.statements refl statements_even statements_completed before after r in
+    let whole = b.whole ∙ sym (append_assoc b.taken (b.token ∷ []) after.tokens) in
+    record {
+      taken = b.taken;
+      token = b.token;
+      rest = after.tokens;
+      whole = b.whole;
+      too_many = record { goes_on = b.goes_on; within = b.within; beyond = b.beyond };
+      few = few (b.taken ++ b.token ∷ []) whole;
+      shallow =
+          is_shallow _ (subst shallow_statements.front (same_taken before.tokens after.tokens s.goes_on.taken (b.taken ++ b.token ∷ []) s.goes_on.whole whole) (shallow_same.there.front _ s.goes_on.begun));
+    }
 
 -- ---- all refusals
 
 abbrev pub CopiesRefused : Cursor → ReadFault → Cursor → Type 0
-CopiesRefused before fault after = CopiedToFault (IsCopyTooMany before.copies) before fault after
+CopiesRefused before fault after = CopiedToFault g.statements (λ read. read) before before fault after
 
 module _ {before after : Cursor} (most : after.copies ≤ most_copies) where
   limited : (what : LimitKind) → RefusesAll before (Limit what) after → CountRefused limit.Columns before (Limit what) after → CountRefused limit.Relations before (Limit what) after
@@ -291,24 +298,24 @@ module _ {before after : Cursor} (most : after.copies ≤ most_copies) where
   limited limit.Entries r columns relations copies =
       let t = r.says in let e = t.few tt in
       passes_count before after limit.Entries t.token t.more t.next t.goes_on e (few_before r columns relations tt (record { taken = e.taken; whole = e.whole; begun = e.begun }))
-      (λ taken i. few_copies taken i copies.says most)
+      (counted_few copies.says most)
   limited limit.Columns r columns relations copies =
       let t = r.says in
-      passes_count before after limit.Columns t.token t.more t.next t.goes_on (columns.passed refl) (few_before r columns relations tt (t.few tt)) (λ taken i. few_copies taken i copies.says most)
+      passes_count before after limit.Columns t.token t.more t.next t.goes_on (columns.passed refl) (few_before r columns relations tt (t.few tt)) (counted_few copies.says most)
   limited limit.Relations r columns relations copies =
       let t = r.says in
-      passes_count before after limit.Relations t.token t.more t.next t.goes_on (relations.passed refl) (few_before r columns relations tt (t.few tt)) (λ taken i. few_copies taken i copies.says most)
+      passes_count before after limit.Relations t.token t.more t.next t.goes_on (relations.passed refl) (few_before r columns relations tt (t.few tt)) (counted_few copies.says most)
   limited limit.Copies r columns relations copies = passed_copies r.says copies.says (few_before r columns relations tt (r.says.few tt))
 
   pub refused_whole : {fault : ReadFault} → RefusesAll before fault after → CountRefused limit.Columns before fault after → CountRefused limit.Relations before fault after → CopiesRefused before fault after
       → Extends before after → IsRefused before fault
   refused_whole {fault = Lex fault} r c n p x =
-      let t = r.says.few tt in unfinished r.says (few_before r c n tt (record { taken = t.taken; whole = t.whole; begun = t.begun })) (λ taken i. few_copies taken i p.says most) x
+      let t = r.says.few tt in unfinished r.says (few_before r c n tt (record { taken = t.taken; whole = t.whole; begun = t.begun })) (counted_few p.says most) x
   refused_whole {fault = Unexpected at} r c n p x =
-      let t = r.says.few tt in unfinished r.says (few_before r c n tt (record { taken = t.taken; whole = t.whole; begun = t.begun })) (λ taken i. few_copies taken i p.says most) x
+      let t = r.says.few tt in unfinished r.says (few_before r c n tt (record { taken = t.taken; whole = t.whole; begun = t.begun })) (counted_few p.says most) x
   refused_whole {fault = LeftOut word at} r c n p x =
-      let t = r.says.few tt in unfinished r.says (few_before r c n tt (record { taken = t.taken; whole = t.whole; begun = t.begun })) (λ taken i. few_copies taken i p.says most) x
-  refused_whole {fault = TooDeep at} r c n p x = passed r.says (few_before r c n tt (r.says.few tt)) (λ taken i. few_copies taken i p.says most)
+      let t = r.says.few tt in unfinished r.says (few_before r c n tt (record { taken = t.taken; whole = t.whole; begun = t.begun })) (counted_few p.says most) x
+  refused_whole {fault = TooDeep at} r c n p x = passed r.says (few_before r c n tt (r.says.few tt)) (counted_few p.says most)
   refused_whole {fault = Limit what} r c n p x = limited what r c n p
   refused_whole {fault = NoMemory} r c n p x = tt
 
@@ -328,11 +335,11 @@ module _ {before after : Cursor} {read handed : Result (List Statement) ReadFaul
           subst (λ z. IsRead before list z) (sym still) (read_whole r.answers columns.answers relations.answers x most counted few narrow)
       by (Err fault) r columns relations still few narrow = tt
 
-  pub statements_refused : Copied (IsCopyTooMany before.copies) before read after → IfErr handed (λ fault. IsRefused before fault)
+  pub statements_refused : Copied g.statements (λ read. read) before before read after → IfErr handed (λ fault. IsRefused before fault)
   statements_refused copied = rw same (by read r columns relations copied)
     where
       by : (result : Result (List Statement) ReadFault) → ReadsTelling relations_too g.statements most_levels (λ read. read) before before result after
           → Counts limit.Columns g.statements (planned_within limit.Columns) before result after → Counts limit.Relations g.statements (planned_within limit.Relations) before result after
-          → Copied (IsCopyTooMany before.copies) before result after → IfErr result (λ fault. IsRefused before fault)
+          → Copied g.statements (λ read. read) before before result after → IfErr result (λ fault. IsRefused before fault)
       by (Ok list) r columns relations copied = tt
       by (Err fault) r columns relations copied = refused_whole most r.answers columns.answers relations.answers copied.answers x

@@ -1,51 +1,45 @@
--- What the functions that read statements tell of the token with which too much is copied. Each goes by where a token is too many for its
--- form, which stands at the place where the function began.
-use Rattle.std.specs.Prelude.{◌≡◌, ◌≢◌, ◌≤◌, List, ◌∷◌, ◌++◌, Result, Ok, Err, IfErr}
-use Rattle.sql_lex.specs.Lexemes.{Lexeme}
+-- What the functions that read statements and cases tell of what was copied where they refuse a token. As the reader of queries they tell it by
+-- texts that go on from there with tokens that copy nothing.
+use Rattle.std.specs.Prelude.{◌≢◌, ◌≤◌, ◌+◌, None, Result, Ok, Err, IfErr}
+use Rattle.grammar.specs.Completions.{Reaches}
 use Rattle.sql_read.specs.declared.fault.ReadFault.{ReadFault}
 use Rattle.sql_read.specs.declared.fault.ReadFault.TheVariants.{Lex, Unexpected, LeftOut, TooDeep, Limit, NoMemory}
 use Rattle.sql_read.specs.declared.fault.LimitKind.TheVariants as limit
+use Rattle.sql_read.specs.Copied.{CopiesTooMuch}
 use Rattle.sql_read.specs.Cursor.{Cursor}
-use Rattle.sql_grammar.specs.QueryCopies.{most_copies}
+use Rattle.sql_read.specs.Reads.{of_form}
+use Rattle.sql_grammar.specs.Numbering.{Built}
+use Rattle.sql_grammar.specs.QueryCopies.{copies_nothing}
+use Rattle.sql_grammar.specs.QueryGrammar.{The}
 
--- where a token is too many
-abbrev pub TooMany : Type 1
-TooMany = List Lexeme → Lexeme → Type 0
+-- what a text copies that goes on from here and copies nothing more was counted from the start up to here
+pub record CopiesCounted {V A : Type 0} (f : The V) (h : V → Built A) (start before after : Cursor) : Type 0 where
+  pub value : V
+  pub up_to : Reaches copies_nothing (of_form None f) before.tokens value after.tokens
+  pub count : start.copies + (h value).copies ≤ after.copies
 
--- none of the tokens that were passed is, if no more was copied than may be
-pub record NoneTooMany (is_too_many : TooMany) (before after : Cursor) : Type 0 where
-  pub none : after.copies ≤ most_copies → (x y : List Lexeme) (token : Lexeme) → before.tokens ≡ x ++ token ∷ (y ++ after.tokens) → is_too_many x token → ⊥
-
--- the token that was passed last is
-pub record LastTooMany (is_too_many : TooMany) (before after : Cursor) : Type 0 where
-  pub taken : List Lexeme
-  pub token : Lexeme
-  pub whole : before.tokens ≡ taken ++ token ∷ after.tokens
-  pub too_many : is_too_many taken token
-
--- up to each other refusal none is
-abbrev pub Says : TooMany → Cursor → ReadFault → Cursor → Type 0
-Says is_too_many before (Lex fault) after = NoneTooMany is_too_many before after
-Says is_too_many before (Unexpected at) after = NoneTooMany is_too_many before after
-Says is_too_many before (LeftOut word at) after = NoneTooMany is_too_many before after
-Says is_too_many before (TooDeep at) after = NoneTooMany is_too_many before after
-Says is_too_many before (Limit limit.Copies) after = LastTooMany is_too_many before after
-Says is_too_many before (Limit limit.Entries) after = NoneTooMany is_too_many before after
-Says is_too_many before (Limit limit.Columns) after = NoneTooMany is_too_many before after
-Says is_too_many before (Limit limit.Relations) after = NoneTooMany is_too_many before after
-Says is_too_many before NoMemory after = Unit {0}
+abbrev pub Says : {V A : Type 0} → The V → (V → Built A) → Cursor → Cursor → ReadFault → Cursor → Type 0
+Says f h start before (Lex fault) after = CopiesCounted f h start before after
+Says f h start before (Unexpected at) after = CopiesCounted f h start before after
+Says f h start before (LeftOut word at) after = CopiesCounted f h start before after
+Says f h start before (TooDeep at) after = CopiesCounted f h start before after
+Says f h start before (Limit limit.Copies) after = CopiesTooMuch f h start before after
+Says f h start before (Limit limit.Entries) after = CopiesCounted f h start before after
+Says f h start before (Limit limit.Columns) after = CopiesCounted f h start before after
+Says f h start before (Limit limit.Relations) after = CopiesCounted f h start before after
+Says f h start before NoMemory after = Unit {0}
 
 -- up to a refusal
-pub record CopiedToFault (is_too_many : TooMany) (before : Cursor) (fault : ReadFault) (after : Cursor) : Type 0 where
-  pub says : Says is_too_many before fault after
+pub record CopiedToFault {V A : Type 0} (f : The V) (h : V → Built A) (start before : Cursor) (fault : ReadFault) (after : Cursor) : Type 0 where
+  pub says : Says f h start before fault after
 
-abbrev pub Answers : {A : Type 0} → TooMany → Cursor → Result A ReadFault → Cursor → Type 0
-Answers is_too_many before (Ok value) after = Unit {0}
-Answers is_too_many before (Err fault) after = CopiedToFault is_too_many before fault after
+abbrev pub Answers : {V A B : Type 0} → The V → (V → Built A) → Cursor → Cursor → Result B ReadFault → Cursor → Type 0
+Answers f h start before (Ok value) after = Unit {0}
+Answers f h start before (Err fault) after = CopiedToFault f h start before fault after
 
--- What was read from `before` to `after` has copied. What a whole form copies is in what it builds.
-pub record Copied {A : Type 0} (is_too_many : TooMany) (before : Cursor) (result : Result A ReadFault) (after : Cursor) : Type 0 where
-  pub answers : Answers is_too_many before result after
+-- What a form copied that was read from `before` to `after`. What a whole form copies is in what it builds.
+pub record Copied {V A B : Type 0} (f : The V) (h : V → Built A) (start before : Cursor) (result : Result B ReadFault) (after : Cursor) : Type 0 where
+  pub answers : Answers f h start before result after
 
 -- of what no view is part of
 abbrev pub CopiesNothing : {A : Type 0} → Result A ReadFault → Type 0

@@ -123,5 +123,9 @@ statements_with others = map (λ read. each read) (star None (ended_with others)
 abbrev pub statement : The (Built Statement)
 statement = statement_with elements
 
+-- statement ;
+abbrev pub ended : The (Built Statement)
+ended = ended_with elements
+
 abbrev pub statements : The (Built (List Statement))
 statements = statements_with elements

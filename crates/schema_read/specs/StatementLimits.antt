@@ -1,8 +1,9 @@
--- The limits on the columns of a table and on the number of relations, and those of the queries of views, each with the token that is one
--- too many. Each limit but that on copies is a language of the statements that keep it.
-use Rattle.std.specs.Prelude.{ℕ, zero, suc, ◌+◌, ◌-◌, ◌≡◌, List, [], ◌∷◌, ◌++◌, length, None}
+-- The limits on the columns of a table and on the number of relations, and those on entries and copies of the queries of views, each with
+-- the first token beyond it. Each is a language of the statements that keep it.
+use Rattle.std.specs.Prelude.{ℕ, zero, suc, ◌+◌, ◌-◌, ◌≡◌, ◌≤◌, List, [], ◌∷◌, ◌++◌, length, None}
 use Rattle.grammar.specs.Form.{empty, seq, alt, star, map, language, form_language}
-use Rattle.grammar.specs.Language.{map_language, upto_language}
+use Rattle.grammar.specs.Completions.{Completes}
+use Rattle.grammar.specs.Language.{Language, map_language, upto_language}
 use Rattle.grammar.specs.Productions.{skip_then}
 use Rattle.sql_lex.specs.Lexemes.{Lexeme}
 use Rattle.sql_model.specs.declared.statement.Statement.{Statement}
@@ -10,9 +11,8 @@ use Rattle.sql_model.specs.declared.statement.Statement.TheVariants as statement
 use Rattle.sql_grammar.specs.declared.kinds.Kind.TheVariants as k
 use Rattle.sql_grammar.specs.Kinds.{kind_of}
 use Rattle.sql_grammar.specs.Numbering.{each}
-use Rattle.sql_grammar.specs.QueryCopies as queries
+use Rattle.sql_grammar.specs.QueryCopies.{copies_nothing, most_copies}
 use Rattle.sql_grammar.specs.QueryEntries.{few_rules, most_further}
-use Rattle.sql_grammar.specs.QueryGrammar as grammar
 use Rattle.sql_grammar.specs.QueryGrammar.{The, a}
 use Rattle.schema_read.specs.StatementTrees.{Elements}
 use Rattle.schema_read.specs.StatementGrammar as g
@@ -75,7 +75,7 @@ IsEntryTooMany = IsFirstBeyond (few_entry_statements most_further)
 
 -- ---- all counts
 
--- The statements that keep the limit on this count. What they copy is counted from before them, so no language of statements keeps that limit.
+-- The statements that keep the limit on this count. What may be copied goes by what was copied before (`few_copy_statements`).
 abbrev pub within : LimitKind → OfStatements
 within limit.Columns = narrow_statements most_further_columns
 within limit.Entries = few_entry_statements most_further
@@ -84,28 +84,21 @@ within limit.Copies = statements
 
 -- ---- what the queries of views copy
 
--- VIEW name AS
-abbrev pub view_words : The (Lexeme × (Lexeme × Lexeme))
-view_words = seq (a k.View) (seq grammar.name (a k.As))
+-- The texts that copy, as the price says, no more than may be. A front is within the limit where a text is that goes on from it with tokens
+-- that copy nothing.
+abbrev pub within_copies : {A : Type 0} → (A → ℕ) → Language Lexeme A → Language Lexeme A
+within_copies price L = record {
+  spells = λ ts v. L.spells ts v × (price v ≤ most_copies);
+  front = λ ts. (v : _) × Completes copies_nothing L ts v × (price v ≤ most_copies);
+}
 
--- CREATE VIEW name AS
-abbrev pub create_view : The (Lexeme × (Lexeme × (Lexeme × Lexeme)))
-create_view = seq (a k.Create) view_words
+-- with so much copied before them, the statements that copy no more than may be
+abbrev pub few_copy_statements : ℕ → OfStatements
+few_copy_statements copied = within_copies (λ read. copied + read.copies) statements
 
--- Tokens of this form, which count as so much copied, and then a front of a query stand before the token, and with it the query copies more
--- than may be, and not before.
-pub record IsTooManyBehind {A : Type 0} (head : The A) (copied : A → ℕ) (before : List Lexeme) (token : Lexeme) : Type 0 where
-  pub words : List Lexeme
-  pub of_query : List Lexeme
-  pub whole : before ≡ words ++ of_query
-  pub read : A
-  pub spelled : (of_form None head).spells words read
-  pub too_many : queries.IsCopyTooMany (copied read) of_query token
-
--- With so much copied before the statements, the token is one of the query of a view behind whole statements, and it is the first with which
--- more is copied than may be.
+-- With so much copied before the statements, the token is the first with which more is copied than may be.
 abbrev pub IsCopyTooMany : ℕ → List Lexeme → Lexeme → Type 0
-IsCopyTooMany copied = IsTooManyBehind (seq g.statements create_view) (λ read. copied + read.0.copies)
+IsCopyTooMany copied = IsFirstBeyond (few_copy_statements copied)
 
 -- with none of these tokens too much is copied
 abbrev pub CopiesFew : ℕ → List Lexeme → Type 0

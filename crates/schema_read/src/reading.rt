@@ -11,7 +11,6 @@ ghost use Rattle.schema_read.specs.Counting.{Counts, ReadsTelling, few_planned, 
 ghost use Rattle.schema_read.specs.Declarations.{IsSmall};
 ghost use Rattle.schema_read.specs.ReadingStatements.{IsRead, IsRefused};
 ghost use Rattle.schema_read.specs.StatementGrammar as g;
-ghost use Rattle.schema_read.specs.StatementLimits.{IsCopyTooMany};
 
 mod columns;
 mod elements;
@@ -52,7 +51,7 @@ pub fn read_inner_statements(
     ensures reads { ReadsTelling relations_too g.statements most_levels (λ read. read) tokens.old tokens.old result tokens.new }
     ensures columns { Counts limit.Columns g.statements (of_form None (g.statements_with narrowly)) tokens.old result tokens.new }
     ensures relations { Counts limit.Relations g.statements few_planned tokens.old result tokens.new }
-    ensures copied { Copied (IsCopyTooMany tokens.old.copies) tokens.old result tokens.new }
+    ensures copied { Copied g.statements (λ read. read) tokens.old tokens.old result tokens.new }
     // What `read_schema` requires.
     ensures few { IfOk result (λ statements. length statements ≤ 256) }
     ensures small { IfOk result (λ statements. length tokens.old.tokens < 2 ^ 31 → Each IsSmall statements) }

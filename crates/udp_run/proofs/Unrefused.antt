@@ -1,8 +1,7 @@
 -- A text that spells a case within the limits, well formed and of one width, is refused with want of memory alone.
-use Rattle.std.proofs.Common.{◌≡◌, ◌+◌, ◌≤◌, ℕ, true, false, List, [], ◌∷◌, ◌++◌, length, Option, Some, None, refl, sym, ap, ◌∙◌, subst, inl, inr, arith, append_assoc}
-use Rattle.std.specs.Prelude.{◌⊎◌, map as map_list}
+use Rattle.std.proofs.Common.{◌≡◌, ℕ, true, false, List, [], ◌∷◌, ◌++◌, length, Option, Some, None, refl, sym, ap, ◌∙◌, subst, inl, inr, arith, append_assoc}
+use Rattle.std.specs.Prelude.{map as map_list}
 use Rattle.std.specs.Option.{option_or}
-use Rattle.std.proofs.lemmas.List.{append-nil}
 use Rattle.grammar.proofs.Known.{Known}
 use Rattle.grammar.specs.Lookahead.{lookahead}
 use Rattle.sql_lex.specs.Lexemes.{Lexeme}
@@ -11,10 +10,8 @@ use Rattle.sql_model.specs.Syntax.{Name, Query}
 use Rattle.sql_model.specs.Headings.{output_columns}
 use Rattle.sql_model.specs.Relations.{Relation}
 use Rattle.sql_model.specs.declared.schema.Schema.{Schema as TheSchema}
-use Rattle.sql_model.specs.declared.statement.Statement.{Statement}
 use Rattle.sql_grammar.specs.Kinds.{kind_of}
 use Rattle.sql_grammar.specs.Numbering.{Built, Numbers}
-use Rattle.sql_grammar.specs.QueryCopies.{most_copies}
 use Rattle.sql_grammar.specs.QueryLookahead.{table}
 use Rattle.sql_read.specs.declared.fault.LimitKind.{LimitKind}
 use Rattle.sql_read.specs.declared.fault.LimitKind.TheVariants as limit
@@ -22,7 +19,6 @@ use Rattle.sql_read.specs.declared.fault.ReadFault.TheVariants as read_refusal
 use Rattle.schema_read.specs.declared.fault.SchemaFault.{SchemaFault}
 use Rattle.schema_read.specs.declared.fault.SchemaFault.TheVariants as schema_refusal
 use Rattle.schema_read.specs.Builds.{Builds, schema_fault}
-use Rattle.schema_read.specs.StatementGrammar.{statements}
 use Rattle.schema_read.proofs.StatementKnown.{known}
 use Rattle.schema_read.proofs.Unlimited.{gl}
 use Rattle.scope_core.specs.declared.fault.ScopeFault.{ScopeFault}
@@ -39,7 +35,7 @@ use Rattle.case_core.specs.CaseGrammar as g
 use Rattle.case_core.specs.Cases.{IsRead, cases, within}
 use Rattle.case_core.specs.Refusals.{HasNotTwoQueries, IsNoCase, PassesCopies, PassesCount, Says}
 use Rattle.case_core.proofs.CaseCounts.{within_fronts}
-use Rattle.case_core.proofs.CaseFewCopies.{InFirst, InSecond, behind_first, in_queries, not_in_first, whole_begins}
+use Rattle.case_core.proofs.CaseCopies.{few_copies, whole_few}
 use Rattle.case_core.proofs.CaseFronts.{ends_there, fronts, nothing_follows, one_case}
 use Rattle.udp_run.specs.Cases.{AreComparable}
 
@@ -56,37 +52,20 @@ module _ (text : List ℕ) (written : CaseText) (numbers : Numbers) (read : IsRe
   abbrev tokens : List Lexeme
   tokens = read.spells.tokens
 
-  -- the tokens of the parts of the case
+  -- the tokens of the two queries
   record Parts : Type 0 where
-    before : List Lexeme
     first : List Lexeme
     second : List Lexeme
-    whole : tokens ≡ before ++ (first ++ second)
-    list : Built (List Statement)
     left : Built Query
     right : Built Query
-    statements_there : (gl statements).spells before list
     left_there : (gl g.ended_query).spells first left
     right_there : (gl g.ended_query).spells second right
-    copied : list.copies + (left.copies + right.copies) ≤ most_copies
 
   parts : Parts
   parts = of read.spells.spelled
     where
       of : cases.spells tokens read.spells.read → Parts
-      of (u, (before, both, e, s, (first, second, i, l, r)), same) = record {
-        before = before;
-        first = first;
-        second = second;
-        whole = e ∙ ap (λ z. before ++ z) i;
-        list = u.0;
-        left = u.1.0;
-        right = u.1.1;
-        statements_there = s;
-        left_there = l;
-        right_there = r;
-        copied = subst (λ z. z ≤ most_copies) (ap (λ z. z.copies) same) read.few_copies;
-      }
+      of (u, (before, both, e, s, (first, second, i, l, r)), same) = record { first = first; second = second; left = u.1.0; right = u.1.1; left_there = l; right_there = r }
 
   -- no count passes its limit
   none_passed : (what : LimitKind) → PassesCount 0 tokens what → ⊥
@@ -97,16 +76,7 @@ module _ (text : List ℕ) (written : CaseText) (numbers : Numbers) (read : IsRe
 
   few_copied : PassesCopies 0 tokens → ⊥
   few_copied u =
-      let p : Parts = parts in
-      by p (in_queries 0 p.before (p.first ++ p.second) u.taken u.rest u.token p.list p.statements_there
-      (whole_begins p.first p.second p.left p.left_there) (sym p.whole ∙ u.parts) (omega (arith, p.copied)) u.too_many)
-    where
-      by : (p : Parts) → InFirst (0 + p.list.copies) (p.first ++ p.second) u.rest u.token ⊎ InSecond (0 + p.list.copies) (p.first ++ p.second) u.rest u.token → ⊥
-      by p (inl f) = not_in_first (0 + p.list.copies) p.first p.second u.rest u.token p.left p.left_there (omega (arith, p.copied)) f
-      by p (inr s) =
-          not_in_first ((0 + p.list.copies) + p.left.copies) p.second [] u.rest u.token p.right p.right_there (omega (arith, p.copied))
-          (subst (λ z. InFirst ((0 + p.list.copies) + p.left.copies) z u.rest u.token) (sym (append-nil p.second))
-          (behind_first (0 + p.list.copies) p.first p.second u.rest u.token p.left p.left_there s))
+      few_copies 0 tokens (whole_few 0 tokens read.spells.read read.spells.spelled (omega (arith, read.few_copies))) u.taken u.rest u.token u.parts u.too_many
 
   not_limited : (what : LimitKind) → Says 0 tokens None (length text) (Read (read_refusal.Limit what)) → ⊥
   not_limited limit.Columns u = none_passed limit.Columns u

@@ -8,7 +8,7 @@ ghost use Rattle.sql_read.specs.Reads.{Reads, columns_too, of_form, relations_to
 ghost use Rattle.schema_read.specs.CopiedStatements.{Copied, CopiesNothing};
 ghost use Rattle.schema_read.specs.Counting.{Counts, ReadsTelling, few_planned, narrowly};
 ghost use Rattle.schema_read.specs.StatementGrammar as g;
-ghost use Rattle.schema_read.specs.StatementLimits.{IsCopyTooMany, IsTooManyBehind, column_count, create_view, view_words};
+ghost use Rattle.schema_read.specs.StatementLimits.{column_count};
 
 use super::MOST_RELATIONS;
 use super::elements::{Elements, table_elements};
@@ -25,7 +25,7 @@ pub fn statements(alloc: Global, tokens: &mut Tokens<'_>) -> Result<List<Stateme
     ensures reads { ReadsTelling relations_too g.statements most_levels (λ read. read) tokens.old tokens.old result tokens.new }
     ensures columns { Counts limit.Columns g.statements (of_form None (g.statements_with narrowly)) tokens.old result tokens.new }
     ensures relations { Counts limit.Relations g.statements few_planned tokens.old result tokens.new }
-    ensures copied { Copied (IsCopyTooMany tokens.old.copies) tokens.old result tokens.new }
+    ensures copied { Copied g.statements (λ read. read) tokens.old tokens.old result tokens.new }
     ensures few { IfOk result (λ statements. length statements ≤ 256) }
     ensures narrow { IfOk result (λ statements. Each (λ statement. column_count statement ≤ 32) statements) }
     ensures extends { Extends tokens.old tokens.new }
@@ -47,7 +47,7 @@ pub fn statements(alloc: Global, tokens: &mut Tokens<'_>) -> Result<List<Stateme
 fn ended_statement(alloc: Global, tokens: &mut Tokens<'_>) -> Result<Statement, ReadFault>
     ensures reads { ReadsTelling columns_too (g.ended_with g.elements) most_levels (λ read. read) tokens.old tokens.old result tokens.new }
     ensures columns { Counts limit.Columns (g.ended_with g.elements) (of_form None (g.ended_with narrowly)) tokens.old result tokens.new }
-    ensures copied { Copied (IsTooManyBehind create_view (λ words. tokens.old.copies)) tokens.old result tokens.new }
+    ensures copied { Copied (g.ended_with g.elements) (λ read. read) tokens.old tokens.old result tokens.new }
     ensures narrow { IfOk result (λ statement. column_count statement ≤ 32) }
     ensures extends { Extends tokens.old tokens.new }
 {
@@ -60,7 +60,7 @@ fn ended_statement(alloc: Global, tokens: &mut Tokens<'_>) -> Result<Statement, 
 fn statement(alloc: Global, tokens: &mut Tokens<'_>) -> Result<Statement, ReadFault>
     ensures reads { ReadsTelling columns_too g.statement most_levels (λ read. read) tokens.old tokens.old result tokens.new }
     ensures columns { Counts limit.Columns g.statement (of_form None (g.statement_with narrowly)) tokens.old result tokens.new }
-    ensures copied { Copied (IsTooManyBehind create_view (λ words. tokens.old.copies)) tokens.old result tokens.new }
+    ensures copied { Copied g.statement (λ read. read) tokens.old tokens.old result tokens.new }
     ensures narrow { IfOk result (λ statement. column_count statement ≤ 32) }
     ensures extends { Extends tokens.old tokens.new }
 {
@@ -95,7 +95,7 @@ fn table(alloc: Global, tokens: &mut Tokens<'_>) -> Result<Statement, ReadFault>
 /// `VIEW name AS query`
 fn view(alloc: Global, tokens: &mut Tokens<'_>) -> Result<Statement, ReadFault>
     ensures reads { Reads g.view most_levels (λ read. read) tokens.old tokens.old result tokens.new }
-    ensures copied { Copied (IsTooManyBehind view_words (λ words. tokens.old.copies)) tokens.old result tokens.new }
+    ensures copied { Copied g.view (λ read. read) tokens.old tokens.old result tokens.new }
     ensures narrow { IfOk result (λ statement. column_count statement ≤ 32) }
     ensures extends { Extends tokens.old tokens.new }
 {

@@ -7,7 +7,7 @@ use Rattle.case_core.proofs.text.case_text.Goals as goal
 pub returns-in_err-statements-clause-refused : goal.returns-in_err-statements-clause-refused
 returns-in_err-statements-clause-refused c =
     let s = c.in_err-statements.ensures in
-    refused_exit c.from_residual.result c.from_residual.ensures.1 (statements_refused s.reads.answers (statements_counted s.columns.answers s.relations.answers) (statements_copied _ s.reads.answers s.copied.answers) s.extends)
+    refused_exit c.from_residual.result c.from_residual.ensures.1 (statements_refused s.reads.answers (statements_counted s.columns.answers s.relations.answers) (statements_copied _ s.copied.answers) s.extends)
 
 pub returns-in_err-expect_more-clause-refused : goal.returns-in_err-expect_more-clause-refused
 returns-in_err-expect_more-clause-refused c =

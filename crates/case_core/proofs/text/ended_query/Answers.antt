@@ -2,10 +2,9 @@ use Rattle.std.proofs.Common.{refl}
 use Rattle.sql_grammar.specs.Queries.{most_levels}
 use Rattle.sql_read.proofs.Extending.{◌⨟◌, extends_misses, extends_passes}
 use Rattle.sql_read.proofs.ReadSteps.{before, blocks, exits, first_part, gives, mapped, missed, refuses, second, took_token, whole}
-use Rattle.schema_read.proofs.CopiedParts.{copied_exit, told}
-use Rattle.schema_read.proofs.CopiedQueries.{query_copied}
+use Rattle.schema_read.proofs.CopiedParts.{copied_exit, copied_to, query_copied, told_if}
 use Rattle.schema_read.proofs.NoCopies.{missed_other}
-use Rattle.case_core.proofs.CaseCopies.{none_in_query}
+use Rattle.case_core.proofs.CaseCopies.{at_semicolon, to_query}
 use Rattle.case_core.proofs.text.ended_query.Goals as goal
 
 pub returns-in_err-query-clause-reads : goal.returns-in_err-query-clause-reads
@@ -29,9 +28,9 @@ returns-clause-extends c = c.in_ok-query.ensures.extends ⨟ extends_passes c.in
 -- ---- what was copied
 
 pub returns-in_err-query-clause-copied : goal.returns-in_err-query-clause-copied
-returns-in_err-query-clause-copied c = copied_exit c.from_residual.ensures.1 (query_copied _ c.in_err-query.ensures.copied.answers)
+returns-in_err-query-clause-copied c = copied_exit c.from_residual.ensures.1 (copied_to _ (to_query c.args.tokens.now) (λ v. refl) (query_copied _ c.in_err-query.ensures.copied.answers))
 
 pub returns-in_err-expect-clause-copied : goal.returns-in_err-expect-clause-copied
 returns-in_err-expect-clause-copied c =
     copied_exit c.from_residual-in_err-expect.ensures.1
-    (told _ (missed_other c.in_err-expect.ensures) (none_in_query c.in_ok-query.ensures.reads.answers c.in_err-expect.ensures.stays.still))
+    (told_if _ (missed_other c.in_err-expect.ensures) (λ p. at_semicolon c.in_ok-query.ensures.reads.answers c.in_err-expect.ensures.stays.still))

@@ -3,8 +3,8 @@ use Rattle.sql_grammar.specs.Queries.{most_levels}
 use Rattle.sql_read.proofs.ReadSteps.{before, blocks, exits, first_part, gives, mapped, missed, refuses, second, took_token, whole}
 use Rattle.schema_read.proofs.CountParts.{semicolon_left, statement_holds}
 use Rattle.schema_read.proofs.CountSteps.{counted_exits, held, holds, part_refused, token_taken}
-use Rattle.schema_read.proofs.CopiedParts.{copied_exit, told}
-use Rattle.schema_read.proofs.CopiedViews.{none_in_statement}
+use Rattle.schema_read.proofs.CopiedParts.{copied_exit, copied_to, told_if}
+use Rattle.schema_read.proofs.CopiedViews.{at_semicolon, to_statement}
 use Rattle.schema_read.proofs.NoCopies.{missed_other}
 use Rattle.schema_read.proofs.reading.statement.ended_statement.Goals as goal
 
@@ -35,9 +35,9 @@ returns-clause-columns c =
 -- ---- what was copied
 
 pub returns-in_err-statement-clause-copied : goal.returns-in_err-statement-clause-copied
-returns-in_err-statement-clause-copied c = copied_exit c.from_residual.ensures.1 c.in_err-statement.ensures.copied.answers
+returns-in_err-statement-clause-copied c = copied_exit c.from_residual.ensures.1 (copied_to _ (to_statement c.args.tokens.now) (λ v. refl) c.in_err-statement.ensures.copied.answers)
 
 pub returns-in_err-expect-clause-copied : goal.returns-in_err-expect-clause-copied
 returns-in_err-expect-clause-copied c =
     copied_exit c.from_residual-in_err-expect.ensures.1
-    (told _ (missed_other c.in_err-expect.ensures) (none_in_statement c.in_ok-statement.ensures.reads.answers c.in_err-expect.ensures.stays.still))
+    (told_if _ (missed_other c.in_err-expect.ensures) (λ p. at_semicolon c.in_ok-statement.ensures.reads.answers c.in_err-expect.ensures.stays.still))

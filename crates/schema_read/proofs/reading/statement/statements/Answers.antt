@@ -5,7 +5,7 @@ use Rattle.schema_read.proofs.CountSteps.{counted_exits, counted_exits_for_memor
 use Rattle.schema_read.proofs.Narrow.{each_push}
 use Rattle.schema_read.proofs.StatedCounts.{all_few, all_narrow, counted_at, few_at_last, narrow_at_last, next_counted, next_few_refused, next_narrow_refused, none_counted}
 use Rattle.schema_read.proofs.StatementLists.{all_stated, fewer_tokens, next_refused, one_stated, one_too_many, stating}
-use Rattle.schema_read.proofs.CopiedLists.{next_copied, none_in_statements}
+use Rattle.schema_read.proofs.CopiedLists.{counted_statements, next_copied}
 use Rattle.schema_read.proofs.CopiedParts.{copied_exit}
 use Rattle.schema_read.proofs.reading.statement.statements.Goals as goal
 
@@ -73,7 +73,7 @@ returns-in_err-push-clause-relations c = counted_exits_for_memory c.from_residua
 pub returns-in_err-next-clause-copied : goal.returns-in_err-next-clause-copied
 returns-in_err-next-clause-copied c =
     copied_exit c.from_residual.ensures.1
-    (next_copied c.more.invariant.stating _ c.in_err-next.ensures.reads.answers c.in_err-next.ensures.extends c.in_err-next.ensures.copied.answers)
+    (next_copied c.more.invariant.stating _ c.in_err-next.ensures.copied.answers)
 
 pub returns-then-len-eq-MOST_RELATIONS-clause-copied : goal.returns-then-len-eq-MOST_RELATIONS-clause-copied
-returns-then-len-eq-MOST_RELATIONS-clause-copied c = record { answers = record { says = none_in_statements c.more.invariant.stating } }
+returns-then-len-eq-MOST_RELATIONS-clause-copied c = record { answers = record { says = counted_statements c.more.invariant.stating } }

@@ -6,9 +6,8 @@ use Rattle.sql_read.proofs.ReadSteps.{blocks, built_as, built_map, eaten, exits,
 use Rattle.schema_read.specs.StatementTrees as t
 use Rattle.schema_read.proofs.Readings.{alike_built, value_built}
 use Rattle.schema_read.proofs.StatementParts.{viewed}
-use Rattle.schema_read.proofs.CopiedParts.{copied_exit, copied_to, none_passed, told}
-use Rattle.schema_read.proofs.CopiedQueries.{query_copied}
-use Rattle.schema_read.proofs.CopiedViews.{at_as, at_name, query_part}
+use Rattle.schema_read.proofs.CopiedParts.{copied_exit, query_copied, told_if}
+use Rattle.schema_read.proofs.CopiedViews.{at_as, at_name, at_view, in_query}
 use Rattle.schema_read.proofs.NoCopies.{missed_other}
 use Rattle.schema_read.proofs.reading.statement.view.Goals as goal
 
@@ -44,20 +43,20 @@ returns-clause-reads c =
 -- ---- what was copied
 
 pub returns-in_err-expect-clause-copied : goal.returns-in_err-expect-clause-copied
-returns-in_err-expect-clause-copied c = copied_exit c.from_residual.ensures.1 (told _ (missed_other c.in_err-expect.ensures) (none_passed c.in_err-expect.ensures.stays.still))
+returns-in_err-expect-clause-copied c = copied_exit c.from_residual.ensures.1 (told_if _ (missed_other c.in_err-expect.ensures) (λ p. at_view c.in_err-expect.ensures.stays.still))
 
 pub returns-in_err-view-clause-copied : goal.returns-in_err-view-clause-copied
 returns-in_err-view-clause-copied c =
-    copied_exit c.from_residual-in_err-view.ensures.1 (at_name c.in_ok-expect.ensures _ (c.in_err-view.ensures.reads most_levels).answers c.in_err-view.ensures.free)
+    copied_exit c.from_residual-in_err-view.ensures.1 (at_name c.in_ok-expect.ensures _ (c.in_err-view.ensures.reads most_levels).answers c.in_err-view.ensures.extends c.in_err-view.ensures.free)
 
 pub returns-in_err-expect-2-clause-copied : goal.returns-in_err-expect-2-clause-copied
 returns-in_err-expect-2-clause-copied c =
     let name = (c.in_ok-view.ensures.reads most_levels).answers in
     copied_exit c.from_residual-in_err-expect-2.ensures.1
-    (told _ (missed_other c.in_err-expect-2.ensures) (at_as c.in_ok-expect.ensures name.takes (alike_built name.builds) c.in_err-expect-2.ensures.stays.still))
+    (told_if _ (missed_other c.in_err-expect-2.ensures) (λ p. at_as c.in_ok-expect.ensures name.takes (alike_built name.builds) c.in_err-expect-2.ensures.stays.still))
 
 pub returns-in_err-query-clause-copied : goal.returns-in_err-query-clause-copied
 returns-in_err-query-clause-copied c =
     let name = (c.in_ok-view.ensures.reads most_levels).answers in
     copied_exit c.from_residual-in_err-query.ensures.1
-    (copied_to (query_part c.in_ok-expect.ensures name.takes (alike_built name.builds) c.in_ok-expect-2.ensures) _ (query_copied _ c.in_err-query.ensures.copied.answers))
+    (in_query c.in_ok-expect.ensures name.takes (alike_built name.builds) _ c.in_ok-expect-2.ensures (query_copied _ c.in_err-query.ensures.copied.answers))
