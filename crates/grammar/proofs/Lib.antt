@@ -11,11 +11,13 @@ pub mod Choices
 pub mod Repetitions
 pub mod Predictions
 pub mod Remaining
+pub mod Limits
 pub mod Completing
 pub mod Fillings
 pub mod Longest
 pub mod Outcomes
 pub mod FrontCompletions
+pub mod ComputedCompletions
 pub mod SameFronts
 pub mod Prices
 pub mod SamePrices

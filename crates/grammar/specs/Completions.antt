@@ -16,6 +16,11 @@ pub record Completes {T A : Type 0} (chosen : T → Bool) (L : Language T A) (ts
   pub are_chosen : list_all chosen more ≡ true
   pub spelled : L.spells (ts ++ more) v
 
+-- the tokens are completed so to a text with some value
+pub record Completed {T A : Type 0} (chosen : T → Bool) (L : Language T A) (ts : List T) : Type 0 where
+  pub value : A
+  pub by : Completes chosen L ts value
+
 -- what stands here before the rest is completed so
 pub record Reaches {T A : Type 0} (chosen : T → Bool) (L : Language T A) (here : List T) (v : A) (rest : List T) : Type 0 where
   pub taken : List T

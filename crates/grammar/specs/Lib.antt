@@ -4,5 +4,6 @@ pub mod Productions
 pub mod Lookahead
 pub mod Reading
 pub mod Completions
+pub mod Limits
 pub mod Parses
 pub mod Samples
