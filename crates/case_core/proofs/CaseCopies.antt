@@ -1,7 +1,7 @@
 -- What a case copies is what its statements and its two queries copy, and where it passes the limit.
-use Rattle.std.proofs.Common.{◌≡◌, ◌≤◌, ◌+◌, ℕ, List, [], ◌∷◌, ◌++◌, refl, ap, arith}
+use Rattle.std.proofs.Common.{◌≡◌, ◌≤◌, ◌+◌, ℕ, List, ◌++◌, refl, ap, arith}
 use Rattle.grammar.specs.Form.{ref}
-use Rattle.grammar.specs.Language.{HasFronts}
+use Rattle.grammar.proofs.Limits.{CostsByCompletion, kept_within_cost, whole_within_cost}
 use Rattle.sql_lex.specs.Lexemes.{Lexeme}
 use Rattle.sql_model.specs.declared.statement.Statement.{Statement}
 use Rattle.sql_model.specs.declared.tree.Query.{Query}
@@ -11,32 +11,31 @@ use Rattle.sql_read.specs.Reads.{Gives}
 use Rattle.sql_read.proofs.ReadCopiedSteps.{on_still}
 use Rattle.sql_read.proofs.ReadCopies.{Going, at_start, on_first, on_mapped, on_taken}
 use Rattle.sql_grammar.specs.declared.kinds.Kind.TheVariants as k
-use Rattle.sql_grammar.specs.Numbering.{Built, each}
+use Rattle.sql_grammar.specs.Numbering.{Built}
 use Rattle.sql_grammar.specs.Queries.{most_levels}
-use Rattle.sql_grammar.specs.QueryCopies.{most_copies}
-use Rattle.sql_grammar.specs.QueryGrammar.{query}
+use Rattle.sql_grammar.specs.QueryCopies.{copies_nothing, most_copies, within_copies}
+use Rattle.sql_grammar.specs.QueryGrammar.{a, query}
+use Rattle.sql_grammar.proofs.CopyOnce.{form_costs}
 use Rattle.sql_grammar.proofs.PlanPrices.{EvenIn, evenly}
-use Rattle.sql_grammar.proofs.QueryFillings.{Filled, fill_first, fill_map, fill_query, fill_seq, select_one}
+use Rattle.sql_grammar.proofs.QueryCompletions.{filled}
+use Rattle.sql_grammar.proofs.QueryFillings.{Filled, select_one}
 use Rattle.grammar.proofs.Prices.{priced_then_skip}
 use Rattle.schema_read.specs.CopiedStatements.{CopiedToFault, CopiesCounted}
 use Rattle.schema_read.specs.StatementGrammar.{statements}
-use Rattle.schema_read.proofs.CopiedParts.{copied_to, counted_before}
-use Rattle.schema_read.proofs.PassedCopies.{LastBeyond, counted_within, last_beyond}
-use Rattle.schema_read.proofs.StatementCompletions.{Completed, Goes, completed, fill_semicolon, fill_statements, goes_first, goes_map, goes_query, goes_seq, goes_statements, goes_token}
-use Rattle.schema_read.proofs.StatementCopies.{free, fronts_from, none_beyond, passed_once, statements_even, whole_within}
-use Rattle.sql_read.specs.Copied.{CopiesTooMuch}
+use Rattle.schema_read.proofs.CopiedParts.{copied_to, counted_before, counted_within}
+use Rattle.schema_read.proofs.StatementCopies.{free, statements_even}
 use Rattle.case_core.specs.declared.text.CaseText.{CaseText}
 use Rattle.case_core.specs.CaseGrammar as g
-use Rattle.case_core.specs.Cases.{CopiesFew, IsCopyTooMany, cases, few_copy_cases}
+use Rattle.case_core.specs.Cases.{CopiesFew, cases}
 use Rattle.case_core.proofs.CaseCounts.{ReadsQuery, StatementsRead}
 
 -- ---- cases as forms
 
 fill_ended : Filled g.ended_query select_one
-fill_ended = fill_first fill_query fill_semicolon
+fill_ended = (filled g.ended_query refl).filled
 
 fill_two : Filled g.two_queries (select_one, select_one)
-fill_two = fill_seq fill_ended fill_ended
+fill_two = (filled g.two_queries refl).filled
 
 ended_even : EvenIn g.ended_query (λ read. read.copies)
 ended_even = priced_then_skip evenly (evenly.of_ref query) (free _)
@@ -44,32 +43,17 @@ ended_even = priced_then_skip evenly (evenly.of_ref query) (free _)
 pub case_even : EvenIn g.case (λ read. read.copies)
 case_even = evenly.of_map g.case_of (λ read. read.copies) (evenly.of_seq statements_even (evenly.of_seq ended_even ended_even)) (λ v. refl)
 
-goes_ended : Goes g.ended_query
-goes_ended = goes_first goes_query (goes_token k.Semicolon) fill_semicolon
-
-pub case_completed : (ts : List Lexeme) → cases.front ts → Completed g.case ts
-case_completed = completed (goes_map g.case_of (goes_seq goes_statements (goes_seq goes_ended goes_ended fill_ended) fill_two)) (fill_case)
-  where
-    fill_case : Filled g.case (g.case_of (each [], (select_one, select_one)))
-    fill_case = fill_map g.case_of (fill_seq fill_statements fill_two)
-
-abbrev copies_of : Built CaseText → ℕ
-copies_of read = read.copies
-
 -- ---- the limit
 
-pub copied_fronts : (copied : ℕ) (x : List Lexeme) → (few_copy_cases copied).front x → HasFronts (few_copy_cases copied)
-copied_fronts copied x s = fronts_from g.case refl copies_of case_even case_completed copied x s
+pub case_costs : CostsByCompletion copies_nothing cases (λ read. read.copies)
+case_costs = form_costs g.case refl (λ read. read.copies) case_even refl
 
-pub copied_once : (copied : ℕ) (x more y others : List Lexeme) (t u : Lexeme) → IsCopyTooMany copied x t → IsCopyTooMany copied y u → x ++ t ∷ more ≡ y ++ u ∷ others → (x ≡ y) × (t ≡ u)
-copied_once copied x more y others t u m n e = passed_once g.case refl copies_of case_even case_completed copied x more y others t u m.within m.beyond n.within n.beyond e
-
-pub few_copies : (copied : ℕ) (ts : List Lexeme) → (few_copy_cases copied).front ts → CopiesFew copied ts
-few_copies copied ts s x more t e m = none_beyond g.case refl copies_of case_even case_completed copied ts x more t s e m.beyond
+pub few_copies : (copied : ℕ) (ts : List Lexeme) → (within_copies copied cases).front ts → CopiesFew copied ts
+few_copies = kept_within_cost case_costs most_copies
 
 -- a whole case
-pub whole_few : (copied : ℕ) (ts : List Lexeme) (read : Built CaseText) → cases.spells ts read → copied + read.copies ≤ most_copies → (few_copy_cases copied).front ts
-whole_few copied ts read s l = whole_within g.case refl copies_of case_even case_completed copied ts read (s, l)
+pub whole_few : (copied : ℕ) (ts : List Lexeme) (read : Built CaseText) → cases.spells ts read → copied + read.copies ≤ most_copies → (within_copies copied cases).front ts
+whole_few copied ts read s l = whole_within_cost case_costs most_copies copied ts read (s, l)
 
 -- what a refusal says of copies
 abbrev pub CopiedAll : Cursor → ReadFault → Cursor → Type 0
@@ -79,19 +63,16 @@ abbrev pub Counted : Cursor → Cursor → Type 0
 Counted before after = CopiesCounted g.case (λ read. read) before before after
 
 pub counted_few : {before after : Cursor} → Counted before after → after.copies ≤ most_copies → (taken : List Lexeme) → before.tokens ≡ taken ++ after.tokens → CopiesFew before.copies taken
-counted_few {before} {after} r most taken e = few_copies before.copies taken (counted_within g.case refl case_even case_completed before after r most taken e)
-
-pub last_copied : {before after : Cursor} → CopiesTooMuch g.case (λ read. read) before before after → LastBeyond g.case refl case_even case_completed before after
-last_copied {before} {after} r = last_beyond g.case refl case_even case_completed before after r
+counted_few {before} {after} r most taken e = few_copies before.copies taken (counted_within r most taken e)
 
 -- ---- one query
 
 pub to_query : (start : Cursor) → Going (ref query) start.tokens g.ended_query start.tokens (λ v. v)
-to_query start = on_first (on_mapped at_start) fill_semicolon
+to_query start = on_first (on_mapped at_start) (filled (a k.Semicolon) refl).filled
 
 -- its semicolon is missed
 pub at_semicolon : {start here after : Cursor} {value : Query} → Gives (ref query) most_levels (λ read. read) start start value here → after ≡ here → CopiesCounted g.ended_query (λ read. read) start start after
-at_semicolon r s = counted_before (on_still (on_taken most_levels (on_mapped at_start) r.takes.took) s) fill_semicolon (omega (arith, r.builds.copies, ap (λ z. z.copies) s))
+at_semicolon r s = counted_before (on_still (on_taken most_levels (on_mapped at_start) r.takes.took) s) refl (omega (arith, r.builds.copies, ap (λ z. z.copies) s))
 
 -- ---- statements
 
@@ -107,7 +88,7 @@ module _ {a b : Cursor} {list : List Statement} (s : StatementsRead a list b) wh
 
   -- no query was read
   pub behind_statements : Counted a b
-  behind_statements = counted_before to_queries fill_two (omega (arith, s.reads.builds.copies))
+  behind_statements = counted_before to_queries refl (omega (arith, s.reads.builds.copies))
 
   pub first_copied : {c : Cursor} (fault : ReadFault) → CopiedToFault g.ended_query (λ read. read) b b fault c → CopiedAll a fault c
   first_copied fault m = copied_to fault (on_first to_queries fill_ended) (λ v. behind v.copies b.copies s.reads.read.copies s.reads.builds.copies) m
@@ -121,7 +102,7 @@ module _ {a b : Cursor} {list : List Statement} (s : StatementsRead a list b) wh
 
     -- no second query was read
     pub behind_first : Counted a c
-    behind_first = counted_before to_second fill_ended (omega (arith, s.reads.builds.copies, p.builds.copies))
+    behind_first = counted_before to_second refl (omega (arith, s.reads.builds.copies, p.builds.copies))
 
     pub second_copied : {d : Cursor} (fault : ReadFault) → CopiedToFault g.ended_query (λ read. read) c c fault d → CopiedAll a fault d
     second_copied fault m = copied_to fault to_second (λ v. behind v.copies b.copies c.copies s.reads.read.copies p.read.copies s.reads.builds.copies p.builds.copies) m

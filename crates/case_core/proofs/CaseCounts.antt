@@ -19,17 +19,17 @@ use Rattle.sql_read.specs.Cursor.{Cursor}
 use Rattle.sql_read.specs.Reads.{Gives, GivesWithin, Refuses, TakesWithin, few_form, relations_too}
 use Rattle.sql_grammar.specs.Kinds.{kind_of}
 use Rattle.sql_grammar.specs.Numbering.{Built, each}
-use Rattle.sql_grammar.specs.Queries.{most_levels}
+use Rattle.sql_grammar.specs.Queries.{most_levels, of_form}
 use Rattle.sql_grammar.proofs.QueryTable.{planned}
 use Rattle.sql_read.proofs.ReadSteps.{same_taken}
 use Rattle.schema_read.specs.Counting.{RefusesCounted, TakesCounted, few_planned, narrowly}
 use Rattle.schema_read.specs.StatementGrammar.{elements, ended_with, statements, statements_with}
 use Rattle.schema_read.specs.StatementLimits as of_statements
 use Rattle.schema_read.specs.StatementLimits.{most_further_columns, most_relations}
-use Rattle.schema_read.specs.Statements.{of_form}
 use Rattle.schema_read.proofs.CountSteps.{Holds, Rest, RestOf, below_within, free, held, holds, part_refused, rest_first, rest_second, same_read, statement_refused, took_free}
 use Rattle.schema_read.proofs.StatedCounts.{few_within}
-use Rattle.schema_read.proofs.StatementFronts.{few_statement_fronts, form_has_fronts, known_includes, narrow_below, planned_includes}
+use Rattle.schema_read.proofs.StatementFronts.{few_statement_fronts, narrow_below}
+use Rattle.sql_grammar.proofs.QueryForms.{form_has_fronts, known_includes, planned_includes}
 use Rattle.schema_read.proofs.Telling.{refused_more, with_columns}
 use Rattle.schema_read.proofs.Unlimited.{itself}
 use Rattle.schema_read.proofs.WholeStatements.{few_back, few_included, few_there}
@@ -212,4 +212,4 @@ few_before {ts} {rest} k taken e what =
     let u = k what in subst (λ z. (within what).front z) (same_taken ts rest u.taken taken u.whole e) ((within_same what).there.front u.taken u.begun)
 
 pub keeps_counts : {ts rest : List Lexeme} → KeepsAll ts rest → (taken : List Lexeme) → ts ≡ taken ++ rest → Stops cases taken rest → KeepsCounts ts
-keeps_counts {ts} {rest} k taken e s what = kept_to (within what) (within_fronts what) ts taken rest e (few_before k taken e what) s
+keeps_counts {ts} {rest} k taken e s what = kept_to (within what) (within_fronts what).shorter ts taken rest e (few_before k taken e what) s

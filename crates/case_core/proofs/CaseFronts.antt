@@ -9,24 +9,25 @@ use Rattle.grammar.proofs.Cut.{Cut, longer, same, shorter, cut}
 use Rattle.grammar.proofs.Forms.{form_fronts}
 use Rattle.grammar.proofs.Heights.{name_fronts}
 use Rattle.grammar.proofs.Known.{Known}
+use Rattle.grammar.proofs.Limits.{IsPrefixClosed}
 use Rattle.grammar.proofs.Longest.{no_longer}
 use Rattle.grammar.proofs.Tables.{form_known}
 use Rattle.sql_lex.specs.Lexemes.{Lexeme}
 use Rattle.sql_grammar.specs.Kinds.{kind_of, every_kind}
 use Rattle.sql_lex.proofs.WholeTexts.{same_tokens}
 use Rattle.sql_grammar.specs.Numbering.{Built, Numbers, first_numbers}
-use Rattle.sql_grammar.specs.Queries.{most_levels, of_production}
+use Rattle.sql_grammar.specs.Queries.{most_levels, of_production, of_form}
 use Rattle.sql_grammar.specs.QueryEntries.{few_rules, most_further}
 use Rattle.sql_grammar.specs.QueryGrammar.{The}
 use Rattle.sql_grammar.specs.QueryLookahead.{table}
 use Rattle.sql_grammar.proofs.EveryKind.{every_kind_is_there}
 use Rattle.sql_grammar.proofs.QueryKnown.{production_known}
-use Rattle.schema_read.specs.Statements.{of_form}
-use Rattle.schema_read.proofs.StatementFronts.{form_has_fronts, roomier}
+use Rattle.sql_grammar.proofs.QueryForms.{form_has_fronts, roomier}
 use Rattle.schema_read.proofs.WholeStatements.{few_grammar}
 use Rattle.case_core.specs.declared.text.CaseText.{CaseText}
 use Rattle.case_core.specs.CaseGrammar as g
-use Rattle.case_core.specs.Cases.{KeepsWithin, SpellsCase, cases, shallow_cases}
+use Rattle.case_core.specs.Cases.{SpellsCase, cases, shallow_cases}
+use Rattle.grammar.specs.Limits.{KeepsWithin}
 use Rattle.case_core.specs.Refusals.{GoesOnBehind}
 
 pub case_known : (room : Room) → Known kind_of (of_form room g.case) (lookahead table g.case)
@@ -43,11 +44,11 @@ pub nothing_follows : (x : List Lexeme) (read : Built CaseText) (t : Lexeme) (y 
 nothing_follows x read t y s f = false≢true ((case_known None).ahead.last x read t y s f)
 
 -- what is a front within limits, and goes on with nothing, passes them nowhere
-pub kept_to : (L : Language Lexeme (Built CaseText)) → HasFronts L → (ts taken rest : List Lexeme) → ts ≡ taken ++ rest → L.front taken → Stops cases taken rest → KeepsWithin L ts
+pub kept_to : (L : Language Lexeme (Built CaseText)) → IsPrefixClosed L → (ts taken rest : List Lexeme) → ts ≡ taken ++ rest → L.front taken → Stops cases taken rest → KeepsWithin cases L ts
 kept_to L l ts taken rest e f s x after token i d = at_cut (cut (x ++ token ∷ []) after taken rest (append_assoc x (token ∷ []) after ∙ (sym i ∙ e)))
   where
     at_cut : Cut (x ++ token ∷ []) after taken rest → ⊥
-    at_cut (longer t k p q) = d.beyond (l.shorter (x ++ token ∷ []) (t ∷ k) (subst L.front p f))
+    at_cut (longer t k p q) = d.beyond (l (x ++ token ∷ []) (t ∷ k) (subst L.front p f))
     at_cut (same p q) = d.beyond (subst L.front p f)
     at_cut (shorter t k p q) = no_longer cases fronts taken rest t (k ++ after) s q k (subst cases.front p d.goes_on)
 

@@ -1,9 +1,10 @@
 -- The steps of the reader of a case: statements, the first query and the second, and what it answers behind each.
-use Rattle.std.proofs.Common.{◌≡◌, ◌≤◌, ℕ, true, List, [], ◌∷◌, ◌++◌, Some, None, inl, inr, refl, sym, ◌∙◌, ap, subst, append_assoc, arith}
+use Rattle.std.proofs.Common.{◌≡◌, ◌≤◌, ℕ, true, List, [], ◌∷◌, ◌++◌, Some, None, inl, inr, refl, sym, ◌∙◌, ap, subst, arith}
 use Rattle.std.proofs.lemmas.Bool.{false≢true}
 use Rattle.std.proofs.lemmas.List.{append-nil}
 use Rattle.grammar.specs.Reading.{Stops, Took}
 use Rattle.grammar.proofs.Begun.{nothing_began}
+use Rattle.grammar.proofs.Limits.{within_cost_closed}
 use Rattle.grammar.proofs.Longest.{stops_at_longest}
 use Rattle.sql_lex.specs.Lexemes.{Lexeme}
 use Rattle.sql_model.specs.declared.statement.Statement.{Statement}
@@ -14,8 +15,8 @@ use Rattle.sql_read.specs.Cursor.{Cursor, next}
 use Rattle.sql_read.specs.Eating.{Extends, IsNextAt, is_next}
 use Rattle.sql_grammar.specs.Kinds.{among}
 use Rattle.sql_grammar.specs.Numbering.{Built}
-use Rattle.sql_grammar.specs.Queries.{most_levels}
-use Rattle.sql_grammar.specs.QueryCopies.{most_copies}
+use Rattle.sql_grammar.specs.Queries.{most_levels, of_form}
+use Rattle.sql_grammar.specs.QueryCopies.{most_copies, within_copies}
 use Rattle.sql_grammar.specs.QueryGrammar.{The}
 use Rattle.sql_read.specs.Reads.{Refuses, few_form, relations_too}
 use Rattle.sql_read.specs.Refusals.{refusal}
@@ -23,18 +24,17 @@ use Rattle.sql_read.proofs.Extending.{◌⨟◌}
 use Rattle.sql_read.proofs.ReadSteps.{LeftOf, blocks, built_both, built_map, entries_within, first_part, mapped as mapped_left, refuses, second, takes, whole}
 use Rattle.schema_read.specs.CopiedStatements.{CopiedToFault}
 use Rattle.schema_read.specs.StatementGrammar.{statements}
-use Rattle.schema_read.specs.Statements.{of_form}
-use Rattle.schema_read.proofs.StatementFronts.{form_has_fronts, roomier}
+use Rattle.sql_grammar.proofs.QueryForms.{form_has_fronts, roomier}
 use Rattle.schema_read.proofs.Telling.{refused_more, taken_more, with_both}
 use Rattle.case_core.specs.declared.fault.CaseFault.{CaseFault}
 use Rattle.case_core.specs.declared.fault.CaseFault.TheVariants.{Read, Schema, Scope, QueriesDiffer, NotTwoQueries, NoMemory}
 use Rattle.case_core.specs.declared.text.CaseText.{CaseText}
 use Rattle.case_core.specs.CaseGrammar as g
-use Rattle.case_core.specs.Cases.{IsShallow, KeepsCounts, cases, few_copy_cases, shallow_cases, within}
+use Rattle.case_core.specs.Cases.{IsShallow, KeepsCounts, cases, shallow_cases, within}
 use Rattle.case_core.specs.ReadingCases.{IsEnded, IsMore, IsNoEnd, IsTrailing, RefusesCase, TakesCase}
 use Rattle.case_core.specs.Refusals.{GoesOnBehind, Says}
 use Rattle.case_core.specs.Wrapping.{of_read}
-use Rattle.case_core.proofs.CaseCopies.{CopiedAll, behind_first, behind_statements, copied_fronts, counted_few, few_copies, first_copied, second_copied, whole_few}
+use Rattle.case_core.proofs.CaseCopies.{CopiedAll, behind_first, behind_statements, case_costs, counted_few, few_copies, first_copied, second_copied, whole_few}
 use Rattle.case_core.proofs.CaseCounts.{CountsRefused, ReadsQuery, StatementsRead, first_counted, keeps_behind, keeps_behind_first, keeps_counts, second_counted, taken_within, within_fronts}
 use Rattle.case_core.proofs.CaseFronts.{fronts, kept_to, shallow_fronts, shallow_included, third_there}
 use Rattle.case_core.proofs.Outcomes.{Behind, RefusesAll, TakesAll, more_behind, not_two_excluded, refusal_here, refused, says_next, took}
@@ -75,7 +75,7 @@ module _ {a b : Cursor} {list : List Statement} (s : StatementsRead a list b) (x
               place = e;
             },
           );
-          shallow = kept_to shallow_cases shallow_fronts a.tokens t.taken [] (all ∙ sym (append-nil t.taken)) begun tt;
+          shallow = kept_to shallow_cases shallow_fronts.shorter a.tokens t.taken [] (all ∙ sym (append-nil t.taken)) begun tt;
           few = keeps_counts (keeps_behind s entries) t.taken t.whole (stops_at_end t.taken b.tokens n.tokens);
           few_copies = counted_few (behind_statements s) most a.tokens (sym (append-nil a.tokens) ∙ ap (λ z. a.tokens ++ z) (sym n.tokens));
         };
@@ -116,7 +116,7 @@ module _ {a b c : Cursor} {list : List Statement} {left : Query} (s : Statements
                 place = e;
               },
             ));
-            shallow = kept_to shallow_cases shallow_fronts a.tokens t.taken [] (all ∙ sym (append-nil t.taken)) begun tt;
+            shallow = kept_to shallow_cases shallow_fronts.shorter a.tokens t.taken [] (all ∙ sym (append-nil t.taken)) begun tt;
             few = keeps_counts (keeps_behind_first s p entries) t.taken t.whole (stops_at_end t.taken c.tokens n.tokens);
             few_copies = counted_few (behind_first s p) most a.tokens (sym (append-nil a.tokens) ∙ ap (λ z. a.tokens ++ z) (sym n.tokens));
           };
@@ -149,15 +149,15 @@ module _ {a b c d : Cursor} {list : List Statement} {left right : Query} (s : St
   spelled : cases.spells taken value
   spelled = shallow_included.spells taken value the_case.spelled
 
-  case_few : d.copies ≤ most_copies → (few_copy_cases a.copies).front taken
+  case_few : d.copies ≤ most_copies → (within_copies a.copies cases).front taken
   case_few most = whole_few a.copies taken value spelled (omega (arith, most, s.reads.builds.copies, p.builds.copies, q.builds.copies))
 
   is_shallow : IsShallow a.tokens
-  is_shallow = kept_to shallow_cases shallow_fronts a.tokens taken d.tokens the_case.whole (shallow_fronts.spelled taken value the_case.spelled) the_case.stops
+  is_shallow = kept_to shallow_cases shallow_fronts.shorter a.tokens taken d.tokens the_case.whole (shallow_fronts.spelled taken value the_case.spelled) the_case.stops
 
   is_counted : KeepsCounts a.tokens
   is_counted what =
-      let f = within_fronts what in let t = the_few what in kept_to (within what) f a.tokens t.taken d.tokens t.whole (f.spelled t.taken value t.spelled) t.stops
+      let f = within_fronts what in let t = the_few what in kept_to (within what) f.shorter a.tokens t.taken d.tokens t.whole (f.spelled t.taken value t.spelled) t.stops
 
   module _ (x : Extends a b) (y : Extends b c) (z : Extends c d) where
     pub all_read : IsEnded d → TakesCase a (record { statements = list; left = left; right = right }) d
@@ -217,7 +217,7 @@ module _ {a b c d : Cursor} {list : List Statement} {left right : Query} (s : St
       counted = inr (inr (n.0, third_behind at d.tokens refl n.1.begins n.1.place));
       shallow = is_shallow;
       few = is_counted;
-      few_copies = kept_to (few_copy_cases a.copies) (copied_fronts a.copies taken (case_few most)) a.tokens taken d.tokens the_case.whole (case_few most) the_case.stops;
+      few_copies = kept_to (within_copies a.copies cases) (within_cost_closed case_costs most_copies a.copies) a.tokens taken d.tokens the_case.whole (case_few most) the_case.stops;
     }
     says_no_end first_more second_more NoMemory n most = tt
 

@@ -18,7 +18,7 @@ use Rattle.schema_read.specs.Indexes.{column_item, index_query, shown_columns}
 use Rattle.schema_read.specs.Order.{map_along}
 use Rattle.schema_read.specs.StatementGrammar as statements
 use Rattle.schema_read.specs.StatementTrees as trees_of
-use Rattle.schema_read.specs.Statements.{of_form}
+use Rattle.sql_grammar.specs.Queries.{of_form}
 use Rattle.scope_core.specs.Literals.{QueryFits, RelationFits, SchemaFits, TreeFits}
 use Rattle.scope_core.specs.Syntax.{RQuery}
 use Rattle.case_core.specs.declared.text.CaseText.{CaseText}

@@ -3,6 +3,8 @@ use Rattle.std.proofs.Common.{◌≡◌, ℕ, List, [], ◌∷◌, ◌++◌, ◌
 use Rattle.std.proofs.lemmas.List.{append-nil}
 use Rattle.grammar.specs.Language.{HasFronts, Includes, Language, map_language, seq_language}
 use Rattle.grammar.specs.Lookahead.{lookahead}
+use Rattle.grammar.specs.Limits.{KeepsWithin}
+use Rattle.grammar.proofs.Limits.{kept}
 use Rattle.grammar.proofs.Cut.{Cut, longer, same, shorter, cut, nil_right}
 use Rattle.grammar.proofs.Forms.{includes_itself}
 use Rattle.grammar.proofs.Fronts.{map_fronts, seq_fronts}
@@ -22,7 +24,8 @@ use Rattle.schema_read.specs.StatementGrammar as of_statements
 use Rattle.schema_read.specs.StatementLimits.{few_columns, few_entry_statements, few_statements, most_further_columns, most_relations, narrow_statements}
 use Rattle.schema_read.specs.Statements.{OfStatements, statements}
 use Rattle.schema_read.proofs.CountsApart.{KeepsOne, columns_or_entries, few_whole, narrow_whole, relations_or_columns, relations_or_entries}
-use Rattle.schema_read.proofs.StatementFronts.{few_entries_included, few_entry_fronts, few_form_included, few_statement_fronts, few_statements_included, form_has_fronts, narrow_included}
+use Rattle.schema_read.proofs.StatementFronts.{few_entries_included, few_entry_fronts, few_form_included, few_statement_fronts, few_statements_included, narrow_included}
+use Rattle.sql_grammar.proofs.QueryForms.{form_has_fronts}
 use Rattle.schema_read.proofs.StatementKnown.{known}
 use Rattle.schema_read.proofs.Unlimited.{gl}
 use Rattle.schema_read.proofs.WholeStatements.{few_grammar}
@@ -146,13 +149,13 @@ one_at limit.Copies other x t a b = absurd (no_copies x t a)
 -- ---- one text
 
 -- before the token that passes one limit none passes another
-not_before : (what : LimitKind) (x y rest : List Lexeme) (t : Lexeme) → IsOneTooMany what x t → (within what).front y → y ≡ x ++ t ∷ rest → ⊥
-not_before what x y rest t a f e = a.beyond ((within_fronts what).shorter (x ++ t ∷ []) rest (subst (within what).front (e ∙ sym (append_assoc x (t ∷ []) rest)) f))
+not_before : (what : LimitKind) (x : List Lexeme) → (within what).front x → KeepsWithin cases (within what) x
+not_before what = kept cases (within what) (within_fronts what).shorter
 
 pub one_count : (copied : ℕ) (tokens : List Lexeme) (what other : LimitKind) → PassesCount copied tokens what → PassesCount copied tokens other → what ≡ other
 one_count copied tokens what other a b = go (order tokens a.taken b.taken a.rest b.rest a.token b.token a.parts b.parts)
   where
     go : Order a.taken b.taken a.token b.token → what ≡ other
-    go (before k e) = absurd (not_before what a.taken b.taken k a.token a.too_many (b.few what) e)
+    go (before k e) = absurd (not_before what b.taken (b.few what) a.taken k a.token e a.too_many)
     go (one e f) = one_at what other b.taken b.token (subst (λ z. IsOneTooMany what z b.token) e (subst (λ z. IsOneTooMany what a.taken z) f a.too_many)) b.too_many
-    go (behind k e) = absurd (not_before other b.taken a.taken k b.token b.too_many (a.few other) e)
+    go (behind k e) = absurd (not_before other a.taken (a.few other) b.taken k b.token e b.too_many)

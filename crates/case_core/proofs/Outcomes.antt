@@ -1,6 +1,7 @@
 -- Where reading stops, as the text is refused there: what was read of the forms of a case is read of the published grammar.
 use Rattle.std.proofs.Common.{◌≡◌, ◌≤◌, ℕ, Bool, true, false, List, [], ◌∷◌, ◌++◌, ◌⊎◌, Option, Some, None, Result, Ok, Err, inl, inr, refl, sym, ◌∙◌, ap, subst, append_assoc, if◌then◌else◌, map as map_list}
 use Rattle.std.proofs.lemmas.List.{append-nil}
+use Rattle.grammar.specs.Completions.{Reaches}
 use Rattle.grammar.specs.Language.{Language, HasFronts}
 use Rattle.grammar.specs.Reading.{Began, Took, Failed, Exceeded, Passes}
 use Rattle.grammar.proofs.Longest.{no_longer, stops_at_longest}
@@ -15,24 +16,25 @@ use Rattle.sql_read.specs.declared.fault.LimitKind.TheVariants as limit
 use Rattle.sql_read.specs.Copied.{CopiesTooMuch}
 use Rattle.sql_read.specs.Cursor.{Cursor, next}
 use Rattle.sql_read.specs.Eating.{Extends, IsNextAt}
-use Rattle.sql_grammar.specs.Queries.{most_levels}
-use Rattle.sql_grammar.specs.QueryCopies.{most_copies}
+use Rattle.sql_grammar.specs.Queries.{most_levels, of_form}
+use Rattle.sql_grammar.specs.QueryCopies.{copies_nothing, most_copies}
+use Rattle.sql_grammar.proofs.CopyLimits.{too_many_here}
 use Rattle.sql_grammar.specs.QueryGrammar.{The}
 use Rattle.sql_read.specs.Reads.{Exceeds, Fails, RefusesWithin, Spends, TakesWithin, few_form, relations_too}
 use Rattle.sql_read.specs.Refusals.{is_left_out_word, refusal, refusal_of}
 use Rattle.sql_read.proofs.ReadSteps.{same_taken}
 use Rattle.schema_read.specs.Counting.{IsPlaced}
 use Rattle.schema_read.specs.StatementGrammar.{statements}
-use Rattle.schema_read.specs.Statements.{in_plan, of_form}
+use Rattle.sql_grammar.specs.QueryPlan.{in_plan}
 use Rattle.schema_read.proofs.CountSteps.{begun_free}
-use Rattle.schema_read.proofs.StatementFronts.{form_has_fronts, known_includes, planned_includes}
+use Rattle.sql_grammar.proofs.QueryForms.{form_has_fronts, known_includes, planned_includes}
 use Rattle.case_core.specs.declared.fault.CaseFault.TheVariants.{Read}
 use Rattle.case_core.specs.CaseGrammar as g
 use Rattle.case_core.specs.Cases.{CopiesFew, cases, shallow_cases, within}
 use Rattle.case_core.specs.ReadingCases.{IsMore, RefusesCase}
 use Rattle.case_core.specs.Refusals.{GoesOnBehind, HasNotTwoQueries, IsLimited, IsUnfinished, PassesCopies, PassesCount, PassesDepth, Says}
 use Rattle.case_core.specs.Wrapping.{of_read}
-use Rattle.case_core.proofs.CaseCopies.{CopiedAll, counted_few, last_copied}
+use Rattle.case_core.proofs.CaseCopies.{CopiedAll, case_costs, counted_few}
 use Rattle.case_core.proofs.CaseCounts.{CountsRefused, KeepsAll, few_before, keeps_counts, planned_within, within_same}
 use Rattle.case_core.proofs.CaseFronts.{fronts, kept_to, no_third, shallow_fronts, shallow_included}
 
@@ -138,7 +140,7 @@ unfinished {before} {after} r few copies x none one =
       leading = stops_at_longest cases fronts before.tokens t.taken after.tokens t.whole (shallow_included.front t.taken t.begun) t.stops;
       unspelled = refused_within r;
       not_counted = not_two_excluded before none one (λ at third. no_third t third);
-      shallow = kept_to shallow_cases shallow_fronts before.tokens t.taken after.tokens t.whole t.begun t.stops;
+      shallow = kept_to shallow_cases shallow_fronts.shorter before.tokens t.taken after.tokens t.whole t.begun t.stops;
       few = keeps_counts few t.taken t.whole t.stops;
       few_copies = copies t.taken t.whole;
       refusal = r.refused ∙ refusal_here x;
@@ -200,18 +202,21 @@ module _ {before after : Cursor} {fault : ReadFault} (r : RefusesAll g.case befo
 
 passed_copies : {before after : Cursor} → Spends relations_too g.case (few_form g.case) most_levels before after → CopiesTooMuch g.case (λ read. read) before before after → KeepsAll before.tokens after.tokens
     → PassesCopies before.copies before.tokens
-passed_copies {before} {after} s c few =
-    let r = last_copied c in
-    let with_token = r.whole ∙ sym (append_assoc r.taken (r.token ∷ []) after.tokens) in
-    record {
-      taken = r.taken;
-      token = r.token;
-      rest = after.tokens;
-      parts = r.whole;
-      too_many = record { goes_on = r.goes_on; within = r.within; beyond = r.beyond };
-      few = few_before few (r.taken ++ r.token ∷ []) with_token;
-      shallow = subst shallow_cases.front (same_taken before.tokens after.tokens s.goes_on.taken (r.taken ++ r.token ∷ []) s.goes_on.whole with_token) ((shallow_same g.case).there.front _ s.goes_on.begun);
-    }
+passed_copies {before} {after} s r few = record {
+  taken = up_to.taken;
+  token = r.token;
+  rest = after.tokens;
+  parts = up_to.whole;
+  too_many = too_many_here g.case case_costs before.copies before.tokens up_to.taken after.tokens r.token up_to.whole r.overspends;
+  few = few_before few (up_to.taken ++ r.token ∷ []) with_token;
+  shallow = subst shallow_cases.front (same_taken before.tokens after.tokens s.goes_on.taken (up_to.taken ++ r.token ∷ []) s.goes_on.whole with_token) ((shallow_same g.case).there.front _ s.goes_on.begun);
+}
+  where
+    up_to : Reaches copies_nothing (in_plan None g.case) before.tokens r.overspends.before (r.token ∷ after.tokens)
+    up_to = r.overspends.up_to
+
+    with_token : before.tokens ≡ (up_to.taken ++ r.token ∷ []) ++ after.tokens
+    with_token = up_to.whole ∙ sym (append_assoc up_to.taken (r.token ∷ []) after.tokens)
 
 limited : (before after : Cursor) (what : LimitKind) → after.copies ≤ most_copies → RefusesAll g.case before (Limit what) after → CountsRefused before (Limit what) after → CopiedAll before (Limit what) after → IsLimited before.copies before.tokens what
 limited before after limit.Entries l r n c =

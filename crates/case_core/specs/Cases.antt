@@ -1,8 +1,9 @@
 -- What a text spells as a case, and where it passes the limits: on depth and length, and on what is counted.
-use Rattle.std.specs.Prelude.{◌≡◌, ◌≤◌, ◌+◌, ℕ, List, [], ◌∷◌, ◌++◌, ◌⊎◌, length, Some, None}
+use Rattle.std.specs.Prelude.{◌≡◌, ◌≤◌, ℕ, List, length, Some, None}
 use Rattle.data_model.specs.Lists.{Each}
 use Rattle.grammar.specs.Form.{form_language, language}
 use Rattle.grammar.specs.Language.{Language, map_language, seq_language}
+use Rattle.grammar.specs.Limits.{IsFirstBeyond, KeepsWithin}
 use Rattle.sql_lex.specs.Lexemes.{Lexeme}
 use Rattle.sql_lex.specs.Tokens.{TokensOf}
 use Rattle.sql_model.specs.declared.statement.Statement.{Statement}
@@ -10,14 +11,13 @@ use Rattle.sql_read.specs.declared.fault.LimitKind.{LimitKind}
 use Rattle.sql_read.specs.declared.fault.LimitKind.TheVariants as limit
 use Rattle.sql_grammar.specs.Kinds.{kind_of}
 use Rattle.sql_grammar.specs.Numbering.{Built, Numbers, first_numbers}
-use Rattle.sql_grammar.specs.Queries.{most_levels}
-use Rattle.sql_grammar.specs.QueryCopies.{most_copies}
+use Rattle.sql_grammar.specs.Queries.{most_levels, of_form}
+use Rattle.sql_grammar.specs.QueryCopies.{most_copies, within_copies}
 use Rattle.sql_grammar.specs.QueryEntries.{few_rules, most_further}
 use Rattle.schema_read.specs.Declarations.{IsSmall}
 use Rattle.schema_read.specs.StatementGrammar.{statements}
 use Rattle.schema_read.specs.StatementLimits as of_statements
-use Rattle.schema_read.specs.StatementLimits.{most_relations, within_copies}
-use Rattle.schema_read.specs.Statements.{of_form}
+use Rattle.schema_read.specs.StatementLimits.{most_relations}
 use Rattle.case_core.specs.declared.text.CaseText.{CaseText}
 use Rattle.case_core.specs.CaseGrammar as g
 
@@ -36,7 +36,7 @@ abbrev pub few_entry_cases : Language Lexeme (Built CaseText)
 few_entry_cases = form_language kind_of (language kind_of (few_rules most_further)) None g.case
 
 -- The cases that keep the limit on this count. Queries have neither columns nor relations to count, and what may be copied goes by what was
--- copied before (`few_copy_cases`).
+-- copied before (`IsCopyTooMany`).
 abbrev pub within : LimitKind → Language Lexeme (Built CaseText)
 within limit.Columns = cases_behind (of_statements.within limit.Columns)
 within limit.Entries = few_entry_cases
@@ -47,43 +47,29 @@ within limit.Copies = cases
 abbrev pub BeginsCase : List Lexeme → Type 0
 BeginsCase ts = cases.front ts
 
--- Behind these tokens this one goes on, and is the first with which they are no front within the limits.
-pub record IsFirstBeyond (limited : Language Lexeme (Built CaseText)) (before : List Lexeme) (token : Lexeme) : Type 0 where
-  pub goes_on : BeginsCase (before ++ token ∷ [])
-  pub within : limited.front before
-  pub beyond : limited.front (before ++ token ∷ []) → ⊥
-
--- none of the tokens at which a text goes on passes the limits
-abbrev pub KeepsWithin : Language Lexeme (Built CaseText) → List Lexeme → Type 0
-KeepsWithin limited ts = (before after : List Lexeme) (token : Lexeme) → ts ≡ before ++ token ∷ after → IsFirstBeyond limited before token → ⊥
-
 -- the token opens too many levels, or makes a chain or a list too long
 abbrev pub IsTooDeep : List Lexeme → Lexeme → Type 0
-IsTooDeep = IsFirstBeyond shallow_cases
+IsTooDeep = IsFirstBeyond cases shallow_cases
 
 -- none of the tokens is too deep
 abbrev pub IsShallow : List Lexeme → Type 0
-IsShallow = KeepsWithin shallow_cases
+IsShallow = KeepsWithin cases shallow_cases
 
 -- With the token this count passes its limit: it begins an entry too many of a block, a column too many of a table or a statement too many.
 abbrev pub IsOneTooMany : LimitKind → List Lexeme → Lexeme → Type 0
-IsOneTooMany what = IsFirstBeyond (within what)
+IsOneTooMany what = IsFirstBeyond cases (within what)
 
 -- none of the tokens passes the limit of a count
 abbrev pub KeepsCounts : List Lexeme → Type 0
-KeepsCounts ts = (what : LimitKind) → KeepsWithin (within what) ts
-
--- with so much copied before them, the cases that copy no more than may be
-abbrev pub few_copy_cases : ℕ → Language Lexeme (Built CaseText)
-few_copy_cases copied = within_copies (λ read. copied + read.copies) cases
+KeepsCounts ts = (what : LimitKind) → KeepsWithin cases (within what) ts
 
 -- With so much copied before the case, the token is the first with which more is copied than may be.
 abbrev pub IsCopyTooMany : ℕ → List Lexeme → Lexeme → Type 0
-IsCopyTooMany copied = IsFirstBeyond (few_copy_cases copied)
+IsCopyTooMany copied = IsFirstBeyond cases (within_copies copied cases)
 
 -- with none of these tokens too much is copied
 abbrev pub CopiesFew : ℕ → List Lexeme → Type 0
-CopiesFew copied = KeepsWithin (few_copy_cases copied)
+CopiesFew copied = KeepsWithin cases (within_copies copied cases)
 
 -- The text is blanks, comments and tokens, and these spell the statements and the two queries; at its end the literals and called
 -- names have these numbers.

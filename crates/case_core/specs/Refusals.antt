@@ -15,7 +15,7 @@ use Rattle.sql_grammar.specs.Kinds.{among, kind_of}
 use Rattle.sql_grammar.specs.Numbering.{Built}
 use Rattle.sql_read.specs.Refusals.{refusal_of}
 use Rattle.schema_read.specs.StatementGrammar.{statements}
-use Rattle.schema_read.specs.Statements.{of_form}
+use Rattle.sql_grammar.specs.Queries.{of_form}
 use Rattle.case_core.specs.declared.fault.CaseFault.{CaseFault}
 use Rattle.case_core.specs.declared.fault.CaseFault.TheVariants.{Read, Schema, Scope, QueriesDiffer, NotTwoQueries, NoMemory}
 use Rattle.case_core.specs.declared.text.CaseText.{CaseText}

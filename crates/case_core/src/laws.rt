@@ -7,7 +7,7 @@ ghost use Rattle.sql_lex.specs.Lexemes.{Lexeme};
 ghost use Rattle.sql_grammar.specs.Numbering.{Built, Numbers};
 ghost use Rattle.sql_read.specs.declared.fault.LimitKind.{LimitKind as What};
 ghost use Rattle.schema_read.specs.FewEntries.{HasFewEntries, ViewHasFew};
-ghost use Rattle.schema_read.specs.Statements.{of_form};
+ghost use Rattle.sql_grammar.specs.Queries.{of_form};
 ghost use Rattle.case_core.specs.declared.text.CaseText.{CaseText as Written};
 ghost use Rattle.case_core.specs.CaseGrammar as g;
 ghost use Rattle.case_core.specs.Cases.{BeginsCase, IsRead, SpellsCase, cases, shallow_cases};

@@ -7,7 +7,6 @@ use Rattle.sql_read.specs.Cursor.{Cursor}
 use Rattle.sql_read.proofs.ReadCopiedSteps.{on_last}
 use Rattle.sql_read.proofs.ReadCopies.{Going, at_start, on_mapped}
 use Rattle.sql_grammar.specs.Numbering.{Built, each}
-use Rattle.sql_grammar.proofs.QueryFillings.{fill_none}
 use Rattle.schema_read.specs.CopiedStatements.{CopiedToFault, CopiesCounted}
 use Rattle.schema_read.specs.StatementGrammar as g
 use Rattle.schema_read.specs.StatementGrammar.{ended}
@@ -27,7 +26,7 @@ module _ {start here : Cursor} {list : List Statement} (l : Stating start here l
 
   -- behind whole statements
   pub counted_statements : CopiesCounted g.statements (λ read. read) start start here
-  counted_statements = counted_before to_statements (fill_none None ended) (same (each (l.join [])).copies (each (l.done ++ [])).copies (ap (λ z. (each z).copies) (l.same_done [])) (none_more l.done))
+  counted_statements = counted_before to_statements refl (same (each (l.join [])).copies (each (l.done ++ [])).copies (ap (λ z. (each z).copies) (l.same_done [])) (none_more l.done))
     where
       none_more : (bs : List (Built Statement)) → (each (bs ++ [])).copies ≡ (each bs).copies
       none_more [] = refl

@@ -1,14 +1,13 @@
 -- How what a part of statements, or of a case, has copied is what the whole has copied.
-use Rattle.std.proofs.Common.{◌≡◌, ◌≢◌, ◌≤◌, ◌+◌, ℕ, List, ◌∷◌, ◌++◌, None, Result, Ok, Err, refl, sym, ◌∙◌, ap, subst, arith}
+use Rattle.std.proofs.Common.{◌≡◌, ◌≢◌, ◌≤◌, ◌+◌, ℕ, true, List, ◌∷◌, ◌++◌, None, Result, Ok, Err, refl, sym, subst, arith}
 use Rattle.std.specs.Result.{IsErrAnd}
 use Rattle.std.proofs.lemmas.Result.{err_from_is_err_and}
-use Rattle.grammar.specs.Completions.{Completes, Continues, Reaches}
+use Rattle.grammar.specs.Completions.{Completed}
 use Rattle.grammar.specs.Form.{ref}
 use Rattle.grammar.specs.Language.{Includes}
 use Rattle.grammar.proofs.Completing as c
 use Rattle.grammar.proofs.Forms.{includes_through}
 use Rattle.sql_lex.specs.Lexemes.{Lexeme}
-use Rattle.sql_model.specs.declared.tree.Query.{Query}
 use Rattle.sql_read.specs.declared.fault.LimitKind.TheVariants as limit
 use Rattle.sql_read.specs.declared.fault.ReadFault.{ReadFault}
 use Rattle.sql_read.specs.declared.fault.ReadFault.TheVariants.{Lex, Unexpected, LeftOut, TooDeep, Limit, NoMemory}
@@ -18,17 +17,17 @@ use Rattle.sql_read.specs.Cursor.{Cursor}
 use Rattle.sql_read.specs.Reads.{ReadsWithin, RefusesWithin, TakesWithin, TellsEntries, Told, few_form, of_form}
 use Rattle.sql_read.proofs.ReadCopies.{Going, SamePrice}
 use Rattle.sql_grammar.specs.Numbering.{Built}
-use Rattle.sql_grammar.specs.QueryCopies.{copies_nothing, most_copies}
+use Rattle.sql_grammar.specs.QueryCopies.{copies_nothing, most_copies, within_copies}
 use Rattle.sql_grammar.specs.QueryGrammar.{The, query}
+use Rattle.sql_grammar.proofs.CopyLimits.{reached_copies}
 use Rattle.sql_grammar.proofs.CopySteps.{plan_filled}
-use Rattle.sql_grammar.proofs.QueryFillings.{Filled}
+use Rattle.sql_grammar.proofs.QueryCompletions.{filled, is_filled}
 use Rattle.sql_grammar.proofs.QueryTable.{planned}
 use Rattle.schema_read.specs.Counting.{IsPlaced}
 use Rattle.schema_read.specs.CopiedStatements.{Copied, CopiedToFault, CopiesCounted, CopiesNothing, Says}
-use Rattle.schema_read.specs.Statements.{in_plan}
+use Rattle.sql_grammar.specs.QueryPlan.{in_plan}
 use Rattle.schema_read.proofs.CountSteps.{begun_free}
-use Rattle.schema_read.proofs.StatementCompletions.{Completed}
-use Rattle.schema_read.proofs.StatementFronts.{known_includes, planned_includes, roomier}
+use Rattle.sql_grammar.proofs.QueryForms.{known_includes, planned_includes, roomier}
 use Rattle.schema_read.proofs.Unlimited.{gl}
 
 -- ---- what was read, in the grammar of statements
@@ -70,15 +69,15 @@ module _ {A Y : Type 0} {N : The A} {whole : A → Built Y} {start first after :
 
   module _ {C : Type 0} {f : The C} {h : C → A} where
     -- nothing of what remains stands here
-    pub counted_before : {v : C} → Going f after.tokens N first.tokens h → Filled f v → start.copies + (whole (h v)).copies ≤ after.copies → CopiesCounted N whole start first after
-    counted_before {v = v} l b e = record {
-      value = h v;
-      up_to = c.left_filled planned 0 copies_nothing (of_form None N) first.tokens f after.tokens h l.goes v (plan_filled f v b);
-      count = e;
+    pub counted_before : Going f after.tokens N first.tokens h → (e : is_filled f ≡ true) → start.copies + (whole (h (filled f e).value)).copies ≤ after.copies → CopiesCounted N whole start first after
+    counted_before l e i = let b = filled f e in record {
+      value = h b.value;
+      up_to = c.left_filled planned 0 copies_nothing (of_form None N) first.tokens f after.tokens h l.goes b.value (plan_filled f b.value b.filled);
+      count = i;
     }
 
     -- these tokens of the part stand before
-    pub counted_behind : {here taken : List Lexeme} → Going f here N first.tokens h → (r : Completed f taken) → here ≡ taken ++ after.tokens → start.copies + (whole (h r.value)).copies ≤ after.copies
+    pub counted_behind : {here taken : List Lexeme} → Going f here N first.tokens h → (r : Completed copies_nothing (gl f) taken) → here ≡ taken ++ after.tokens → start.copies + (whole (h r.value)).copies ≤ after.copies
         → CopiesCounted N whole start first after
     counted_behind {taken = taken} l r i e = record {
       value = h r.value;
@@ -92,7 +91,7 @@ module _ {A Y : Type 0} {N : The A} {whole : A → Built Y} {start first after :
 
     -- a part is refused of which no query is part
     pub free_refused : {limits : Told} {levels : ℕ} {here : Cursor} → TellsEntries limits → (fault : ReadFault) → RefusesWithin limits f (few_form f) levels here fault after → fault ≢ Limit limit.Copies
-        → Going f here.tokens N first.tokens h → ((ts : List Lexeme) → (gl f).front ts → Completed f ts)
+        → Going f here.tokens N first.tokens h → ((ts : List Lexeme) → (gl f).front ts → Completed copies_nothing (gl f) ts)
         → ((ts : List Lexeme) (v : C) → (gl f).spells ts v → start.copies + (whole (h v)).copies ≤ after.copies) → CopiedToFault N whole start first fault after
     free_refused t fault r n l goes e =
         told_if fault n (λ p.
@@ -100,7 +99,7 @@ module _ {A Y : Type 0} {N : The A} {whole : A → Built Y} {start first after :
         counted_behind l d b.whole (e (b.taken ++ d.by.more) d.value d.by.spelled))
 
     pub free_part : {limits : Told} {levels : ℕ} {D : Type 0} {k : C → Built D} {begun here : Cursor} → TellsEntries limits → (result : Result D ReadFault) → ReadsWithin limits f (few_form f) levels k begun here result after
-        → CopiesNothing result → Going f here.tokens N first.tokens h → ((ts : List Lexeme) → (gl f).front ts → Completed f ts)
+        → CopiesNothing result → Going f here.tokens N first.tokens h → ((ts : List Lexeme) → (gl f).front ts → Completed copies_nothing (gl f) ts)
         → ((ts : List Lexeme) (v : C) → (gl f).spells ts v → start.copies + (whole (h v)).copies ≤ after.copies) → Copied N whole start first result after
     free_part t (Ok value) r n l goes e = record { answers = tt }
     free_part t (Err fault) r n l goes e = record { answers = free_refused t fault r.answers n l goes e }
@@ -151,3 +150,10 @@ module _ {here after : Cursor} where
   query_copied (Limit limit.Columns) s = absurd s.says
   query_copied (Limit limit.Relations) s = absurd s.says
   query_copied NoMemory s = record { says = tt }
+
+-- ---- the limit
+
+-- what was counted up to here is within it
+pub counted_within : {A : Type 0} {f : The (Built A)} {before after : Cursor} → CopiesCounted f (λ read. read) before before after → after.copies ≤ most_copies → (taken : List Lexeme) → before.tokens ≡ taken ++ after.tokens
+    → (within_copies before.copies (gl f)).front taken
+counted_within {f = f} {before = before} {after = after} r most taken e = (r.value, reached_copies f before.tokens taken after.tokens r.value e r.up_to, omega (arith, r.count, most))

@@ -1,5 +1,5 @@
 -- What a statement has copied where it is refused: of views their queries copy, and nothing else does.
-use Rattle.std.proofs.Common.{◌≡◌, ◌≢◌, ◌≤◌, ◌+◌, ℕ, List, ◌∷◌, sym, ◌∙◌, ap, subst, arith}
+use Rattle.std.proofs.Common.{◌≡◌, ◌≢◌, ◌≤◌, ◌+◌, ℕ, refl, ap, arith}
 use Rattle.grammar.specs.Form.{alt, ref, seq}
 use Rattle.grammar.specs.Productions.{skip_then}
 use Rattle.sql_lex.specs.Lexemes.{Lexeme}
@@ -10,7 +10,6 @@ use Rattle.sql_read.specs.declared.fault.ReadFault.TheVariants.{Limit}
 use Rattle.sql_read.specs.Cursor.{Cursor}
 use Rattle.sql_read.specs.Eating.{Extends, Passes}
 use Rattle.sql_read.specs.Reads.{GivesWithin, Refuses, Takes, columns_too, few_form}
-use Rattle.sql_read.proofs.Extending.{◌⨟◌, extends_passes}
 use Rattle.sql_read.proofs.ReadCopiedSteps.{on_still}
 use Rattle.sql_read.proofs.ReadCopies.{Going, at_start, on_first, on_mapped, on_one, on_other, on_passed, on_second, on_taken, starting_at}
 use Rattle.sql_read.proofs.ReadPassing.{Alike, alike_passes, ◌then◌}
@@ -19,11 +18,11 @@ use Rattle.sql_grammar.specs.Kinds.{same}
 use Rattle.sql_grammar.specs.Numbering.{Built}
 use Rattle.sql_grammar.specs.Queries.{most_levels}
 use Rattle.sql_grammar.specs.QueryGrammar.{a, name, query}
+use Rattle.sql_grammar.proofs.QueryCompletions.{completed, filled}
 use Rattle.schema_read.specs.CopiedStatements.{CopiedToFault, CopiesCounted}
 use Rattle.schema_read.specs.StatementGrammar as g
 use Rattle.schema_read.specs.StatementTrees as t
-use Rattle.schema_read.proofs.CopiedParts.{copied_to, counted_before, free_refused, told_if}
-use Rattle.schema_read.proofs.StatementCompletions.{completed, fill_as, fill_name, fill_semicolon, fill_statement, fill_view, goes_name, view_one}
+use Rattle.schema_read.proofs.CopiedParts.{copied_to, counted_before, free_refused}
 
 -- ---- VIEW name AS query
 
@@ -35,7 +34,7 @@ none_more m n l = omega (arith, l)
 
 -- the word VIEW is missed
 pub at_view : {start after : Cursor} → after ≡ start → CopiesCounted g.view (λ read. read) start start after
-at_view {start} {after} s = counted_before (starting_at s) fill_view (omega (arith, ap (λ z. z.copies) s))
+at_view {start} {after} s = counted_before (starting_at s) refl (omega (arith, ap (λ z. z.copies) s))
 
 module _ {start b : Cursor} {word : Lexeme} (view : Passes (same kind.View) start word b) where
   -- the name, AS and the query are still to come
@@ -44,7 +43,7 @@ module _ {start b : Cursor} {word : Lexeme} (view : Passes (same kind.View) star
 
   pub at_name : {levels : ℕ} {after : Cursor} (fault : ReadFault) → Refuses name levels b fault after → Extends b after → fault ≢ Limit limit.Copies → CopiedView start fault after
   at_name {after = after} fault r x n =
-      free_refused tt fault r n (on_first named_view fill_as) (completed goes_name fill_name) (λ ts v s. none_more start.copies after.copies (omega (arith, x.copies, (alike_passes view).copies)))
+      free_refused tt fault r n (on_first named_view (filled (skip_then (a kind.As) (ref query)) refl).filled) (completed name refl) (λ ts v s. none_more start.copies after.copies (omega (arith, x.copies, (alike_passes view).copies)))
 
   module _ {c : Cursor} {levels : ℕ} {second : Lexeme} (named : Takes name levels b.tokens second c.tokens) (alike : Alike b c) where
     behind_name : Going (skip_then (a kind.As) (ref query)) c.tokens g.view start.tokens (λ q. t.view second q)
@@ -53,7 +52,7 @@ module _ {start b : Cursor} {word : Lexeme} (view : Passes (same kind.View) star
     -- the word AS is missed
     pub at_as : {after : Cursor} → after ≡ c → CopiesCounted g.view (λ read. read) start start after
     at_as {after} s =
-        counted_before (on_still behind_name s) fill_as (none_more start.copies after.copies (omega (arith, ap (λ z. z.copies) s, (alike_passes view then alike).copies)))
+        counted_before (on_still behind_name s) refl (none_more start.copies after.copies (omega (arith, ap (λ z. z.copies) s, (alike_passes view then alike).copies)))
 
     pub in_query : {third : Lexeme} {here after : Cursor} (fault : ReadFault) → Passes (same kind.As) c third here → CopiedToFault (ref query) (λ read. read) here here fault after → CopiedView start fault after
     in_query {here = here} fault as_word q =
@@ -66,7 +65,7 @@ module _ {start b : Cursor} {word : Lexeme} (view : Passes (same kind.View) star
 
 -- the word CREATE is missed
 pub at_create : {start after : Cursor} → after ≡ start → CopiesCounted g.statement (λ read. read) start start after
-at_create {start} {after} s = counted_before (starting_at s) fill_statement (omega (arith, ap (λ z. z.copies) s))
+at_create {start} {after} s = counted_before (starting_at s) refl (omega (arith, ap (λ z. z.copies) s))
 
 module _ {start here : Cursor} {word : Lexeme} (create : Passes (same kind.Create) start word here) where
   created : Going (alt (g.table_with g.elements) (alt g.view g.index)) here.tokens g.statement start.tokens (λ v. v)
@@ -91,10 +90,10 @@ module _ {start here : Cursor} {word : Lexeme} (create : Passes (same kind.Creat
 -- ---- a whole statement
 
 pub to_statement : (start : Cursor) → Going g.statement start.tokens (g.ended_with g.elements) start.tokens (λ v. v)
-to_statement start = on_first (on_mapped at_start) fill_semicolon
+to_statement start = on_first (on_mapped at_start) (filled (a kind.Semicolon) refl).filled
 
 -- its semicolon is missed
 pub at_semicolon : {start here after : Cursor} {value : Statement} → GivesWithin columns_too g.statement (few_form g.statement) most_levels (λ read. read) start start value here → after ≡ here
     → CopiesCounted (g.ended_with g.elements) (λ read. read) start start after
 at_semicolon r s =
-    counted_before (on_still (on_taken most_levels (on_mapped at_start) r.takes.took) s) fill_semicolon (omega (arith, r.builds.copies, ap (λ z. z.copies) s))
+    counted_before (on_still (on_taken most_levels (on_mapped at_start) r.takes.took) s) refl (omega (arith, r.builds.copies, ap (λ z. z.copies) s))

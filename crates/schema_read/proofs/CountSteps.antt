@@ -27,7 +27,7 @@ use Rattle.sql_grammar.specs.QueryPlan.{plan}
 use Rattle.sql_grammar.proofs.QueryTable.{planned}
 use Rattle.sql_read.proofs.ReadSteps.{deep_within, entries_within, same_taken, took_token}
 use Rattle.schema_read.specs.Counting.{Counts, IsPlaced, RefusesCounted}
-use Rattle.schema_read.proofs.StatementFronts.{known_includes, planned_includes}
+use Rattle.sql_grammar.proofs.QueryForms.{known_includes, planned_includes}
 use Rattle.schema_read.proofs.Unlimited.{Below, gl}
 
 -- a form with no limits, over the plan of queries

@@ -27,8 +27,10 @@ use Rattle.sql_grammar.specs.QueryLookahead.{table}
 use Rattle.sql_grammar.proofs.EveryKind.{every_kind_is_there}
 use Rattle.schema_read.specs.StatementGrammar as g
 use Rattle.schema_read.specs.StatementLimits.{few_columns, few_entry_statements, few_statements, most_further_columns, most_relations, narrow_statements}
-use Rattle.schema_read.specs.Statements.{IsFirstBeyond, OfStatements, statements}
-use Rattle.schema_read.proofs.StatementFronts.{ended_below, few_form_included, form_has_fronts, statement_below}
+use Rattle.schema_read.specs.Statements.{OfStatements, statements}
+use Rattle.grammar.specs.Limits.{IsFirstBeyond}
+use Rattle.schema_read.proofs.StatementFronts.{ended_below, few_form_included, statement_below}
+use Rattle.sql_grammar.proofs.QueryForms.{form_has_fronts}
 use Rattle.schema_read.proofs.StatementKnown.{known}
 use Rattle.schema_read.proofs.Unlimited.{gl}
 use Rattle.schema_read.specs.StatementGrammar.{ended}
@@ -321,7 +323,7 @@ few_whole ts read f (vs, s, e) = (vs, (s, few_kept most_relations vs ts f s), e)
 -- ---- one token
 
 -- it is not one too many for both
-pub not_both : (L M : OfStatements) → KeepsOne L M → (x : List Lexeme) (t : Lexeme) → IsFirstBeyond L x t → IsFirstBeyond M x t → ⊥
+pub not_both : (L M : OfStatements) → KeepsOne L M → (x : List Lexeme) (t : Lexeme) → IsFirstBeyond statements L x t → IsFirstBeyond statements M x t → ⊥
 not_both L M keeps x t l m = by (keeps x t l.goes_on l.within m.within)
   where
     by : L.front (x ++ t ∷ []) ⊎ M.front (x ++ t ∷ []) → ⊥

@@ -18,7 +18,6 @@ pub mod StatementColumns
 pub mod Unlimited
 pub mod StatementFronts
 pub mod StatementCounts
-pub mod StatementCompletions
 pub mod StatementCopies
 pub mod Readings
 pub mod NameLists
@@ -31,7 +30,6 @@ pub mod TableColumns
 pub mod ElementCounts
 pub mod StatementParts
 pub mod NoCopies
-pub mod PassedCopies
 pub mod CopiedParts
 pub mod CopiedViews
 pub mod StatementLists

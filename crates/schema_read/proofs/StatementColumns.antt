@@ -12,7 +12,8 @@ use Rattle.sql_grammar.specs.QueryGrammar.{The, a, parens}
 use Rattle.schema_read.specs.StatementTrees as t
 use Rattle.schema_read.specs.StatementTrees.{Elements, all_elements}
 use Rattle.schema_read.specs.StatementGrammar as g
-use Rattle.schema_read.specs.Statements.{SpellsIn, Spells, of_form}
+use Rattle.schema_read.specs.Statements.{SpellsIn, Spells}
+use Rattle.sql_grammar.specs.Queries.{of_form}
 use Rattle.schema_read.specs.StatementLimits.{constraints, few_columns, narrow_statements, column_count}
 
 abbrev gl : {A : Type 0} → The A → Language Lexeme A

@@ -1,4 +1,4 @@
--- What begins statements within a limit begins statements, and each limit is passed at one token.
+-- What begins statements within a limit begins statements.
 use Rattle.std.proofs.Common.{◌≡◌, ℕ, zero, suc, List, [], ◌∷◌, ◌++◌, inl, inr, refl, sym, ◌∙◌, ap, subst, append_assoc, Some, None, arith}
 use Rattle.std.proofs.lemmas.List.{append-nil}
 use Rattle.grammar.specs.Language.{Includes, HasFronts, upto_language, star_language}
@@ -6,7 +6,7 @@ use Rattle.grammar.specs.Form.{Room, IsRoomier, alt, form_language, language, se
 use Rattle.grammar.specs.Productions.{skip_then}
 use Rattle.grammar.proofs.Fronts.{map_fronts, upto_fronts}
 use Rattle.grammar.proofs.Forms.{includes_through, includes_itself, form_grows, form_fronts, star_includes_upto}
-use Rattle.grammar.proofs.Heights.{name_fronts, name_grows, same_room}
+use Rattle.grammar.proofs.Heights.{name_fronts, name_grows}
 use Rattle.grammar.proofs.Plans.{map_in}
 use Rattle.sql_lex.specs.Lexemes.{Lexeme}
 use Rattle.sql_grammar.specs.declared.kinds.Kind.TheVariants as k
@@ -15,22 +15,16 @@ use Rattle.sql_grammar.specs.Numbering.{each}
 use Rattle.sql_grammar.specs.Queries.{of_production}
 use Rattle.sql_grammar.specs.QueryEntries.{few_rules, most_further}
 use Rattle.sql_grammar.specs.QueryGrammar.{Production, The, a, name, rules}
-use Rattle.sql_grammar.specs.QueryPlan.{plan, of_plan}
 use Rattle.sql_grammar.proofs.EntryLists.{few_included}
-use Rattle.sql_grammar.proofs.PlanKnown.{grammar_includes}
-use Rattle.sql_grammar.proofs.QueryKnown.{plan_includes}
-use Rattle.sql_grammar.proofs.QueryFronts.{beyond_once}
+use Rattle.sql_grammar.proofs.QueryForms.{form_has_fronts}
 use Rattle.schema_read.specs.StatementTrees as t
 use Rattle.schema_read.specs.StatementTrees.{Elements}
 use Rattle.schema_read.specs.StatementGrammar as g
 use Rattle.schema_read.specs.StatementLimits.{constraints, few_columns, few_statements, few_entry_statements, narrow_statements}
-use Rattle.schema_read.specs.Statements.{OfStatements, IsFirstBeyond, in_plan, of_form, statements}
+use Rattle.schema_read.specs.Statements.{statements}
 use Rattle.schema_read.proofs.Unlimited.{Below, gl, itself, below_map, below_star, below_alt, below_seq, below_skip_then, below_then_skip, below_parens, in_first, in_second}
 
 -- ---- fronts
-
-pub form_has_fronts : {A : Type 0} (room : Room) (f : The A) → HasFronts (of_form room f)
-form_has_fronts room f = form_fronts kind_of of_production (name_fronts kind_of rules) f room
 
 pub few_statement_fronts : (most : ℕ) → HasFronts (few_statements most)
 few_statement_fronts most =
@@ -39,24 +33,7 @@ few_statement_fronts most =
 pub few_entry_fronts : (most : ℕ) → HasFronts (few_entry_statements most)
 few_entry_fronts most = form_fronts kind_of (language kind_of (few_rules most)) (name_fronts kind_of (few_rules most)) g.statements None
 
--- ---- over the plan of queries
-
-pub planned_includes : {A : Type 0} (room : Room) (f : The A) → Includes (in_plan room f) (of_form room f)
-planned_includes room f = form_grows kind_of of_production of_plan (name_fronts kind_of plan) names f room room (same_room room)
-  where
-    names : (small large : Room) → IsRoomier small large → (p : Production) → Includes (of_plan large p) (of_production small p)
-    names small large w p = includes_through (of_production small p) (of_production large p) (of_plan large p) (name_grows kind_of rules small large w p) (plan_includes large p)
-
-pub known_includes : {A : Type 0} (room : Room) (f : The A) → Includes (of_form room f) (in_plan room f)
-known_includes room f = form_grows kind_of of_plan of_production (name_fronts kind_of rules) names f room room (same_room room)
-  where
-    names : (small large : Room) → IsRoomier small large → (p : Production) → Includes (of_production large p) (of_plan small p)
-    names small large w p = includes_through (of_plan small p) (of_plan large p) (of_production large p) (name_grows kind_of plan small large w p) (grammar_includes large p)
-
 -- ---- the limits keep to the grammar
-
-pub roomier : {A : Type 0} (small large : Room) → IsRoomier small large → (f : The A) → Includes (of_form large f) (of_form small f)
-roomier small large w f = form_grows kind_of of_production of_production (name_fronts kind_of rules) (name_grows kind_of rules) f small large w
 
 pub few_statements_included : (most : ℕ) → Includes statements (few_statements most)
 few_statements_included most =
@@ -134,9 +111,3 @@ narrow_below m = below_map (λ read. each read) (below_star None None (ended_bel
 
 pub narrow_included : (m : ℕ) → Includes statements (narrow_statements m)
 narrow_included m = (narrow_below m).holds
-
--- ---- each limit is passed at one token
-
-pub beyond_at_one : (few : OfStatements) → HasFronts few → (x more y others : List Lexeme) (t u : Lexeme) → IsFirstBeyond few x t → IsFirstBeyond few y u → x ++ t ∷ more ≡ y ++ u ∷ others → (x ≡ y) × (t ≡ u)
-beyond_at_one few fronts x more y others t u d e i =
-    beyond_once few fronts x more y others t u (record { within = d.within; beyond = d.beyond }) (record { within = e.within; beyond = e.beyond }) i

@@ -9,14 +9,14 @@ use Rattle.sql_model.specs.declared.statement.Statement.{Statement}
 use Rattle.sql_grammar.specs.declared.kinds.Kind.{Kind}
 use Rattle.sql_grammar.specs.Kinds.{kind_of, every_kind}
 use Rattle.sql_grammar.specs.Numbering.{Numbers}
-use Rattle.sql_grammar.specs.Queries.{of_production}
+use Rattle.sql_grammar.specs.Queries.{of_production, of_form}
 use Rattle.sql_grammar.specs.QueryGrammar.{The}
 use Rattle.sql_grammar.specs.QueryLookahead.{table}
 use Rattle.sql_grammar.proofs.EveryKind.{every_kind_is_there}
 use Rattle.sql_grammar.proofs.QueryKnown.{production_known}
 use Rattle.schema_read.specs.StatementGrammar as g
 use Rattle.schema_read.specs.StatementLookahead.{of_statements}
-use Rattle.schema_read.specs.Statements.{Spells, of_form}
+use Rattle.schema_read.specs.Statements.{Spells}
 
 -- of each form at which the next token decides
 pub known : {A : Type 0} (f : The A) → is_predictive every_kind table f ≡ true → (room : Room) → Known kind_of (of_form room f) (lookahead table f)

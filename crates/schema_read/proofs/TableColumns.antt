@@ -36,7 +36,8 @@ use Rattle.schema_read.proofs.CountSteps.{Rest, RestOf, below_within, free, held
 use Rattle.schema_read.proofs.Readings.{value_built}
 use Rattle.schema_read.proofs.FewColumns.{Comma, behind, behind_comma, each_next, element_and_more, few, next, no_column, one_column, sorted}
 use Rattle.schema_read.proofs.TableElements.{listed}
-use Rattle.schema_read.proofs.StatementFronts.{columns_below, known_includes}
+use Rattle.schema_read.proofs.StatementFronts.{columns_below}
+use Rattle.sql_grammar.proofs.QueryForms.{known_includes}
 use Rattle.schema_read.proofs.StatementColumns.{in_column, in_rule}
 use Rattle.schema_read.proofs.Unlimited.{Below, itself}
 

@@ -7,7 +7,7 @@ use Rattle.grammar.proofs.Forms.{includes_itself, star_grows}
 use Rattle.sql_lex.specs.Lexemes.{Lexeme}
 use Rattle.sql_grammar.specs.declared.kinds.Kind.TheVariants as k
 use Rattle.sql_grammar.specs.QueryGrammar.{The, a, parens}
-use Rattle.schema_read.specs.Statements.{of_form}
+use Rattle.sql_grammar.specs.Queries.{of_form}
 
 abbrev pub gl : {A : Type 0} → The A → Language Lexeme A
 gl f = of_form None f

@@ -2,11 +2,13 @@
 use Rattle.std.proofs.Common.{◌≡◌, ◌≤◌, ◌<◌, ◌^◌, ◌+◌, ℕ, List, [], ◌∷◌, ◌++◌, length, length-append, Some, None, Result, Ok, Err, refl, sym, ◌∙◌, ap, subst, append_assoc, arith}
 use Rattle.std.specs.Prelude.{IfErr, IfOk, OnOk}
 use Rattle.data_model.specs.Lists.{Each}
+use Rattle.grammar.specs.Completions.{Reaches}
 use Rattle.grammar.specs.Form.{Room, IsRoomier, form_language, language}
 use Rattle.grammar.specs.Language.{Includes, Language, map_language, upto_language}
 use Rattle.grammar.specs.Reading.{Began, Exceeded, Passes, Took}
 use Rattle.grammar.proofs.Forms.{form_grows, includes_through, repeated_grows}
 use Rattle.grammar.proofs.Heights.{name_fronts, name_grows}
+use Rattle.grammar.proofs.Limits.{kept_within_cost, kept}
 use Rattle.grammar.proofs.Longest.{stops_at_longest}
 use Rattle.grammar.proofs.Plans.{map_in}
 use Rattle.grammar.proofs.Steps.{IsWithin, Same, took_in, failed_in, exceeded_in, map_within}
@@ -23,12 +25,13 @@ use Rattle.sql_read.specs.Eating.{Extends, IsNextAt}
 use Rattle.sql_grammar.specs.Numbering.{Built, each}
 use Rattle.sql_grammar.specs.Kinds.{kind_of}
 use Rattle.sql_grammar.specs.Queries.{most_levels}
-use Rattle.sql_grammar.specs.QueryCopies.{most_copies}
+use Rattle.sql_grammar.specs.QueryCopies.{copies_nothing, most_copies}
 use Rattle.sql_grammar.specs.QueryEntries.{few_rules, most_further}
 use Rattle.sql_grammar.specs.QueryGrammar.{Production, The}
-use Rattle.sql_grammar.specs.QueryPlan.{few_plan}
+use Rattle.sql_grammar.specs.QueryPlan.{few_plan, in_plan}
 use Rattle.sql_read.specs.Reads.{Fails, Exceeds, GivesWithin, RefusesWithin, Spends, few_form, relations_too}
 use Rattle.sql_read.specs.Refusals.{refusal_of}
+use Rattle.sql_grammar.proofs.CopyLimits.{too_many_here}
 use Rattle.sql_grammar.proofs.FewPlan.{few_plan_includes, few_rules_include}
 use Rattle.sql_read.proofs.ReadSteps.{same_taken}
 use Rattle.schema_read.specs.CopiedStatements.{Copied, CopiedToFault, CopiesCounted}
@@ -37,14 +40,15 @@ use Rattle.schema_read.specs.Counting.{Counts, IsPlaced, ReadsTelling, RefusesCo
 use Rattle.schema_read.specs.ReadingStatements.{IsLimited, IsRead, IsRefused, IsUnfinished, PassesCopies, PassesCount, PassesDepth}
 use Rattle.schema_read.specs.StatementGrammar as g
 use Rattle.schema_read.specs.StatementLimits.{CopiesFew, column_count, most_further_columns, most_relations, rule_count, within}
-use Rattle.schema_read.specs.Statements.{IsShallow, OfStatements, in_plan, shallow_statements, statements}
-use Rattle.schema_read.proofs.PassedCopies.{counted_within, last_beyond}
-use Rattle.schema_read.proofs.StatementCopies.{few_copies, statements_completed, statements_even}
+use Rattle.schema_read.specs.Statements.{IsShallow, OfStatements, shallow_statements, statements}
+use Rattle.schema_read.proofs.CopiedParts.{counted_within}
+use Rattle.schema_read.proofs.StatementCopies.{statement_costs}
 use Rattle.schema_read.proofs.CountSteps.{begun_free, below_within, same_read, took_free}
 use Rattle.schema_read.proofs.StatedCounts.{few_within}
 use Rattle.schema_read.proofs.Unlimited.{itself}
 use Rattle.schema_read.proofs.StatementCounts.{few_rules_spelled}
-use Rattle.schema_read.proofs.StatementFronts.{form_has_fronts, known_includes, narrow_below, planned_includes, roomier}
+use Rattle.schema_read.proofs.StatementFronts.{narrow_below}
+use Rattle.sql_grammar.proofs.QueryForms.{form_has_fronts, known_includes, planned_includes, roomier}
 
 free_same : Same (in_plan None g.statements) statements
 free_same = record { there = known_includes None g.statements; back = planned_includes None g.statements }
@@ -98,9 +102,7 @@ within_same limit.Copies = free_same
 
 -- what is a front within the limits passes them nowhere
 is_shallow : (taken : List Lexeme) → shallow_statements.front taken → IsShallow taken
-is_shallow taken s x y t e d =
-    let f = form_has_fronts (Some most_levels) g.statements in
-    d.beyond (f.shorter (x ++ t ∷ []) y (subst shallow_statements.front (e ∙ sym (append_assoc x (t ∷ []) y)) s))
+is_shallow = kept statements shallow_statements (form_has_fronts (Some most_levels) g.statements).shorter
 
 -- ---- sizes
 
@@ -269,23 +271,26 @@ module _ (before after : Cursor) (what : LimitKind) (token : Lexeme) (more : Lis
 
 -- what was counted up to here is within the limit, and so is all that stands before
 counted_few : {before after : Cursor} → CopiesCounted g.statements (λ read. read) before before after → after.copies ≤ most_copies → FewCopied before after
-counted_few {before} {after} r most taken e = few_copies before.copies taken (counted_within g.statements refl statements_even statements_completed before after r most taken e)
+counted_few {before} {after} r most taken e = kept_within_cost statement_costs most_copies before.copies taken (counted_within r most taken e)
 
 passed_copies : {before after : Cursor} → Spends relations_too g.statements (few_form g.statements) most_levels before after → CopiesTooMuch g.statements (λ read. read) before before after → FewBefore before after
     → PassesCopies before
-passed_copies {before} {after} s r few =
-    let b = last_beyond g.statements refl statements_even statements_completed before after r in
-    let whole = b.whole ∙ sym (append_assoc b.taken (b.token ∷ []) after.tokens) in
-    record {
-      taken = b.taken;
-      token = b.token;
-      rest = after.tokens;
-      whole = b.whole;
-      too_many = record { goes_on = b.goes_on; within = b.within; beyond = b.beyond };
-      few = few (b.taken ++ b.token ∷ []) whole;
-      shallow =
-          is_shallow _ (subst shallow_statements.front (same_taken before.tokens after.tokens s.goes_on.taken (b.taken ++ b.token ∷ []) s.goes_on.whole whole) (shallow_same.there.front _ s.goes_on.begun));
-    }
+passed_copies {before} {after} s r few = record {
+  taken = up_to.taken;
+  token = r.token;
+  rest = after.tokens;
+  whole = up_to.whole;
+  too_many = too_many_here g.statements statement_costs before.copies before.tokens up_to.taken after.tokens r.token up_to.whole r.overspends;
+  few = few (up_to.taken ++ r.token ∷ []) with_token;
+  shallow =
+      is_shallow _ (subst shallow_statements.front (same_taken before.tokens after.tokens s.goes_on.taken (up_to.taken ++ r.token ∷ []) s.goes_on.whole with_token) (shallow_same.there.front _ s.goes_on.begun));
+}
+  where
+    up_to : Reaches copies_nothing (in_plan None g.statements) before.tokens r.overspends.before (r.token ∷ after.tokens)
+    up_to = r.overspends.up_to
+
+    with_token : before.tokens ≡ (up_to.taken ++ r.token ∷ []) ++ after.tokens
+    with_token = up_to.whole ∙ sym (append_assoc up_to.taken (r.token ∷ []) after.tokens)
 
 -- ---- all refusals
 

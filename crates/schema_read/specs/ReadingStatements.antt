@@ -1,6 +1,7 @@
 -- What `read_statements` does with the tokens that are still to come.
 use Rattle.std.specs.Prelude.{ℕ, ◌+◌, ◌≡◌, ◌≤◌, List, [], ◌∷◌, ◌++◌, length}
 use Rattle.data_model.specs.Lists.{Each}
+use Rattle.grammar.specs.Limits.{IsFirstBeyond}
 use Rattle.grammar.specs.Reading.{IsLongestFront}
 use Rattle.sql_lex.specs.Lexemes.{Lexeme}
 use Rattle.sql_model.specs.declared.statement.Statement.{Statement}
@@ -14,7 +15,7 @@ use Rattle.sql_grammar.specs.QueryCopies.{most_copies}
 use Rattle.sql_read.specs.Refusals.{refusal_of}
 use Rattle.schema_read.specs.Declarations.{IsSmall}
 use Rattle.schema_read.specs.StatementLimits.{CopiesFew, IsCopyTooMany, most_relations, within}
-use Rattle.schema_read.specs.Statements.{IsFirstBeyond, IsShallow, IsTooDeep, statements}
+use Rattle.schema_read.specs.Statements.{IsShallow, IsTooDeep, statements}
 
 -- the longest list of tokens that begins statements was taken, and it spells these statements
 pub record IsRead (before : Cursor) (list : List Statement) (after : Cursor) : Type 0 where
@@ -67,7 +68,7 @@ pub record PassesCount (before : Cursor) (what : LimitKind) : Type 0 where
   pub token : Lexeme
   pub rest : List Lexeme
   pub whole : before.tokens ≡ taken ++ token ∷ rest
-  pub too_many : IsFirstBeyond (within what) taken token
+  pub too_many : IsFirstBeyond statements (within what) taken token
   -- no other count had passed its limit before
   pub few : (other : LimitKind) → (within other).front taken
   pub few_copies : CopiesFew before.copies taken

@@ -1,9 +1,9 @@
 -- The limits on the columns of a table and on the number of relations, and those on entries and copies of the queries of views, each with
 -- the first token beyond it. Each is a language of the statements that keep it.
-use Rattle.std.specs.Prelude.{ℕ, zero, suc, ◌+◌, ◌-◌, ◌≡◌, ◌≤◌, List, [], ◌∷◌, ◌++◌, length, None}
+use Rattle.std.specs.Prelude.{ℕ, zero, suc, ◌-◌, List, [], ◌∷◌, ◌++◌, length, None}
 use Rattle.grammar.specs.Form.{empty, seq, alt, star, map, language, form_language}
-use Rattle.grammar.specs.Completions.{Completes}
-use Rattle.grammar.specs.Language.{Language, map_language, upto_language}
+use Rattle.grammar.specs.Language.{map_language, upto_language}
+use Rattle.grammar.specs.Limits.{IsFirstBeyond, KeepsWithin}
 use Rattle.grammar.specs.Productions.{skip_then}
 use Rattle.sql_lex.specs.Lexemes.{Lexeme}
 use Rattle.sql_model.specs.declared.statement.Statement.{Statement}
@@ -11,14 +11,15 @@ use Rattle.sql_model.specs.declared.statement.Statement.TheVariants as statement
 use Rattle.sql_grammar.specs.declared.kinds.Kind.TheVariants as k
 use Rattle.sql_grammar.specs.Kinds.{kind_of}
 use Rattle.sql_grammar.specs.Numbering.{each}
-use Rattle.sql_grammar.specs.QueryCopies.{copies_nothing, most_copies}
+use Rattle.sql_grammar.specs.QueryCopies.{within_copies}
 use Rattle.sql_grammar.specs.QueryEntries.{few_rules, most_further}
 use Rattle.sql_grammar.specs.QueryGrammar.{The, a}
 use Rattle.schema_read.specs.StatementTrees.{Elements}
 use Rattle.schema_read.specs.StatementGrammar as g
 use Rattle.sql_read.specs.declared.fault.LimitKind.{LimitKind}
 use Rattle.sql_read.specs.declared.fault.LimitKind.TheVariants as limit
-use Rattle.schema_read.specs.Statements.{OfStatements, IsFirstBeyond, of_form, statements}
+use Rattle.schema_read.specs.Statements.{OfStatements, statements}
+use Rattle.sql_grammar.specs.Queries.{of_form}
 
 -- ---- columns
 
@@ -48,7 +49,7 @@ narrow_statements most = of_form None (g.statements_with (few_columns most))
 
 -- The token is the name of a column that is one too many for its table.
 abbrev pub IsColumnTooMany : List Lexeme → Lexeme → Type 0
-IsColumnTooMany = IsFirstBeyond (narrow_statements most_further_columns)
+IsColumnTooMany = IsFirstBeyond statements (narrow_statements most_further_columns)
 
 -- ---- relations
 
@@ -61,7 +62,7 @@ few_statements most = map_language (λ read. each read) (upto_language most (of_
 
 -- The token is the word CREATE of a statement that is one too many.
 abbrev pub IsRelationTooMany : List Lexeme → Lexeme → Type 0
-IsRelationTooMany = IsFirstBeyond (few_statements most_relations)
+IsRelationTooMany = IsFirstBeyond statements (few_statements most_relations)
 
 -- ---- the queries of views
 
@@ -71,11 +72,11 @@ few_entry_statements most = form_language kind_of (language kind_of (few_rules m
 
 -- The token begins an entry that is one too many for its block.
 abbrev pub IsEntryTooMany : List Lexeme → Lexeme → Type 0
-IsEntryTooMany = IsFirstBeyond (few_entry_statements most_further)
+IsEntryTooMany = IsFirstBeyond statements (few_entry_statements most_further)
 
 -- ---- all counts
 
--- The statements that keep the limit on this count. What may be copied goes by what was copied before (`few_copy_statements`).
+-- The statements that keep the limit on this count. What may be copied goes by what was copied before (`IsCopyTooMany`).
 abbrev pub within : LimitKind → OfStatements
 within limit.Columns = narrow_statements most_further_columns
 within limit.Entries = few_entry_statements most_further
@@ -84,25 +85,13 @@ within limit.Copies = statements
 
 -- ---- what the queries of views copy
 
--- The texts that copy, as the price says, no more than may be. A front is within the limit where a text is that goes on from it with tokens
--- that copy nothing.
-abbrev pub within_copies : {A : Type 0} → (A → ℕ) → Language Lexeme A → Language Lexeme A
-within_copies price L = record {
-  spells = λ ts v. L.spells ts v × (price v ≤ most_copies);
-  front = λ ts. (v : _) × Completes copies_nothing L ts v × (price v ≤ most_copies);
-}
-
--- with so much copied before them, the statements that copy no more than may be
-abbrev pub few_copy_statements : ℕ → OfStatements
-few_copy_statements copied = within_copies (λ read. copied + read.copies) statements
-
 -- With so much copied before the statements, the token is the first with which more is copied than may be.
 abbrev pub IsCopyTooMany : ℕ → List Lexeme → Lexeme → Type 0
-IsCopyTooMany copied = IsFirstBeyond (few_copy_statements copied)
+IsCopyTooMany copied = IsFirstBeyond statements (within_copies copied statements)
 
 -- with none of these tokens too much is copied
 abbrev pub CopiesFew : ℕ → List Lexeme → Type 0
-CopiesFew copied ts = (before after : List Lexeme) (token : Lexeme) → ts ≡ before ++ token ∷ after → IsCopyTooMany copied before token → ⊥
+CopiesFew copied = KeepsWithin statements (within_copies copied statements)
 
 -- ---- what statements count
 

@@ -1,23 +1,12 @@
 -- What a list of tokens spells as statements, each with its semicolon, and where it passes the limits on depth and length.
-use Rattle.std.specs.Prelude.{◌≡◌, List, [], ◌∷◌, ◌++◌, Some, None}
-use Rattle.grammar.specs.Form.{Room, form_language}
+use Rattle.std.specs.Prelude.{◌≡◌, List, Some, None}
 use Rattle.grammar.specs.Language.{Language}
+use Rattle.grammar.specs.Limits.{IsFirstBeyond, KeepsWithin}
 use Rattle.sql_lex.specs.Lexemes.{Lexeme}
 use Rattle.sql_model.specs.declared.statement.Statement.{Statement}
-use Rattle.sql_grammar.specs.Kinds.{kind_of}
 use Rattle.sql_grammar.specs.Numbering.{Numbers, Built}
-use Rattle.sql_grammar.specs.Queries.{most_levels, of_production}
-use Rattle.sql_grammar.specs.QueryGrammar.{The}
-use Rattle.sql_grammar.specs.QueryPlan.{of_plan}
+use Rattle.sql_grammar.specs.Queries.{most_levels, of_form}
 use Rattle.schema_read.specs.StatementGrammar as g
-
--- where the names of queries have their languages
-abbrev pub of_form : {A : Type 0} → Room → The A → Language Lexeme A
-of_form room f = form_language kind_of of_production room f
-
--- the same where they have the languages of the plan, by which one token decides
-abbrev pub in_plan : {A : Type 0} → Room → The A → Language Lexeme A
-in_plan room f = form_language kind_of of_plan room f
 
 abbrev pub OfStatements : Type 1
 OfStatements = Language Lexeme (Built (List Statement))
@@ -39,16 +28,10 @@ Spells = SpellsIn statements
 abbrev pub Begins : List Lexeme → Type 0
 Begins ts = statements.front ts
 
--- Behind these tokens this one goes on, and is the first with which they are no front within the limits.
-pub record IsFirstBeyond (limited : OfStatements) (before : List Lexeme) (token : Lexeme) : Type 0 where
-  pub goes_on : Begins (before ++ token ∷ [])
-  pub within : limited.front before
-  pub beyond : limited.front (before ++ token ∷ []) → ⊥
-
 -- the token opens too many levels, or makes a chain or a list too long
 abbrev pub IsTooDeep : List Lexeme → Lexeme → Type 0
-IsTooDeep = IsFirstBeyond shallow_statements
+IsTooDeep = IsFirstBeyond statements shallow_statements
 
 -- none of the tokens at which statements go on is too deep
 abbrev pub IsShallow : List Lexeme → Type 0
-IsShallow ts = (before after : List Lexeme) (token : Lexeme) → ts ≡ before ++ token ∷ after → IsTooDeep before token → ⊥
+IsShallow = KeepsWithin statements shallow_statements

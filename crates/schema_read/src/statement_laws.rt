@@ -9,7 +9,7 @@ ghost use Rattle.sql_model.specs.declared.statement.Statement.{Statement};
 ghost use Rattle.sql_model.specs.declared.tree.Query.{Query as Tree};
 ghost use Rattle.sql_grammar.specs.Kinds.{kind_of};
 ghost use Rattle.sql_grammar.specs.Numbering.{Built, Numbers};
-ghost use Rattle.sql_grammar.specs.Queries.{queries};
+ghost use Rattle.sql_grammar.specs.Queries.{queries, of_form};
 ghost use Rattle.sql_grammar.specs.QueryCopies.{most_copies};
 ghost use Rattle.sql_grammar.specs.QueryEntries.{few_rules, most_further};
 ghost use Rattle.sql_grammar.specs.QueryGrammar.{query};
@@ -17,7 +17,8 @@ ghost use Rattle.schema_read.specs.FewEntries.{HasFewEntries, ViewHasFew};
 ghost use Rattle.schema_read.specs.StatementGrammar as g;
 ghost use Rattle.schema_read.specs.StatementLimits.{CopiesFew, IsColumnTooMany, IsCopyTooMany, IsEntryTooMany, IsRelationTooMany, column_count, few_entry_statements, few_statements, narrow_statements, rule_count};
 ghost use Rattle.schema_read.specs.StatementLookahead.{of_statements};
-ghost use Rattle.schema_read.specs.Statements.{Begins, IsTooDeep, Spells, SpellsIn, in_plan, of_form, shallow_statements, statements};
+ghost use Rattle.schema_read.specs.Statements.{Begins, IsTooDeep, Spells, SpellsIn, shallow_statements, statements};
+ghost use Rattle.sql_grammar.specs.QueryPlan.{in_plan};
 
 /// Statements may go on after no tokens, after fewer tokens than they may go on after, and after whole ones.
 pub fn fronts()

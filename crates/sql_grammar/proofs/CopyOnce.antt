@@ -1,22 +1,26 @@
--- A front has copied one number, which grows along fronts: so the limit on copies is passed at no more than one token of a text.
-use Rattle.std.proofs.Common.{◌≡◌, ℕ, ◌+◌, ◌≤◌, ◌<◌, true, List, [], ◌∷◌, ◌++◌, refl, sym, ◌∙◌, ap, subst, append_assoc, None, arith}
-use Rattle.std.proofs.lemmas.List.{append-nil}
+-- A text that goes on from a front with tokens that copy nothing copies no more than one that goes on from there with others. So what such texts
+-- copy is one number, which grows along fronts, and the limit on copies is passed at no more than one token of a text.
+use Rattle.std.proofs.Common.{◌≡◌, ℕ, zero, suc, ◌≤◌, true, List, [], ◌∷◌, ◌++◌, refl, subst, None, arith}
 use Rattle.std.specs.List.{list_all}
-use Rattle.grammar.proofs.Cut.{Cut, longer, same, shorter, cut}
-use Rattle.grammar.proofs.SameFronts.{SameOf, StillOf, same_fronts, still_texts}
+use Rattle.grammar.specs.Form.{empty, language_within, ref}
+use Rattle.grammar.specs.Lookahead.{is_predictive}
+use Rattle.grammar.proofs.Heights.{spelled_at}
+use Rattle.grammar.proofs.Limits.{CostsByCompletion}
+use Rattle.grammar.proofs.Predictions.{named}
+use Rattle.grammar.proofs.SameFronts.{SameOf, StillOf, alike, same_fronts, still_of, still_texts}
 use Rattle.grammar.proofs.Sets.{and_both}
 use Rattle.sql_lex.specs.Lexemes.{Lexeme}
-use Rattle.sql_model.specs.declared.tree.Query.{Query}
-use Rattle.sql_grammar.specs.Numbering.{Built}
-use Rattle.sql_grammar.specs.QueryGrammar.{Production, Read, query, part, operand, block, item, from, entry, reference, expr, conj, neg, test, rest, value, term, unary, primary, agg, set_tail, and_tail, expr_tail, inner, in_inner, commas}
-use Rattle.grammar.specs.Form.{empty}
-use Rattle.sql_grammar.specs.Queries.{queries}
-use Rattle.sql_grammar.specs.QueryCopies.{CopiesOf, IsCopyTooMany, copies_nothing, most_copies}
-use Rattle.sql_grammar.specs.QueryPlan.{plan}
+use Rattle.sql_grammar.specs.Kinds.{every_kind, kind_of}
+use Rattle.sql_grammar.specs.QueryGrammar.{Production, Read, The, query, part, operand, block, item, from, entry, reference, expr, conj, neg, test, rest, value, term, unary, primary, agg, set_tail, and_tail, expr_tail, inner, in_inner, commas}
+use Rattle.sql_grammar.specs.Queries.{of_form, queries}
+use Rattle.sql_grammar.specs.QueryCopies.{copies_nothing}
+use Rattle.sql_grammar.specs.QueryLookahead.{table}
+use Rattle.sql_grammar.specs.QueryPlan.{of_plan, plan}
 use Rattle.sql_grammar.proofs.CopyPrices.{price_of}
-use Rattle.sql_grammar.proofs.PlanPrices.{any, SameRead, StillRead, LooseRead, evenly, none, no_price, members_price, commas_even, set_tail_rule, and_tail_rule, expr_tail_rule}
+use Rattle.sql_grammar.proofs.PlanPrices.{any, EvenIn, SameRead, StillRead, LooseRead, evenly, none, no_price, members_price, commas_even, set_tail_rule, and_tail_rule, expr_tail_rule}
 use Rattle.sql_grammar.proofs.PlanSame.{test_rule, rest_rule, primary_rule, agg_rule, item_rule, insides_even}
-use Rattle.sql_grammar.proofs.QueryKnown.{plan_includes}
+use Rattle.sql_grammar.proofs.QueryCompletions.{completed, goes_on}
+use Rattle.sql_grammar.proofs.QueryForms.{form_has_fronts, planned_includes}
 use Rattle.sql_grammar.proofs.QueryTable.{planned}
 
 pub same_rule : (p : Production) (v w : Read p) → SameOf planned copies_nothing any SameRead StillRead LooseRead (plan p) v w → SameRead p v w
@@ -80,57 +84,38 @@ any_tokens : (ts : List Lexeme) → list_all any ts ≡ true
 any_tokens [] = refl
 any_tokens (t ∷ ts) = and_both true (list_all any ts) refl (any_tokens ts)
 
--- a query that goes on from a front with tokens that copy nothing copies no more than one that goes on from there with others
-no_less : (x y z : List Lexeme) (v w : Built Query) → list_all copies_nothing y ≡ true → queries.spells (x ++ y) v → queries.spells (x ++ z) w → v.copies ≤ w.copies
-no_less [] y z v w c s r =
-    none v.copies w.copies (still_texts planned copies_nothing any SameRead StillRead LooseRead still_rule loose_rule same_rule query y v c ((plan_includes None query).spells y v s))
-  where
-    none : (a b : ℕ) → a ≡ 0 → a ≤ b
-    none a b i = omega (arith, i)
-no_less (t ∷ x) y z v w c s r =
-    same_fronts planned copies_nothing any SameRead StillRead LooseRead still_rule loose_rule same_rule query (t ∷ x) y z v w (λ e. cc) c (any_tokens z)
-    ((plan_includes None query).spells (t ∷ (x ++ y)) v s) ((plan_includes None query).spells (t ∷ (x ++ z)) w r)
+still_name : (p : Production) (ts : List Lexeme) (v : Read p) → list_all copies_nothing ts ≡ true → (of_plan None p).spells ts v → StillRead p v
+still_name p ts v c s = still_texts planned copies_nothing any SameRead StillRead LooseRead still_rule loose_rule same_rule p ts v c s
 
--- a longer front has copied no less
-pub longer_copies : (x y : List Lexeme) (c d : ℕ) → CopiesOf (x ++ y) c → CopiesOf x d → d ≤ c
-longer_copies x y c d s r =
-    few r.read.copies s.read.copies
-    (no_less x r.completes.more (y ++ s.completes.more) r.read s.read r.completes.are_chosen r.completes.spelled (subst (λ z. queries.spells z s.read) (append_assoc x y s.completes.more) s.completes.spelled))
-    r.same_copies s.same_copies
-  where
-    few : (a b : ℕ) → a ≤ b → a ≡ d → b ≡ c → d ≤ c
-    few a b l i j = omega (arith, l, i, j)
+loose_at : (h : ℕ) (p : Production) (ts : List Lexeme) (v : Read p) → list_all any ts ≡ true → (language_within kind_of plan h None p).spells ts v → LooseRead p v
+loose_at zero p ts v c s = absurd s
+loose_at (suc h) p ts v c s = loose_rule p v (still_of planned any LooseRead (language_within kind_of plan h) (loose_at h) (plan p) ts v c s)
 
--- a front has copied one number
-pub one_number : (ts : List Lexeme) (c d : ℕ) → CopiesOf ts c → CopiesOf ts d → c ≡ d
-one_number ts c d s r = both (longer_copies ts [] d c (whole d r) s) (longer_copies ts [] c d (whole c s) r)
-  where
-    whole : (n : ℕ) → CopiesOf ts n → CopiesOf (ts ++ []) n
-    whole n s = subst (λ z. CopiesOf z n) (sym (append-nil ts)) s
+loose_name : (p : Production) (ts : List Lexeme) (v : Read p) → list_all any ts ≡ true → (of_plan None p).spells ts v → LooseRead p v
+loose_name p ts v c s = let r = spelled_at kind_of plan None p ts v s in loose_at r.0 p ts v c r.1
 
-    both : c ≤ d → d ≤ c → c ≡ d
-    both l m = omega (arith, l, m)
+same_name : (p : Production) (b c x y z : List Lexeme) (v w : Read p) → b ≡ x ++ y → c ≡ x ++ z → (x ≡ [] → ⊥) → list_all copies_nothing y ≡ true → list_all any z ≡ true
+    → (of_plan None p).spells b v → (of_plan None p).spells c w → SameRead p v w
+same_name p b c x y z v w i j n d e s r =
+    same_fronts planned copies_nothing any SameRead StillRead LooseRead still_rule loose_rule same_rule p x y z v w n d e
+    (subst (λ k. (of_plan None p).spells k v) i s) (subst (λ k. (of_plan None p).spells k w) j r)
 
--- in a text that is within the limit, no token passes it
-pub never_too_many : (copied copies : ℕ) (x more : List Lexeme) (t : Lexeme) → CopiesOf (x ++ t ∷ more) copies → copied + copies ≤ most_copies → IsCopyTooMany copied x t → ⊥
-never_too_many copied copies x more t s l a =
-    over copied a.copies copies (longer_copies (x ++ t ∷ []) more copies a.copies (subst (λ z. CopiesOf z copies) (sym (append_assoc x (t ∷ []) more)) s) a.so_far_with) a.too_many l
-  where
-    over : (n c d : ℕ) → c ≤ d → most_copies < n + c → n + d ≤ most_copies → ⊥
-    over n c d l m o = omega (arith, l, m, o)
+-- ---- of a form
 
--- what is within the limit behind a token, the token did not pass
-not_passed : (copied : ℕ) (x y k : List Lexeme) (t u : Lexeme) → IsCopyTooMany copied x t → IsCopyTooMany copied y u → y ≡ x ++ t ∷ k → ⊥
-not_passed copied x y k t u a b i = never_too_many copied b.copies_before x k t (subst (λ z. CopiesOf z b.copies_before) i b.so_far_before) b.within a
+module _ {A : Type 0} (f : The A) (o : is_predictive every_kind table f ≡ true) (price : A → ℕ) (l : EvenIn f price) where
+  no_less : (x y z : List Lexeme) (v w : A) → list_all copies_nothing y ≡ true → (of_form None f).spells (x ++ y) v → (of_form None f).spells (x ++ z) w → price v ≤ price w
+  no_less [] y z v w c s r =
+      least (price v) (price w) (l.still v (still_of planned copies_nothing StillRead of_plan still_name f y v c ((planned_includes None f).spells y v s)))
+    where
+      least : (a b : ℕ) → a ≡ 0 → a ≤ b
+      least a b i = omega (arith, i)
+  no_less (u ∷ x) y z v w c s r =
+      l.same v w (alike planned copies_nothing any SameRead StillRead LooseRead of_plan (λ room p. named planned room p) still_name loose_name same_name f o
+      (u ∷ (x ++ y)) (u ∷ (x ++ z)) (u ∷ x) y z v w refl refl (λ e. cc) c (any_tokens z)
+      ((planned_includes None f).spells (u ∷ (x ++ y)) v s) ((planned_includes None f).spells (u ∷ (x ++ z)) w r))
 
--- the limit is passed at no more than one token of a text
-pub too_many_once : (copied : ℕ) (x more y others : List Lexeme) (t u : Lexeme) → IsCopyTooMany copied x t → IsCopyTooMany copied y u → x ++ t ∷ more ≡ y ++ u ∷ others → (x ≡ y) × (t ≡ u)
-too_many_once copied x more y others t u a b e = go (cut x (t ∷ more) y (u ∷ others) e)
-  where
-    same_first : (t u : Lexeme) (k l : List Lexeme) → t ∷ k ≡ u ∷ l → t ≡ u
-    same_first t u k l i = cc
+  pub form_costs : goes_on f ≡ true → CostsByCompletion copies_nothing (of_form None f) price
+  form_costs e = record { fronts = form_has_fronts None f; completed = completed f e; least = no_less }
 
-    go : Cut x (t ∷ more) y (u ∷ others) → (x ≡ y) × (t ≡ u)
-    go (longer s k i j) = absurd (not_passed copied x y k t u a b (i ∙ ap (λ z. x ++ z ∷ k) (sym (same_first t s more (k ++ u ∷ others) j))))
-    go (same i j) = (sym i, sym (same_first u t others more j))
-    go (shorter s k i j) = absurd (not_passed copied y x k u t b a (i ∙ ap (λ z. y ++ z ∷ k) (sym (same_first u s others (k ++ t ∷ more) j))))
+pub query_costs : CostsByCompletion copies_nothing queries (λ read. read.copies)
+query_costs = form_costs (ref query) refl (λ read. read.copies) (evenly.of_ref query) refl

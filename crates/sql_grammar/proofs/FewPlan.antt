@@ -2,39 +2,28 @@
 use Rattle.std.proofs.Common.{ℕ, suc, ◌≤◌}
 use Rattle.grammar.specs.Language.{Includes}
 use Rattle.grammar.specs.Form.{Room, form_language, language, ref}
-use Rattle.grammar.proofs.Forms.{form_grows, includes_through}
-use Rattle.grammar.proofs.Heights.{from_rule, name_fronts, name_grows, same_room}
+use Rattle.grammar.proofs.Forms.{includes_through}
+use Rattle.grammar.proofs.Heights.{from_rule, name_fronts}
 use Rattle.grammar.proofs.Known.{narrowed}
 use Rattle.grammar.proofs.Plans.{plan_included}
 use Rattle.grammar.proofs.Predictions.{AreWithin, named}
 use Rattle.sql_grammar.specs.Kinds.{kind_of}
 use Rattle.sql_grammar.specs.QueryEntries.{few_froms, few_rules}
-use Rattle.sql_grammar.specs.QueryGrammar.{Production, The, block, from, listed, rules}
+use Rattle.sql_grammar.specs.QueryGrammar.{Production, block, from, listed}
 use Rattle.sql_grammar.specs.QueryLookahead.{table}
 use Rattle.sql_grammar.specs.QueryPlan.{few_plan, of_plan, plan}
 use Rattle.sql_grammar.proofs.EntryLists.{block_below, list_below}
 use Rattle.sql_grammar.proofs.PlanBelow.{grammar_above}
-use Rattle.sql_grammar.proofs.PlanKnown.{grammar_includes}
 use Rattle.sql_grammar.proofs.QueryBelow.{plan_above}
-use Rattle.sql_grammar.proofs.QueryKnown.{plan_includes}
+use Rattle.sql_grammar.proofs.QueryForms.{known_includes, planned_includes}
 use Rattle.sql_grammar.proofs.QueryTable.{planned}
 use Rattle.sql_grammar.proofs.QueryWords.{Below, itself}
 use Rattle.sql_grammar.proofs.Variants.{Variant}
 
--- what a form spells in the names of the one, it does in those of the other
-module _ {A : Type 0} (f : The A) (room : Room) where
-  form_planned : Includes (form_language kind_of of_plan room f) (form_language kind_of (language kind_of rules) room f)
-  form_planned = form_grows kind_of (language kind_of rules) of_plan (name_fronts kind_of plan)
-      (λ small large i p. includes_through _ _ _ (name_grows kind_of rules small large i p) (plan_includes large p)) f room room (same_room room)
-
-  form_known : Includes (form_language kind_of (language kind_of rules) room f) (form_language kind_of of_plan room f)
-  form_known = form_grows kind_of of_plan (language kind_of rules) (name_fronts kind_of rules)
-      (λ small large i p. includes_through _ _ _ (name_grows kind_of plan small large i p) (grammar_includes large p)) f room room (same_room room)
-
 module _ (m : ℕ) (few : suc m ≤ 255) where
   pub list_planned : Below of_plan (few_froms m) (listed (ref from))
   list_planned = record {
-    holds = λ room. includes_through _ _ _ (form_known (few_froms m) room) (includes_through _ _ _ ((list_below m few).holds room) (form_planned (listed (ref from)) room));
+    holds = λ room. includes_through _ _ _ (known_includes room (few_froms m)) (includes_through _ _ _ ((list_below m few).holds room) (planned_includes room (listed (ref from))));
   }
 
   few_below : (p : Production) → Below of_plan (few_plan m p) (plan p)

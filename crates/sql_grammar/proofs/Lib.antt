@@ -20,13 +20,13 @@ pub mod PlanRests
 pub mod PlanItems
 pub mod PlanBelow
 pub mod PlanKnown
+pub mod QueryForms
 pub mod EntryLists
 pub mod FewPlan
 pub mod CopyPrices
 pub mod TestCopies
 pub mod QueryFillings
 pub mod QueryCompletions
-pub mod Copies
 pub mod CopyLimits
 pub mod PlanPrices
 pub mod PlanSame

@@ -2,6 +2,7 @@
 use Rattle.std.proofs.Common.{◌≡◌, Bool, ℕ, true, List, [], ◌∷◌, codes, length, Option, Some, None, refl, inr}
 use Rattle.grammar.specs.Form.{nest, only, seq, alt, map, star, empty, counted, ref, language}
 use Rattle.grammar.specs.Productions.{skip_then, then_skip, optional}
+use Rattle.grammar.proofs.ComputedCompletions as d
 use Rattle.grammar.proofs.Fillings as f
 use Rattle.grammar.proofs.Fillings.{fill_name}
 use Rattle.sql_lex.specs.declared.token.TokenKind.TheVariants as token
@@ -14,9 +15,9 @@ use Rattle.sql_grammar.specs.Kinds as k
 use Rattle.sql_grammar.specs.Kinds.{Kind, kind_of, same, among}
 use Rattle.sql_grammar.specs.Numbering.{Built}
 use Rattle.sql_grammar.specs.QueryTrees as t
-use Rattle.sql_grammar.specs.QueryTrees.{Left, Listed, SetWord, Inside, not_sub}
+use Rattle.sql_grammar.specs.QueryTrees.{Listed, not_sub}
 use Rattle.sql_grammar.specs.QueryGrammar as grammar
-use Rattle.sql_grammar.specs.QueryGrammar.{Production, Read, The, a, one_of, parens, name, listed, alias, group_by, comparison, in_query, in_list, between, like, minus, not_neg, exists, join_on, cross_join, next_sum, sums, next_product, products, next_and, ands, next_or, ors, next_intersect, intersects, next_union, unions, insides, commas, longer_query, rules, query, part, operand, block, item, from, entry, reference, expr, conj, neg, test, rest, value, term, unary, primary, agg, set_tail, and_tail, expr_tail, inner, in_inner}
+use Rattle.sql_grammar.specs.QueryGrammar.{Production, Read, The, a, one_of, parens, name, listed, alias, group_by, comparison, like, minus, not_neg, exists, join_on, cross_join, next_sum, next_product, next_and, next_or, next_intersect, next_union, insides, commas, rules, query, part, operand, block, item, from, entry, reference, expr, conj, neg, test, rest, value, term, unary, primary, agg, set_tail, and_tail, expr_tail, inner, in_inner}
 use Rattle.sql_grammar.specs.QueryCopies.{copies_nothing}
 
 -- ---- tokens
@@ -203,3 +204,54 @@ fill_in_inner = of_name in_inner (inr (inr (number_one, []))) (fill_insides comm
 pub fill_agg : Filled (ref agg) (t.count_rows (word (codes "count")))
 fill_agg = of_name agg (t.count_rows (word (codes "count")))
     (fill_one _ (fill_map (λ p. t.count_rows p.0) (fill_seq (fill_token k.Count (word (codes "count")) refl refl) (fill_parens (fill_token k.Star (symbol 42) refl refl)))))
+
+-- ---- what fills any form
+
+abbrev pub Sample : Type 0
+Sample = d.Sample kind_of (language kind_of rules) copies_nothing
+
+abbrev pub FilledBy : {A : Type 0} → The A → Type 0
+FilledBy f = d.FilledBy kind_of (language kind_of rules) copies_nothing f
+
+abbrev sample : (kind : Kind) (t : Lexeme) → kind_of t ≡ kind → copies_nothing t ≡ true → Sample
+sample kind t i c = record { its_kind = kind; token = t; is_of_kind = i; is_chosen = c }
+
+-- tokens that copy nothing, for the parts that a front may lack
+abbrev pub samples : List Sample
+samples =
+    sample k.Number one refl refl ∷ sample k.Word (word (codes "a")) refl refl
+    ∷ sample k.Open (symbol 40) refl refl ∷ sample k.Close (symbol 41) refl refl ∷ sample k.Star (symbol 42) refl refl ∷ sample k.Dot (symbol 46) refl refl ∷ sample k.Semicolon (symbol 59) refl refl
+    ∷ sample k.From (word (codes "from")) refl refl ∷ sample k.By (word (codes "by")) refl refl ∷ sample k.Join (word (codes "join")) refl refl
+    ∷ sample k.On (word (codes "on")) refl refl ∷ sample k.And (word (codes "and")) refl refl ∷ sample k.In (word (codes "in")) refl refl
+    ∷ sample k.Like (word (codes "like")) refl refl ∷ sample k.As (word (codes "as")) refl refl ∷ sample k.Create (word (codes "create")) refl refl
+    ∷ sample k.Table (word (codes "table")) refl refl ∷ sample k.View (word (codes "view")) refl refl ∷ sample k.Index (word (codes "index")) refl refl
+    ∷ sample k.Unique (word (codes "unique")) refl refl ∷ sample k.Key (word (codes "key")) refl refl ∷ sample k.Null (word (codes "null")) refl refl
+    ∷ sample k.References (word (codes "references")) refl refl ∷ []
+
+abbrev this : {A : Type 0} {f : The A} {v : A} → Filled f v → Option (FilledBy f)
+this {v = v} p = Some (record { value = v; filled = p })
+
+abbrev pub of_names : (p : Production) → Option (d.FilledBy kind_of (language kind_of rules) copies_nothing (ref p))
+of_names query = this fill_query
+of_names part = this fill_part
+of_names operand = this fill_operand
+of_names block = this fill_block
+of_names item = this fill_item
+of_names from = this fill_from
+of_names entry = this fill_entry
+of_names reference = this fill_reference
+of_names expr = this fill_expr
+of_names conj = this fill_conj
+of_names neg = this fill_neg
+of_names test = this fill_test
+of_names rest = this fill_rest
+of_names value = this fill_value
+of_names term = this fill_term
+of_names unary = this fill_unary
+of_names primary = this fill_primary
+of_names agg = this fill_agg
+of_names set_tail = this fill_set_tail
+of_names and_tail = this fill_and_tail
+of_names expr_tail = this fill_expr_tail
+of_names inner = this fill_inner
+of_names in_inner = this fill_in_inner

@@ -8,5 +8,4 @@ pub mod QueryEntries
 pub mod QueryCopies
 pub mod QuerySamples
 pub mod QueryPlan
-pub mod PlanCopies
 pub mod QueryLookahead

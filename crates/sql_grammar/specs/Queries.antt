@@ -1,12 +1,13 @@
 -- What a list of tokens spells as a query, and where it passes the limits on depth and length.
-use Rattle.std.specs.Prelude.{ℕ, ◌≡◌, List, [], ◌∷◌, ◌++◌, Some, None}
-use Rattle.grammar.specs.Form.{Room, language}
+use Rattle.std.specs.Prelude.{ℕ, ◌≡◌, List, Some, None}
+use Rattle.grammar.specs.Form.{Room, form_language, language}
 use Rattle.grammar.specs.Language.{Language}
+use Rattle.grammar.specs.Limits.{IsFirstBeyond, KeepsWithin}
 use Rattle.sql_lex.specs.Lexemes.{Lexeme}
 use Rattle.sql_model.specs.declared.tree.Query.{Query}
 use Rattle.sql_grammar.specs.Kinds.{kind_of}
 use Rattle.sql_grammar.specs.Numbering.{Numbers, Built}
-use Rattle.sql_grammar.specs.QueryGrammar.{Production, Read, rules}
+use Rattle.sql_grammar.specs.QueryGrammar.{Production, Read, The, rules}
 use Rattle.sql_grammar.specs.QueryGrammar as g
 
 -- levels that may be open at once
@@ -15,6 +16,10 @@ most_levels = 64
 
 abbrev pub of_production : Room → (p : Production) → Language Lexeme (Read p)
 of_production room p = language kind_of rules room p
+
+-- of a form over the names of queries
+abbrev pub of_form : {A : Type 0} → Room → The A → Language Lexeme A
+of_form room f = form_language kind_of of_production room f
 
 abbrev pub queries : Language Lexeme (Built Query)
 queries = of_production None g.query
@@ -30,12 +35,10 @@ Spells before ts q after = (read : Built Query) × queries.spells ts read × (re
 abbrev pub Begins : List Lexeme → Type 0
 Begins ts = queries.front ts
 
--- Behind these tokens this one goes on, and is the first that opens too many levels or makes a chain too long.
-pub record IsTooDeep (before : List Lexeme) (token : Lexeme) : Type 0 where
-  pub goes_on : Begins (before ++ token ∷ [])
-  pub shallow_before : shallow_queries.front before
-  pub too_deep : shallow_queries.front (before ++ token ∷ []) → ⊥
+-- the token is the first that opens too many levels or makes a chain too long
+abbrev pub IsTooDeep : List Lexeme → Lexeme → Type 0
+IsTooDeep = IsFirstBeyond queries shallow_queries
 
 -- none of the tokens at which a text goes on is too deep
 abbrev pub IsShallow : List Lexeme → Type 0
-IsShallow ts = (before after : List Lexeme) (token : Lexeme) → ts ≡ before ++ token ∷ after → IsTooDeep before token → ⊥
+IsShallow = KeepsWithin queries shallow_queries

@@ -1,9 +1,9 @@
--- What a text has copied up to a token. The value before BETWEEN is copied at that word, and the value before a list of IN at each comma of
--- it; no other token copies anything. So up to a token as much is copied as in any query that goes on from there without these two.
-use Rattle.std.specs.Prelude.{ℕ, ◌+◌, ◌≤◌, ◌<◌, Bool, not, List, [], ◌∷◌, ◌++◌, ◌≡◌}
-use Rattle.grammar.specs.Completions.{Completes}
+-- What a text copies, and the limit on it. The value before BETWEEN is copied at that word, and the value before a list of IN at each comma of
+-- it; no other token copies anything. So up to a token as much is copied as in any text that goes on from there without these two.
+use Rattle.std.specs.Prelude.{ℕ, Bool, not, List, [], ◌∷◌}
+use Rattle.grammar.specs.Language.{Language}
+use Rattle.grammar.specs.Limits.{IsFirstBeyond, within_cost}
 use Rattle.sql_lex.specs.Lexemes.{Lexeme}
-use Rattle.sql_model.specs.declared.tree.Query.{Query}
 use Rattle.sql_grammar.specs.Kinds as k
 use Rattle.sql_grammar.specs.Kinds.{among, kind_of}
 use Rattle.sql_grammar.specs.Numbering.{Built}
@@ -17,18 +17,11 @@ most_copies = 1000000
 abbrev pub copies_nothing : Lexeme → Bool
 copies_nothing token = not (among (k.Between ∷ k.Comma ∷ []) (kind_of token))
 
--- These tokens begin a query, and it has copied so much up to the last of them: a query copies so much that goes on from there with tokens
--- that copy nothing.
-pub record CopiesOf (ts : List Lexeme) (copies : ℕ) : Type 0 where
-  pub read : Built Query
-  pub completes : Completes copies_nothing queries ts read
-  pub same_copies : read.copies ≡ copies
+-- With so much copied before them, the texts with which no more is copied than may be. A front is within the limit where one of these texts
+-- goes on from it with tokens that copy nothing.
+abbrev pub within_copies : {A : Type 0} → ℕ → Language Lexeme (Built A) → Language Lexeme (Built A)
+within_copies copied L = within_cost copies_nothing (λ read. read.copies) most_copies copied L
 
--- With so much copied before the query, these tokens of it are within the limit, and this one passes it.
-pub record IsCopyTooMany (copied : ℕ) (before : List Lexeme) (token : Lexeme) : Type 0 where
-  pub copies_before : ℕ
-  pub so_far_before : CopiesOf before copies_before
-  pub within : copied + copies_before ≤ most_copies
-  pub copies : ℕ
-  pub so_far_with : CopiesOf (before ++ token ∷ []) copies
-  pub too_many : most_copies < copied + copies
+-- With so much copied before the query, the token is the first with which more is copied than may be.
+abbrev pub IsCopyTooMany : ℕ → List Lexeme → Lexeme → Type 0
+IsCopyTooMany copied = IsFirstBeyond queries (within_copies copied queries)

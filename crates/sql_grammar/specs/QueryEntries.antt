@@ -1,9 +1,10 @@
 -- The limit on the entries of a block, and the token that is one too many. The grammar once more, with the entries of a block in one list
 -- that ends at the limit; without limits it spells the queries whose blocks have no more.
-use Rattle.std.specs.Prelude.{ℕ, ◌-◌, zero, suc, false, List, [], ◌∷◌, ◌++◌, ◌⊎◌, None}
+use Rattle.std.specs.Prelude.{ℕ, ◌-◌, zero, suc, false, List, [], ◌∷◌, ◌⊎◌, None}
 use Rattle.std.proofs.Common.{inl, inr}
 use Rattle.grammar.specs.Form.{Rules, empty, seq, alt, map, only, ref, language}
 use Rattle.grammar.specs.Language.{Language}
+use Rattle.grammar.specs.Limits.{IsFirstBeyond}
 use Rattle.grammar.specs.Productions.{skip_then, optional}
 use Rattle.sql_model.specs.declared.tree.Entry.{Entry}
 use Rattle.sql_model.specs.declared.tree.Query.{Query}
@@ -14,7 +15,7 @@ use Rattle.sql_grammar.specs.Numbering.{Built}
 use Rattle.sql_grammar.specs.QueryTrees as t
 use Rattle.sql_grammar.specs.QueryTrees.{Listed}
 use Rattle.sql_grammar.specs.QueryGrammar.{Production, Read, The, Froms, a, join_on, cross_join, rules_with, query, entry}
-use Rattle.sql_grammar.specs.Queries.{Begins}
+use Rattle.sql_grammar.specs.Queries.{queries}
 
 -- an entry after a comma, or one that is joined
 abbrev pub Further : Type 0
@@ -62,8 +63,6 @@ most_further = most_entries - 1
 abbrev pub few_queries : Language Lexeme (Built Query)
 few_queries = language kind_of (few_rules most_further) None query
 
--- Behind these tokens this one goes on, and begins an entry that is one too many for its block.
-pub record IsEntryTooMany (before : List Lexeme) (token : Lexeme) : Type 0 where
-  pub goes_on : Begins (before ++ token ∷ [])
-  pub few_before : few_queries.front before
-  pub too_many : few_queries.front (before ++ token ∷ []) → ⊥
+-- the token begins an entry that is one too many for its block
+abbrev pub IsEntryTooMany : List Lexeme → Lexeme → Type 0
+IsEntryTooMany = IsFirstBeyond queries few_queries

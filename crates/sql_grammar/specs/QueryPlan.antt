@@ -1,7 +1,7 @@
 -- The grammar of queries once more, so that one token always tells how to go on: names of the same languages, with other productions.
 use Rattle.std.proofs.Common.{ℕ, [], ◌∷◌, Option, Some, None, ◌⊎◌, inl, inr}
 use Rattle.grammar.specs.Language.{Language}
-use Rattle.grammar.specs.Form.{Room, language, Rules, empty, seq, alt, map, nonempty, counted, fork, ref}
+use Rattle.grammar.specs.Form.{Room, form_language, language, Rules, empty, seq, alt, map, nonempty, counted, fork, ref}
 use Rattle.grammar.specs.Productions.{skip_then, optional}
 use Rattle.sql_model.specs.declared.tree.Expr.{Expr}
 use Rattle.sql_model.specs.declared.tree.Item.{Item}
@@ -197,3 +197,7 @@ few_plan most = plan_with (few_froms most)
 
 abbrev pub of_plan : Room → (p : Production) → Language Lexeme (Read p)
 of_plan room p = language kind_of plan room p
+
+-- of a form over these names, by which one token decides
+abbrev pub in_plan : {A : Type 0} → Room → The A → Language Lexeme A
+in_plan room f = form_language kind_of of_plan room f

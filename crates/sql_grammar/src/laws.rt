@@ -1,8 +1,9 @@
 //! Laws of the grammar of queries, each the contract of a function that does nothing.
-ghost use Rattle.std.specs.Prelude.{◌≡◌, ◌++◌, ◌+◌, ◌∷◌, ◌≤◌, List, [], length, None, Some, true, ℕ};
-ghost use Rattle.std.specs.List.{list_all};
+ghost use Rattle.std.specs.Prelude.{◌≡◌, ◌++◌, ◌+◌, ◌∷◌, ◌≤◌, ◌<◌, List, [], length, None, ℕ};
+ghost use Rattle.grammar.specs.Completions.{Completed, Completes, Overspends};
 ghost use Rattle.grammar.specs.Form.{Room, language};
 ghost use Rattle.grammar.specs.Language.{HasFronts, Includes, IsUnambiguous};
+ghost use Rattle.grammar.specs.Limits.{KeepsWithin};
 ghost use Rattle.grammar.specs.Lookahead.{HasLookahead};
 ghost use Rattle.grammar.specs.Parses.{name_parses, whole_values};
 ghost use Rattle.sql_lex.specs.Lexemes.{Lexeme};
@@ -10,10 +11,9 @@ ghost use Rattle.sql_model.specs.declared.tree.Query.{Query};
 ghost use Rattle.sql_grammar.specs.Kinds.{kind_of};
 ghost use Rattle.sql_grammar.specs.Numbering.{Built, Numbers};
 ghost use Rattle.sql_grammar.specs.Queries.{Begins, IsTooDeep, Spells, of_production, queries, shallow_queries};
-ghost use Rattle.sql_grammar.specs.QueryCopies.{CopiesOf, IsCopyTooMany, copies_nothing, most_copies};
+ghost use Rattle.sql_grammar.specs.QueryCopies.{IsCopyTooMany, copies_nothing, most_copies, within_copies};
 ghost use Rattle.sql_grammar.specs.QueryEntries.{IsEntryTooMany, few_queries, few_rules, most_further};
 ghost use Rattle.sql_grammar.specs.QueryPlan.{few_plan, of_plan};
-ghost use Rattle.sql_grammar.specs.PlanCopies.{CopiesTooMuch, HasCopied};
 ghost use Rattle.sql_grammar.specs.QueryLookahead.{table};
 ghost use Rattle.sql_grammar.specs.QueryGrammar.{Production, Read, query, rules};
 
@@ -47,35 +47,42 @@ pub fn too_many_once()
     ensures { (x more y others : List Lexeme) (t u : Lexeme) → IsEntryTooMany x t → IsEntryTooMany y u → x ++ t ∷ more ≡ y ++ u ∷ others → (x ≡ y) × (t ≡ u) }
 {}
 
-/// What has copied something begins a query, what begins a query has copied something, or nothing, and a query has copied what it holds. Where
-/// a front goes on to a query with tokens that copy nothing, it has copied what that query holds; each front that has copied something does.
-/// It has copied one number, and a longer front no less.
+/// Each front of a query goes on to a query with tokens that copy nothing, and what goes on so begins a query; a whole query goes on with none.
+/// No query that goes on from a front copies less than one that goes on so, so these copy one number, which is what the front has copied, and
+/// a longer front has copied no less.
 pub fn copies()
-    ensures begins { (ts : List Lexeme) (copies : ℕ) → CopiesOf ts copies → Begins ts }
-    ensures counted { (ts : List Lexeme) → Begins ts → (copies : ℕ) × CopiesOf ts copies }
-    ensures whole { (ts : List Lexeme) (read : Built Query) → queries.spells ts read → CopiesOf ts read.copies }
-    ensures completed { (ts more : List Lexeme) (read : Built Query) → queries.spells (ts ++ more) read → list_all copies_nothing more ≡ true → CopiesOf ts read.copies }
-    ensures completes { (ts : List Lexeme) (copies : ℕ) → CopiesOf ts copies →
-        (more : List Lexeme) × (read : Built Query) × (list_all copies_nothing more ≡ true) × queries.spells (ts ++ more) read × (read.copies ≡ copies) }
-    ensures one { (ts : List Lexeme) (c d : ℕ) → CopiesOf ts c → CopiesOf ts d → c ≡ d }
-    ensures grows { (x y : List Lexeme) (c d : ℕ) → CopiesOf (x ++ y) c → CopiesOf x d → d ≤ c }
+    ensures begins { (ts : List Lexeme) (read : Built Query) → Completes copies_nothing queries ts read → Begins ts }
+    ensures completed { (ts : List Lexeme) → Begins ts → Completed copies_nothing queries ts }
+    ensures whole { (ts : List Lexeme) (read : Built Query) → queries.spells ts read → Completes copies_nothing queries ts read }
+    ensures least { (ts more : List Lexeme) (read other : Built Query) → Completes copies_nothing queries ts read → queries.spells (ts ++ more) other →
+        read.copies ≤ other.copies }
+    ensures one { (ts : List Lexeme) (read other : Built Query) → Completes copies_nothing queries ts read → Completes copies_nothing queries ts other →
+        read.copies ≡ other.copies }
+    ensures grows { (x y : List Lexeme) (read other : Built Query) → Completes copies_nothing queries (x ++ y) read → Completes copies_nothing queries x other →
+        other.copies ≤ read.copies }
 {}
 
 /// What the plan has copied at a front of a query, the front has copied, and the other way round. Where a front of the plan is within the limit
 /// on copies, and with the next token is not, that token of the query is the one that passes it.
 pub fn plan_copies()
-    ensures there { (ts : List Lexeme) (read : Built Query) → HasCopied query ts read → CopiesOf ts read.copies }
-    ensures back { (ts : List Lexeme) (copies : ℕ) → CopiesOf ts copies → (read : Built Query) × HasCopied query ts read × (read.copies ≡ copies) }
+    ensures there { (ts : List Lexeme) (read : Built Query) → Completes copies_nothing (of_plan None query) ts read → Completes copies_nothing queries ts read }
+    ensures back { (ts : List Lexeme) (read : Built Query) → Completes copies_nothing queries ts read → Completes copies_nothing (of_plan None query) ts read }
     ensures too_much { (copied : ℕ) (start before more : List Lexeme) (token : Lexeme) → start ≡ before ++ token ∷ more →
-        CopiesTooMuch query (λ read. read.copies) copied start (token ∷ more) → IsCopyTooMany copied before token }
+        Overspends copies_nothing (of_plan None query) (λ read. read.copies) most_copies copied start (token ∷ more) → IsCopyTooMany copied before token }
 {}
 
-/// The limit on copies is passed at no more than one token of a text, and at none of one that is within it.
+/// The limit on copies is passed at no more than one token of a text, and at none of a front within it. It is passed exactly where what goes on
+/// from before the token with tokens that copy nothing is within it, and what goes on so from behind the token is not.
 pub fn copied_too_much_once()
     ensures once { (copied : ℕ) (x more y others : List Lexeme) (t u : Lexeme) → IsCopyTooMany copied x t → IsCopyTooMany copied y u →
         x ++ t ∷ more ≡ y ++ u ∷ others → (x ≡ y) × (t ≡ u) }
-    ensures never { (copied copies : ℕ) (x more : List Lexeme) (t : Lexeme) → CopiesOf (x ++ t ∷ more) copies → copied + copies ≤ most_copies →
-        IsCopyTooMany copied x t → ⊥ }
+    ensures never { (copied : ℕ) (ts : List Lexeme) → (within_copies copied queries).front ts → KeepsWithin queries (within_copies copied queries) ts }
+    ensures passed { (copied : ℕ) (x : List Lexeme) (t : Lexeme) (read other : Built Query) →
+        Completes copies_nothing queries x read → Completes copies_nothing queries (x ++ t ∷ []) other →
+        copied + read.copies ≤ most_copies → most_copies < copied + other.copies → IsCopyTooMany copied x t }
+    ensures counted { (copied : ℕ) (x : List Lexeme) (t : Lexeme) (read other : Built Query) →
+        Completes copies_nothing queries x read → Completes copies_nothing queries (x ++ t ∷ []) other →
+        IsCopyTooMany copied x t → (copied + read.copies ≤ most_copies) × (most_copies < copied + other.copies) }
 {}
 
 /// No list of tokens spells two queries, nor two values of any production.

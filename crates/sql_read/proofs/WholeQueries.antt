@@ -5,6 +5,7 @@ use Rattle.grammar.specs.Completions.{Reaches}
 use Rattle.grammar.specs.Form.{ref, language}
 use Rattle.grammar.specs.Reading.{Exceeded, Passes}
 use Rattle.grammar.proofs.Heights.{name_fronts, name_grows}
+use Rattle.grammar.proofs.Limits.{kept}
 use Rattle.grammar.proofs.Longest.{took_longest, failed_longest}
 use Rattle.grammar.proofs.Steps.{Same, took_in, failed_in, exceeded_in}
 use Rattle.sql_lex.specs.Lexemes.{Lexeme}
@@ -14,7 +15,7 @@ use Rattle.sql_read.specs.declared.fault.ReadFault.{ReadFault}
 use Rattle.sql_read.specs.declared.fault.ReadFault.TheVariants.{Lex, Unexpected, LeftOut, TooDeep, Limit, NoMemory}
 use Rattle.sql_read.specs.declared.fault.LimitKind.{LimitKind}
 use Rattle.sql_read.specs.Cursor.{Cursor, next}
-use Rattle.sql_grammar.specs.QueryCopies.{copies_nothing, most_copies}
+use Rattle.sql_grammar.specs.QueryCopies.{copies_nothing, most_copies, within_copies}
 use Rattle.sql_read.specs.Copied.{Copied, CopiedToFault, CopiesSoFar, CopiesTooMuch}
 use Rattle.sql_read.specs.Eating.{Extends, IsNextAt}
 use Rattle.sql_grammar.specs.Kinds.{kind_of}
@@ -23,11 +24,12 @@ use Rattle.sql_grammar.specs.Queries.{IsShallow, most_levels, queries, shallow_q
 use Rattle.sql_grammar.specs.QueryGrammar.{query, rules}
 use Rattle.sql_grammar.specs.QueryPlan.{plan}
 use Rattle.sql_grammar.specs.QueryEntries.{few_queries, most_further}
-use Rattle.sql_read.specs.ReadingQueries.{IsLimited, IsRead, IsRefused, IsUnfinished, PassesDepth, CopiesWithin, PassesCopies}
+use Rattle.sql_read.specs.ReadingQueries.{IsLimited, IsRead, IsRefused, IsUnfinished, PassesDepth, PassesCopies}
 use Rattle.sql_read.specs.Reads.{entries_too, few_form, of_form, Fails, Exceeds, Gives, Reads, Refuses, SaysLimit, Spends}
 use Rattle.sql_read.specs.Refusals.{refusal_of}
 use Rattle.sql_grammar.proofs.FewPlan.{few_plan_includes, few_rules_include}
 use Rattle.sql_grammar.proofs.CopyLimits.{reached_copies, too_many_here}
+use Rattle.sql_grammar.proofs.CopyOnce.{query_costs}
 use Rattle.sql_grammar.proofs.PlanKnown.{grammar_includes}
 use Rattle.sql_grammar.proofs.QueryKnown.{plan_includes}
 use Rattle.sql_read.proofs.ReadSteps.{same_taken}
@@ -52,8 +54,7 @@ few_spelled ts read s = (few_rules_include most_further (omega arith) None query
 
 -- what is a front within the limits passes them nowhere
 is_shallow : (taken : List Lexeme) → shallow_queries.front taken → IsShallow taken
-is_shallow taken s x y t e d =
-    let f = name_fronts kind_of rules (Some most_levels) query in d.too_deep (f.shorter (x ++ t ∷ []) y (subst shallow_queries.front (e ∙ sym (append_assoc x (t ∷ []) y)) s))
+is_shallow = kept queries shallow_queries (name_fronts kind_of rules (Some most_levels) query).shorter
 
 pub read_whole : {before after : Cursor} {q : Query} → Gives (ref query) most_levels (λ read. read) before before q after → Extends before after → after.copies ≤ most_copies → IsRead before q after
 read_whole {before} {after} g x most =
@@ -80,12 +81,8 @@ read_whole {before} {after} g x most =
 abbrev SoFar : Cursor → Cursor → Type 0
 SoFar before after = CopiesSoFar (ref query) (λ read. read) before before after
 
-copied_within : {before after : Cursor} (taken : List Lexeme) → before.tokens ≡ taken ++ after.tokens → SoFar before after → after.copies ≤ most_copies → CopiesWithin before taken
-copied_within {before} {after} taken e r l = record {
-  copies = r.value.copies;
-  of_taken = reached_copies before.tokens taken after.tokens r.value e r.up_to;
-  within = omega (arith, r.count, l);
-}
+copied_within : {before after : Cursor} (taken : List Lexeme) → before.tokens ≡ taken ++ after.tokens → SoFar before after → after.copies ≤ most_copies → (within_copies before.copies queries).front taken
+copied_within {before} {after} taken e r l = (r.value, reached_copies (ref query) before.tokens taken after.tokens r.value e r.up_to, omega (arith, r.count, l))
 
 passed_copies : {before after : Cursor} → Spends entries_too (ref query) (few_form (ref query)) most_levels before after → CopiesTooMuch (ref query) (λ read. read) before before after → PassesCopies before
 passed_copies {before} {after} s r = record {
@@ -93,7 +90,7 @@ passed_copies {before} {after} s r = record {
   token = r.token;
   rest = after.tokens;
   whole = up_to.whole;
-  too_many = too_many_here before.copies before.tokens up_to.taken after.tokens r.token up_to.whole r.overspends;
+  too_many = too_many_here (ref query) query_costs before.copies before.tokens up_to.taken after.tokens r.token up_to.whole r.overspends;
   shallow = is_shallow _ (subst shallow_queries.front (taken_on s.goes_on.taken s.goes_on.whole) (shallow_same.there.front _ s.goes_on.begun));
   few = subst few_queries.front (taken_on (s.few tt).taken (s.few tt).whole) (few_there _ (s.few tt).begun);
 }
@@ -117,21 +114,21 @@ unfinished {before} {after} r x c l =
       unspelled = t.unspelled;
       shallow = is_shallow t.taken t.begun;
       few = subst few_queries.front (same_taken before.tokens after.tokens few.taken t.taken few.whole t.whole) (few_there few.taken few.begun);
-      copied = copied_within t.taken t.whole c l;
+      few_copies = copied_within t.taken t.whole c l;
       refused = r.refused ∙ ap (λ end. refusal_of end (next after.tokens after.fault)) x.end ∙ ap (λ f. refusal_of before.end (next after.tokens f)) x.fault;
     }
 
 passes : (before : Cursor) (taken rest : List Lexeme) (at : ℕ) → before.tokens ≡ taken ++ rest → shallow_queries.front taken → Passes queries shallow_queries taken rest → few_queries.front taken
-    → CopiesWithin before taken → IsNextAt at rest → PassesDepth before at
+    → (within_copies before.copies queries).front taken → IsNextAt at rest → PassesDepth before at
 passes before taken [] at e f p i c n = absurd p
 passes before taken (t ∷ rest) at e f p i c n = record {
   taken = taken;
   token = t;
   rest = rest;
   whole = e;
-  too_deep = record { goes_on = p.0; shallow_before = f; too_deep = p.1 };
+  too_deep = record { goes_on = p.0; within = f; beyond = p.1 };
   few = i;
-  copied = c;
+  few_copies = c;
   place = n;
 }
 
@@ -150,9 +147,9 @@ limited before after limit.Entries r c l = record {
   token = r.token;
   rest = r.more;
   whole = whole;
-  too_many = record { goes_on = free_same.there.front _ past.0; few_before = few_there e.taken e.begun; too_many = λ f. past.1 (few_back _ f) };
+  too_many = record { goes_on = free_same.there.front _ past.0; within = few_there e.taken e.begun; beyond = λ f. past.1 (few_back _ f) };
   shallow = is_shallow _ (subst shallow_queries.front taken_on (shallow_same.there.front _ r.goes_on.begun));
-  copied = copied_within e.taken e.whole c.says l;
+  few_copies = copied_within e.taken e.whole c.says l;
 }
   where
     e : Exceeded (of_form None (ref query)) (few_form (ref query)) before.tokens after.tokens

@@ -8,7 +8,7 @@ use Rattle.sql_read.specs.declared.fault.ReadFault.{ReadFault}
 use Rattle.sql_read.specs.declared.fault.ReadFault.TheVariants.{Lex, Unexpected, LeftOut, TooDeep, Limit, NoMemory}
 use Rattle.sql_read.specs.declared.fault.LimitKind.{LimitKind}
 use Rattle.sql_read.specs.Cursor.{Cursor, next}
-use Rattle.sql_grammar.specs.QueryCopies.{CopiesOf, IsCopyTooMany, most_copies}
+use Rattle.sql_grammar.specs.QueryCopies.{IsCopyTooMany, most_copies, within_copies}
 use Rattle.sql_read.specs.Eating.{GoesOn}
 use Rattle.sql_grammar.specs.Numbering.{Built}
 use Rattle.sql_grammar.specs.Queries.{IsShallow, IsTooDeep, queries}
@@ -32,12 +32,6 @@ pub record IsRead (before : Cursor) (q : Query) (after : Cursor) : Type 0 where
   pub fault : after.fault ≡ before.fault
   pub end : after.end ≡ before.end
 
--- these tokens of the query have copied so much, and that is within the limit
-pub record CopiesWithin (before : Cursor) (taken : List Lexeme) : Type 0 where
-  pub copies : ℕ
-  pub of_taken : CopiesOf taken copies
-  pub within : before.copies + copies ≤ most_copies
-
 -- the longest list of tokens that begins a query spells none, and what stands behind it is refused
 pub record IsUnfinished (before : Cursor) (fault : ReadFault) : Type 0 where
   pub taken : List Lexeme
@@ -48,7 +42,7 @@ pub record IsUnfinished (before : Cursor) (fault : ReadFault) : Type 0 where
   -- no limit was passed before
   pub shallow : IsShallow taken
   pub few : few_queries.front taken
-  pub copied : CopiesWithin before taken
+  pub few_copies : (within_copies before.copies queries).front taken
   pub refused : fault ≡ refusal_of before.end (next rest before.fault)
 
 -- behind tokens that begin a query within the limits the token at this place opens too many levels, or makes a chain too long
@@ -60,7 +54,7 @@ pub record PassesDepth (before : Cursor) (at : ℕ) : Type 0 where
   pub too_deep : IsTooDeep taken token
   -- no entry was too many before
   pub few : few_queries.front taken
-  pub copied : CopiesWithin before taken
+  pub few_copies : (within_copies before.copies queries).front taken
   pub place : token.start ≡ at
 
 -- behind tokens that begin a query the next one begins an entry too many, and is not too deep
@@ -71,7 +65,7 @@ pub record PassesEntries (before : Cursor) : Type 0 where
   pub whole : before.tokens ≡ taken ++ token ∷ rest
   pub too_many : IsEntryTooMany taken token
   pub shallow : IsShallow (taken ++ token ∷ [])
-  pub copied : CopiesWithin before taken
+  pub few_copies : (within_copies before.copies queries).front taken
 
 -- the first token of the query with which more is copied than may be; it is not too deep, and begins no entry too many
 pub record PassesCopies (before : Cursor) : Type 0 where

@@ -3,6 +3,7 @@ use Rattle.std.proofs.Common.{◌≡◌, ℕ, true, false, List, [], ◌∷◌, 
 use Rattle.std.specs.Prelude.{map as map_list}
 use Rattle.std.specs.Option.{option_or}
 use Rattle.grammar.proofs.Known.{Known}
+use Rattle.grammar.proofs.Limits.{kept}
 use Rattle.grammar.specs.Lookahead.{lookahead}
 use Rattle.sql_lex.specs.Lexemes.{Lexeme}
 use Rattle.sql_lex.proofs.WholeTexts.{same_tokens}
@@ -70,9 +71,7 @@ module _ (text : List ℕ) (written : CaseText) (numbers : Numbers) (read : IsRe
   -- no count passes its limit
   none_passed : (what : LimitKind) → PassesCount 0 tokens what → ⊥
   none_passed what u =
-      u.too_many.beyond ((within_fronts what).shorter (u.taken ++ u.token ∷ []) u.rest
-      (subst (within what).front (u.parts ∙ sym (append_assoc u.taken (u.token ∷ []) u.rest))
-      ((within_fronts what).spelled tokens read.spells.read (read.few what))))
+      kept cases (within what) (within_fronts what).shorter tokens ((within_fronts what).spelled tokens read.spells.read (read.few what)) u.taken u.rest u.token u.parts u.too_many
 
   few_copied : PassesCopies 0 tokens → ⊥
   few_copied u =

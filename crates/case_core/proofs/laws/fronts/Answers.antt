@@ -1,4 +1,4 @@
-use Rattle.schema_read.proofs.StatementFronts.{form_has_fronts}
+use Rattle.sql_grammar.proofs.QueryForms.{form_has_fronts}
 use Rattle.case_core.specs.CaseGrammar as g
 use Rattle.case_core.proofs.CaseFronts.{ends_there, fronts}
 use Rattle.case_core.proofs.laws.fronts.Goals as goal

@@ -1,6 +1,6 @@
 use Rattle.std.proofs.Common.{None}
 use Rattle.schema_read.specs.StatementGrammar as g
-use Rattle.schema_read.proofs.StatementFronts.{form_has_fronts}
+use Rattle.sql_grammar.proofs.QueryForms.{form_has_fronts}
 use Rattle.schema_read.proofs.statement_laws.fronts.Goals as goal
 
 pub returns-clause-empty : goal.returns-clause-empty

@@ -1,5 +1,5 @@
 use Rattle.schema_read.specs.StatementGrammar as g
-use Rattle.schema_read.proofs.StatementFronts.{known_includes, planned_includes}
+use Rattle.sql_grammar.proofs.QueryForms.{known_includes, planned_includes}
 use Rattle.schema_read.proofs.statement_laws.same_languages.Goals as goal
 
 pub returns-clause-planned : goal.returns-clause-planned

@@ -1,24 +1,21 @@
-use Rattle.sql_grammar.proofs.Copies.{begins_of, copies_of, completed_copies, whole_copies}
-use Rattle.sql_grammar.proofs.CopyOnce.{longer_copies, one_number}
+use Rattle.grammar.proofs.Limits.{completed_begins, grows, one_cost, whole_completed}
+use Rattle.sql_grammar.proofs.CopyOnce.{query_costs}
 use Rattle.sql_grammar.proofs.laws.copies.Goals as goal
 
 pub returns-clause-begins : goal.returns-clause-begins
-returns-clause-begins c = begins_of
-
-pub returns-clause-counted : goal.returns-clause-counted
-returns-clause-counted c = copies_of
-
-pub returns-clause-whole : goal.returns-clause-whole
-returns-clause-whole c = whole_copies
+returns-clause-begins c = completed_begins query_costs.fronts
 
 pub returns-clause-completed : goal.returns-clause-completed
-returns-clause-completed c = completed_copies
+returns-clause-completed c = query_costs.completed
 
-pub returns-clause-completes : goal.returns-clause-completes
-returns-clause-completes c = λ ts copies s. let c = s.completes in (c.more, s.read, c.are_chosen, c.spelled, s.same_copies)
+pub returns-clause-whole : goal.returns-clause-whole
+returns-clause-whole c = whole_completed
+
+pub returns-clause-least : goal.returns-clause-least
+returns-clause-least c = λ ts more read other r s. query_costs.least ts r.more more read other r.are_chosen r.spelled s
 
 pub returns-clause-one : goal.returns-clause-one
-returns-clause-one c = one_number
+returns-clause-one c = one_cost query_costs
 
 pub returns-clause-grows : goal.returns-clause-grows
-returns-clause-grows c = longer_copies
+returns-clause-grows c = λ x y read other r s. grows query_costs x y other read r s

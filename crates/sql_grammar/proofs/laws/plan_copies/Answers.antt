@@ -1,11 +1,18 @@
-use Rattle.sql_grammar.proofs.CopyLimits.{copies_in_plan, plan_copies, too_many_here}
+use Rattle.std.proofs.Common.{None}
+use Rattle.grammar.specs.Form.{ref}
+use Rattle.grammar.proofs.Limits.{completed_in}
+use Rattle.sql_grammar.specs.QueryGrammar.{query}
+use Rattle.sql_grammar.proofs.CopyLimits.{too_many_here}
+use Rattle.sql_grammar.proofs.CopyOnce.{query_costs}
+use Rattle.sql_grammar.proofs.PlanKnown.{grammar_includes}
+use Rattle.sql_grammar.proofs.QueryKnown.{plan_includes}
 use Rattle.sql_grammar.proofs.laws.plan_copies.Goals as goal
 
 pub returns-clause-there : goal.returns-clause-there
-returns-clause-there c = plan_copies
+returns-clause-there c = completed_in (grammar_includes None query)
 
 pub returns-clause-back : goal.returns-clause-back
-returns-clause-back c = copies_in_plan
+returns-clause-back c = completed_in (plan_includes None query)
 
 pub returns-clause-too_much : goal.returns-clause-too_much
-returns-clause-too_much c = too_many_here
+returns-clause-too_much c = too_many_here (ref query) query_costs

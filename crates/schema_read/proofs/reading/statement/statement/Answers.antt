@@ -1,8 +1,10 @@
 use Rattle.std.proofs.Common.{refl, sym, ◌∙◌, ap}
 use Rattle.sql_grammar.specs.declared.kinds.Kind.TheVariants as k
 use Rattle.sql_grammar.specs.Kinds.{same}
+use Rattle.sql_grammar.proofs.QueryCompletions.{completed}
 use Rattle.sql_read.proofs.ReadPassing.{alike_passes, first_next, handed_on, other_unless, reads_from}
 use Rattle.sql_read.proofs.ReadSteps.{exits, first_part, mapped, missed, refuses, whole}
+use Rattle.schema_read.specs.StatementGrammar as g
 use Rattle.schema_read.proofs.CountParts.{create_holds, index_left, table_left, view_left}
 use Rattle.schema_read.proofs.CountSteps.{answers_on, counted_exits, held, part_counted, part_refused, rest_of, token_taken}
 use Rattle.schema_read.proofs.Telling.{reads_more, with_columns}
@@ -10,7 +12,6 @@ use Rattle.schema_read.proofs.StatementParts.{created, table_begins, view_begins
 use Rattle.schema_read.proofs.CopiedParts.{copied_exit, copied_in, free_part, told_if}
 use Rattle.schema_read.proofs.CopiedViews.{at_create, free_price, to_index, to_table, to_view, view_price}
 use Rattle.schema_read.proofs.NoCopies.{missed_other}
-use Rattle.schema_read.proofs.StatementCompletions.{completed, fill_index, fill_table, goes_index, goes_table}
 use Rattle.schema_read.proofs.reading.statement.statement.Goals as goal
 
 pub returns-in_err-expect-clause-reads : goal.returns-in_err-expect-clause-reads
@@ -55,7 +56,7 @@ returns-in_err-expect-clause-copied c = copied_exit c.from_residual.ensures.1 (t
 pub returns-then-sees-clause-copied : goal.returns-then-sees-clause-copied
 returns-then-sees-clause-copied c =
     let create = c.in_ok-expect.ensures in
-    free_part tt c.table.result (c.table.ensures.reads 62) c.table.ensures.free (to_table create) (completed goes_table fill_table) (λ ts v s. free_price create c.table.ensures.extends v (ap (λ z. z.copies) s.2))
+    free_part tt c.table.result (c.table.ensures.reads 62) c.table.ensures.free (to_table create) (completed (g.table_with g.elements) refl) (λ ts v s. free_price create c.table.ensures.extends v (ap (λ z. z.copies) s.2))
 
 pub returns-then-sees-2-clause-copied : goal.returns-then-sees-2-clause-copied
 returns-then-sees-2-clause-copied c = copied_in c.view.result (to_view c.in_ok-expect.ensures) (view_price c.in_ok-expect.ensures) c.view.ensures.copied
@@ -63,4 +64,4 @@ returns-then-sees-2-clause-copied c = copied_in c.view.result (to_view c.in_ok-e
 pub returns-clause-copied : goal.returns-clause-copied
 returns-clause-copied c =
     let create = c.in_ok-expect.ensures in
-    free_part tt c.index.result (c.index.ensures.reads 63) c.index.ensures.free (to_index create) (completed goes_index fill_index) (λ ts v s. free_price create c.index.ensures.extends v (ap (λ z. z.copies) s.2))
+    free_part tt c.index.result (c.index.ensures.reads 63) c.index.ensures.free (to_index create) (completed g.index refl) (λ ts v s. free_price create c.index.ensures.extends v (ap (λ z. z.copies) s.2))
