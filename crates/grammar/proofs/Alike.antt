@@ -1,16 +1,11 @@
 -- Forms that spell the same where the names have given languages: how a production may be written in another way.
-use Rattle.std.proofs.Common.{◌≡◌, ℕ, zero, suc, ◌+◌, Bool, true, List, [], ◌∷◌, ◌++◌, length, length-append, inl, inr, refl, sym, ◌∙◌, ap, subst, append_assoc, Option, Some, None, arith}
-use Rattle.std.proofs.lemmas.List.{append-nil}
-use Rattle.grammar.specs.Language.{Language, Includes, HasFronts}
-use Rattle.grammar.specs.Form.{Form, Room, empty, seq, alt, star, nest, map, only, nonempty, counted, form_language}
-use Rattle.grammar.proofs.Forms.{includes_itself, includes_through, front_of_nil, repeated_grows}
-use Rattle.grammar.proofs.Heights.{same_room}
+use Rattle.std.proofs.Common.{◌≡◌, ℕ, zero, suc, ◌+◌, List, ◌++◌, length, length-append, inl, inr, refl, sym, ◌∙◌, ap, subst, append_assoc, Some, None, arith}
+use Rattle.grammar.specs.Language.{Language, Includes}
+use Rattle.grammar.specs.Form.{Form, Room, seq, alt, nest, map, counted, form_language}
+use Rattle.grammar.proofs.Forms.{includes_itself, includes_through}
 
 abbrev pub regrouped : {A B C : Type 0} → A × (B × C) → (A × B) × C
 regrouped p = ((p.0, p.1.0), p.1.1)
-
-abbrev pub with_nothing : {A : Type 0} → A → A × Unit {0}
-with_nothing v = (v, tt)
 
 abbrev pub counted_both : {A B : Type 0} → (A × ℕ) × (B × ℕ) → (A × B) × ℕ
 counted_both p = ((p.0.0, p.1.0), p.0.1 + p.1.1)
@@ -47,12 +42,6 @@ module _ {T K N : Type 0} {V : N → Type 0} (kind : T → K) (E : Room → (n :
   pub under_map : {A B : Type 0} (h : A → B) (f g : Form T K N V A) → Under f g → Under (map h f) (map h g)
   under_map h f g u room = record { spells = λ ts v s. (s.0, (u room).spells ts s.0 s.1, s.2); front = (u room).front }
 
-  pub under_only : {A : Type 0} (p : A → Bool) (f g : Form T K N V A) → Under f g → Under (only p f) (only p g)
-  under_only p f g u room = record { spells = λ ts v s. ((u room).spells ts v s.0, s.1); front = (u room).front }
-
-  pub under_nonempty : {A : Type 0} (f g : Form T K N V A) → Under f g → Under (nonempty f) (nonempty g)
-  under_nonempty f g u room = record { spells = λ ts v s. ((u room).spells ts v s.0, s.1); front = (u room).front }
-
   pub under_counted : {A : Type 0} (f g : Form T K N V A) → Under f g → Under (counted f) (counted g)
   under_counted f g u room = record { spells = λ ts v s. ((u room).spells ts v.0 s.0, s.1); front = (u room).front }
 
@@ -73,9 +62,6 @@ module _ {T K N : Type 0} {V : N → Type 0} (kind : T → K) (E : Room → (n :
   under_nest f g u None = u None
   under_nest f g u (Some zero) = includes_itself _
   under_nest f g u (Some (suc levels)) = u (Some levels)
-
-  pub under_star : {A : Type 0} (most : Option ℕ) (f g : Form T K N V A) → Under f g → Under (star most f) (star most g)
-  under_star most f g u room = repeated_grows _ _ (u room) most room room (same_room room)
 
   -- what stands in either of two stands in the third
   pub under_either : {A : Type 0} (f g h : Form T K N V A) → Under f h → Under g h → Under (alt f g) h
@@ -107,9 +93,6 @@ module _ {T K N : Type 0} {V : N → Type 0} (kind : T → K) (E : Room → (n :
   module _ {A : Type 0} (f f' : Form T K N V A) (a : Alike f f') where
     pub alike_nest : Alike (nest f) (nest f')
     alike_nest = record { there = under_nest f f' a.there; back = under_nest f' f a.back }
-
-    pub alike_only : (p : A → Bool) → Alike (only p f) (only p f')
-    alike_only p = record { there = under_only p f f' a.there; back = under_only p f' f a.back }
 
     pub alike_counted : Alike (counted f) (counted f')
     alike_counted = record { there = under_counted f f' a.there; back = under_counted f' f a.back }
@@ -238,19 +221,6 @@ module _ {T K N : Type 0} {V : N → Type 0} (kind : T → K) (E : Room → (n :
         back_front room ts (inr (inl a)) = inl a
         back_front room ts (inr (inr (x, y, v, e, s, a))) = inr (x, y, v, e, s, inr a)
 
-  pub seq_empty : {A : Type 0} (f : Form T K N V A) → ((room : Room) → HasFronts (of room f)) → Alike (seq f empty) (map with_nothing f)
-  seq_empty f b = record { there = λ room. record { spells = there room; front = there_front room }; back = λ room. record { spells = back room; front = λ ts a. inl a } }
-    where
-      there : (room : Room) (ts : List T) (v : _ × Unit {0}) → (of room (seq f empty)).spells ts v → (of room (map with_nothing f)).spells ts v
-      there room ts v (x, y, e, s, r) = (v.0, subst (λ z. (of room f).spells z v.0) (sym (e ∙ (ap (λ z. x ++ z) r ∙ append-nil x))) s, refl)
-
-      there_front : (room : Room) (ts : List T) → (of room (seq f empty)).front ts → (of room f).front ts
-      there_front room ts (inl a) = a
-      there_front room ts (inr (x, y, v, e, s, a)) = subst (of room f).front (sym (e ∙ (ap (λ z. x ++ z) a ∙ append-nil x))) ((b room).spelled x v s)
-
-      back : (room : Room) (ts : List T) (v : _ × Unit {0}) → (of room (map with_nothing f)).spells ts v → (of room (seq f empty)).spells ts v
-      back room ts v (u, s, i) = subst ((of room (seq f empty)).spells ts) (sym i) (ts, [], sym (append-nil ts), s, refl)
-
   -- ---- numbers of tokens
 
   module _ {A B : Type 0} (f : Form T K N V A) (g : Form T K N V B) where
@@ -291,27 +261,6 @@ module _ {T K N : Type 0} {V : N → Type 0} (kind : T → K) (E : Room → (n :
     back = λ room. record { spells = λ ts v s. elim s [ inl a ↦ (inl a.0, a.1) | inr b ↦ (inr b.0, b.1) ]; front = λ ts a. a };
   }
 
-  -- ---- values that pass a test
-
-  pub only_map : {A B : Type 0} (p : B → Bool) (h : A → B) (f : Form T K N V A) → Alike (only p (map h f)) (map h (only (λ x. p (h x)) f))
-  only_map p h f = record {
-    there = λ room. record { spells = λ ts v s. (s.0.0, (s.0.1, subst (λ z. p z ≡ true) s.0.2 s.1), s.0.2); front = λ ts a. a };
-    back = λ room. record { spells = λ ts v s. ((s.0, s.1.0, s.2), subst (λ z. p z ≡ true) (sym s.2) s.1.1); front = λ ts a. a };
-  }
-
-  pub only_alt : {A : Type 0} (p : A → Bool) (f g : Form T K N V A) → Alike (only p (alt f g)) (alt (only p f) (only p g))
-  only_alt p f g = record {
-    there = λ room. record { spells = λ ts v s. elim s.0 [ inl a ↦ inl (a, s.1) | inr b ↦ inr (b, s.1) ]; front = λ ts a. a };
-    back = λ room. record { spells = λ ts v s. elim s [ inl a ↦ (inl a.0, a.1) | inr b ↦ (inr b.0, b.1) ]; front = λ ts a. a };
-  }
-
-  -- where each value passes
-  pub only_all : {A : Type 0} (p : A → Bool) (f : Form T K N V A) → ((room : Room) (ts : List T) (v : A) → (of room f).spells ts v → p v ≡ true) → Alike (only p f) f
-  only_all p f e = record {
-    there = λ room. record { spells = λ ts v s. s.0; front = λ ts a. a };
-    back = λ room. record { spells = λ ts v s. (s, e room ts v s); front = λ ts a. a };
-  }
-
   -- ---- levels
 
   pub nest_map : {A B : Type 0} (h : A → B) (f : Form T K N V A) → Alike (nest (map h f)) (map h (nest f))
@@ -339,24 +288,6 @@ module _ {T K N : Type 0} {V : N → Type 0} (kind : T → K) (E : Room → (n :
       back None = includes_itself _
       back (Some zero) = record { spells = λ ts v s. elim s [ inl a ↦ a | inr b ↦ b ]; front = λ ts a. elim a [ inl b ↦ b | inr b ↦ b ] }
       back (Some (suc levels)) = includes_itself _
-
-  -- ---- with tokens, or with none
-
-  pub some_or_none : {A : Type 0} (f : Form T K N V A) (v : A) → ((room : Room) → (of room f).spells [] v) → ((room : Room) (w : A) → (of room f).spells [] w → w ≡ v)
-      → ((room : Room) → HasFronts (of room f)) → Alike f (alt (nonempty f) (map (λ nothing. v) empty))
-  some_or_none f v s u b = record { there = λ room. record { spells = there room; front = λ ts a. inl a }; back = λ room. record { spells = back room; front = back_front room } }
-    where
-      there : (room : Room) (ts : List T) (w : _) → (of room f).spells ts w → (of room (alt (nonempty f) (map (λ nothing. v) empty))).spells ts w
-      there room [] w r = inr (tt, refl, u room w r)
-      there room (t ∷ ts) w r = inl (r, λ e. cc)
-
-      back : (room : Room) (ts : List T) (w : _) → (of room (alt (nonempty f) (map (λ nothing. v) empty))).spells ts w → (of room f).spells ts w
-      back room ts w (inl r) = r.0
-      back room ts w (inr (nothing, e, i)) = subst (λ z. (of room f).spells z w) (sym e) (subst ((of room f).spells []) (sym i) (s room))
-
-      back_front : (room : Room) (ts : List T) → (of room (alt (nonempty f) (map (λ nothing. v) empty))).front ts → (of room f).front ts
-      back_front room ts (inl a) = a
-      back_front room ts (inr e) = front_of_nil (of room f) (b room).empty ts e
 
   -- ---- chains of these
 

@@ -1,18 +1,7 @@
 -- How a front of a part makes a front of the whole, with the same tokens left.
 use Rattle.std.proofs.Common.{◌≡◌, List, [], ◌++◌, inl, inr, refl, sym, ◌∙◌, ap, append_assoc}
 use Rattle.grammar.specs.Language.{Language, HasFronts, seq_language, alt_language, bind_language}
-use Rattle.grammar.specs.Reading.{Took, Failed, Exceeded, Began}
-
--- what was taken is a front
-pub took_began : {T A : Type 0} (U B : Language T A) → HasFronts B → (ts : List T) (v : A) (rest : List T) → Took U B ts v rest → Began B ts rest
-took_began U B b ts v rest r = record { taken = r.taken; whole = r.whole; begun = b.spelled r.taken v r.spelled }
-
-module _ {T A : Type 0} (U B : Language T A) (ts rest : List T) where
-  pub failed_began : Failed U B ts rest → Began B ts rest
-  failed_began r = record { taken = r.taken; whole = r.whole; begun = r.begun }
-
-  pub exceeded_began : Exceeded U B ts rest → Began B ts rest
-  exceeded_began r = record { taken = r.taken; whole = r.whole; begun = r.begun }
+use Rattle.grammar.specs.Reading.{Took, Began}
 
 -- nothing was taken
 pub nothing_began : {T A : Type 0} (B : Language T A) → HasFronts B → (ts : List T) → Began B ts ts

@@ -4,7 +4,7 @@ use Rattle.std.proofs.lemmas.List.{append-nil}
 use Rattle.std.proofs.lemmas.List.Folds.{list_all-append}
 use Rattle.std.specs.List.{list_all}
 use Rattle.grammar.specs.Language.{Language}
-use Rattle.grammar.specs.Form.{Form, token, seq, alt, star, nest, map, nonempty, counted, fork, ref}
+use Rattle.grammar.specs.Form.{Form, token, seq, alt, star, nest, map, counted, fork, ref}
 use Rattle.grammar.specs.Lookahead.{PredictiveGrammar}
 use Rattle.grammar.specs.Reading.{Took}
 use Rattle.grammar.specs.Completions.{Fills, Reaches, Continues, Overspends}
@@ -80,22 +80,9 @@ module _ {T K N : Type 0} {V : N → Type 0} (g : PredictiveGrammar T K N V) (d 
     pub left_nest : {C : Type 0} (f : Form T K N V C) (here : List T) (h : C → A) → Left (nest f) here h → Left f here h
     left_nest f here h l = along f (nest f) here h (λ v. v) (λ ts v s. s) l
 
-    -- where the text has a token
-    pub left_nonempty : {C : Type 0} (f : Form T K N V C) (here : List T) (h : C → A) → Left (nonempty f) here h
-        → (v : C) (rest : List T) (r : Reaches chosen (free g f) here v rest) → (r.taken ++ r.completes.more ≡ [] → ⊥) → Reaches chosen L start (h v) rest
-    left_nonempty f here h l v rest r n = l.reaches v rest (record {
-      taken = r.taken;
-      whole = r.whole;
-      completes = record { more = r.completes.more; are_chosen = r.completes.are_chosen; spelled = (r.completes.spelled, n) };
-    })
-
     -- nothing of it stands here
     pub left_filled : {C : Type 0} (f : Form T K N V C) (here : List T) (h : C → A) → Left f here h → (v : C) → Fills chosen (free g f) v → Reaches chosen L start (h v) here
     left_filled f here h l v b = l.reaches v here (record { taken = []; whole = refl; completes = record { more = b.filling; are_chosen = b.are_chosen; spelled = b.spelled } })
-
-    -- one token of it
-    pub left_token : (p : K → Bool) (here : List T) (h : T → A) → Left (token p) here h → (t : T) (rest : List T) → here ≡ t ∷ rest → p (g.kind t) ≡ true → Reaches chosen L start (h t) rest
-    left_token p here h l t rest i q = l.reaches t rest (record { taken = t ∷ []; whole = i; completes = record { more = []; are_chosen = refl; spelled = (refl, q) } })
 
     pub left_one : {C : Type 0} (f e : Form T K N V C) (here : List T) (h : C → A) → Left (alt f e) here h → Left f here h
     left_one f e here h l = along f (alt f e) here h (λ v. v) (λ ts v s. inl s) l

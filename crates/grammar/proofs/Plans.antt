@@ -1,5 +1,5 @@
 -- A grammar in the languages of another one, and inclusions of languages that are put together alike.
-use Rattle.std.proofs.Common.{ℕ, zero, suc, List, [], ◌++◌, inl, inr, refl, sym, ◌∙◌, ap, append_assoc}
+use Rattle.std.proofs.Common.{ℕ, zero, suc, List, [], inl, inr}
 use Rattle.grammar.specs.Language.{Language, Includes, seq_language, alt_language, map_language, no_language}
 use Rattle.grammar.specs.Form.{Rules, Room, IsRoomier, form_language, language_within, language}
 use Rattle.grammar.proofs.Forms.{includes_through, includes_nothing, form_grows}
@@ -62,39 +62,3 @@ alt_within U B W D l m = record { includes = alt_in B D U W l.includes m.include
 
 pub nothing_within : {T A : Type 0} (U : Language T A) → U.front [] → IsWithin U no_language
 nothing_within U f = record { includes = includes_nothing U f; fronts = no_fronts }
-
--- ---- what is read of a first part goes into what follows it
-
--- f then g then h, with the value by k: both ways to put the parentheses
-module _ {T A B C D : Type 0} (L : Language T A) (M : Language T B) (R : Language T C) (k : A → B → C → D) where
-  abbrev pub to_left : Language T D
-  to_left = map_language (λ p. k p.0.0 p.0.1 p.1) (seq_language (seq_language L M) R)
-
-  abbrev pub to_right : Language T D
-  to_right = map_language (λ p. k p.0 p.1.0 p.1.1) (seq_language L (seq_language M R))
-
-  pub left_in_right : Includes to_right to_left
-  left_in_right = record { spells = spells; front = front }
-    where
-      spells : (ts : List T) (v : D) → to_left.spells ts v → to_right.spells ts v
-      spells ts v (u, (x, y, e, (x1, y1, e1, s, r), q), i) =
-          ((u.0.0, (u.0.1, u.1)), (x1, y1 ++ y, e ∙ (ap (λ z. z ++ y) e1 ∙ append_assoc x1 y1 y), s, (y1, y, refl, r, q)), i)
-
-      front : (ts : List T) → to_left.front ts → to_right.front ts
-      front ts (inl (inl f)) = inl f
-      front ts (inl (inr (x, y, v, e, s, f))) = inr (x, y, v, e, s, inl f)
-      front ts (inr (x, y, v, e, (x1, y1, e1, s, r), f)) =
-          inr (x1, y1 ++ y, v.0, e ∙ (ap (λ z. z ++ y) e1 ∙ append_assoc x1 y1 y), s, inr (y1, y, v.1, refl, r, f))
-
-  pub right_in_left : Includes to_left to_right
-  right_in_left = record { spells = spells; front = front }
-    where
-      spells : (ts : List T) (v : D) → to_right.spells ts v → to_left.spells ts v
-      spells ts v (u, (x, y, e, s, (y1, z, e1, r, q)), i) =
-          (((u.0, u.1.0), u.1.1), (x ++ y1, z, e ∙ (ap (λ w. x ++ w) e1 ∙ sym (append_assoc x y1 z)), (x, y1, refl, s, r), q), i)
-
-      front : (ts : List T) → to_right.front ts → to_left.front ts
-      front ts (inl f) = inl (inl f)
-      front ts (inr (x, y, v, e, s, inl f)) = inl (inr (x, y, v, e, s, f))
-      front ts (inr (x, y, v, e, s, inr (y1, z, w, e1, r, f))) =
-          inr (x ++ y1, z, (v, w), e ∙ (ap (λ u. x ++ u) e1 ∙ sym (append_assoc x y1 z)), (x, y1, refl, s, r), f)

@@ -128,9 +128,6 @@ module _ {T K N : Type 0} {V : N → Type 0} (g : PredictiveGrammar T K N V) (ch
     loose = λ v s x. elim s [ inl r ↦ l.loose v r x | inr r ↦ n.loose v r x ];
   }
 
-  pub adds_nest : {B X : Type 0} {f : Form T K N V B} {m : B → X → ℕ} {b : X → ℕ} → Adds f m b → Adds (nest f) m b
-  adds_nest l = record { same = l.same; still = l.still; loose = l.loose }
-
   pub adds_nonempty : {B X : Type 0} {f : Form T K N V B} {m : B → X → ℕ} {b : X → ℕ} → Adds f m b → Adds (nonempty f) m b
   adds_nonempty l = record { same = l.same; still = l.still; loose = l.loose }
 

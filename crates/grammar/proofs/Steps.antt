@@ -5,7 +5,6 @@ use Rattle.grammar.specs.Language.{Language, Includes, HasFronts, empty_language
 use Rattle.grammar.specs.Lookahead.{Lookahead}
 use Rattle.grammar.specs.Reading.{Stops, Passes, Took, Failed, Exceeded}
 use Rattle.grammar.proofs.Cut.{Cut, longer, same, shorter, cut}
-use Rattle.grammar.proofs.Forms.{includes_itself}
 use Rattle.grammar.proofs.Known.{Known, Parted, map_known, kept, bind_includes_seq, seq_includes_bind}
 
 -- B is U within the limits
@@ -18,9 +17,6 @@ pub record IsWithin {T A : Type 0} (U B : Language T A) : Type 0 where
 pub record Same {T A : Type 0} (L M : Language T A) : Type 0 where
   pub there : Includes M L
   pub back : Includes L M
-
-pub same_as : {T A : Type 0} (L : Language T A) → Same L L
-same_as L = record { there = includes_itself L; back = includes_itself L }
 
 module _ {T A : Type 0} (L M : Language T A) (i : Includes L M) where
   stops_back : (x rest : List T) → Stops L x rest → Stops M x rest

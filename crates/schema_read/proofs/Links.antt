@@ -41,10 +41,6 @@ pub both_pass : (check rest : Option Fault) → or_else check rest ≡ None → 
 both_pass None rest h = (refl, h)
 both_pass (Some fault) rest h = absurd (none-some fault (sym h))
 
-pub some_table : (on : NameAt) (columns : List NameAt) (o : Option Table) → on_table_fault on columns o ≡ None → (table : Table) × (o ≡ Some table)
-some_table on columns None h = absurd (none-some _ (sym h))
-some_table on columns (Some table) h = (table, refl)
-
 -- ---- members with those before them
 along-push : {X Y : Type 0} (give : List X → X → Y) (e xs : List X) (x : X) → map_along give e (xs ++ x ∷ []) ≡ map_along give e xs ++ give (e ++ xs) x ∷ []
 along-push give e [] x = ap (λ es. give es x ∷ []) (sym (append-nil e))
