@@ -1,6 +1,7 @@
 //! Laws of the grammar of statements, each the contract of a function that does nothing.
-ghost use Rattle.std.specs.Prelude.{◌≡◌, ◌≤◌, ◌+◌, ℕ, suc, ◌++◌, ◌∷◌, List, [], length, None};
+ghost use Rattle.std.specs.Prelude.{◌≡◌, ◌≤◌, ◌<◌, ◌+◌, ℕ, suc, ◌++◌, ◌∷◌, List, [], length, None};
 ghost use Rattle.data_model.specs.Lists.{Each};
+ghost use Rattle.grammar.specs.Completions.{Completed, Completes};
 ghost use Rattle.grammar.specs.Form.{Room, language};
 ghost use Rattle.grammar.specs.Language.{HasFronts, Includes, IsUnambiguous};
 ghost use Rattle.grammar.specs.Lookahead.{HasLookahead};
@@ -10,7 +11,7 @@ ghost use Rattle.sql_model.specs.declared.tree.Query.{Query as Tree};
 ghost use Rattle.sql_grammar.specs.Kinds.{kind_of};
 ghost use Rattle.sql_grammar.specs.Numbering.{Built, Numbers};
 ghost use Rattle.sql_grammar.specs.Queries.{queries, of_form};
-ghost use Rattle.sql_grammar.specs.QueryCopies.{most_copies};
+ghost use Rattle.sql_grammar.specs.QueryCopies.{copies_nothing, most_copies};
 ghost use Rattle.sql_grammar.specs.QueryEntries.{few_rules, most_further};
 ghost use Rattle.sql_grammar.specs.QueryGrammar.{query};
 ghost use Rattle.schema_read.specs.FewEntries.{HasFewEntries, ViewHasFew};
@@ -113,10 +114,19 @@ pub fn few_in_each_block()
         Spells before ts list after → Each (ViewHasFew (suc most)) list → SpellsIn (few_entry_statements most) before ts list after }
 {}
 
-/// The limit on what views copy is passed at no more than one token of a text, and at none of statements that are within it.
+/// The limit on what views copy is passed at no more than one token of a text, and at none of statements that are within it. Each front of
+/// statements goes on to statements with tokens that copy nothing, and the limit is passed exactly where what goes on so from before the
+/// token is within it, and what goes on so from behind the token is not.
 pub fn copied_too_much_once()
     ensures once { (copied : ℕ) (x more y others : List Lexeme) (t u : Lexeme) → IsCopyTooMany copied x t → IsCopyTooMany copied y u →
         x ++ t ∷ more ≡ y ++ u ∷ others → (x ≡ y) × (t ≡ u) }
     ensures never { (copied : ℕ) (ts : List Lexeme) (read : Built (List Statement)) → statements.spells ts read → copied + read.copies ≤ most_copies →
         CopiesFew copied ts }
+    ensures completed { (ts : List Lexeme) → Begins ts → Completed copies_nothing statements ts }
+    ensures passed { (copied : ℕ) (x : List Lexeme) (t : Lexeme) (read other : Built (List Statement)) →
+        Completes copies_nothing statements x read → Completes copies_nothing statements (x ++ t ∷ []) other →
+        copied + read.copies ≤ most_copies → most_copies < copied + other.copies → IsCopyTooMany copied x t }
+    ensures counted { (copied : ℕ) (x : List Lexeme) (t : Lexeme) (read other : Built (List Statement)) →
+        Completes copies_nothing statements x read → Completes copies_nothing statements (x ++ t ∷ []) other →
+        IsCopyTooMany copied x t → (copied + read.copies ≤ most_copies) × (most_copies < copied + other.copies) }
 {}
