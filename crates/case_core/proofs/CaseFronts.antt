@@ -11,18 +11,16 @@ use Rattle.grammar.proofs.Heights.{name_fronts}
 use Rattle.grammar.proofs.Known.{Known}
 use Rattle.grammar.proofs.Limits.{IsPrefixClosed}
 use Rattle.grammar.proofs.Longest.{no_longer}
-use Rattle.grammar.proofs.Tables.{form_known}
 use Rattle.sql_lex.specs.Lexemes.{Lexeme}
-use Rattle.sql_grammar.specs.Kinds.{kind_of, every_kind}
+use Rattle.sql_grammar.specs.Kinds.{kind_of}
 use Rattle.sql_lex.proofs.WholeTexts.{same_tokens}
 use Rattle.sql_grammar.specs.Numbering.{Built, Numbers, first_numbers}
-use Rattle.sql_grammar.specs.Queries.{most_levels, of_production, of_form}
+use Rattle.sql_grammar.specs.Queries.{most_levels, of_form}
 use Rattle.sql_grammar.specs.QueryEntries.{few_rules, most_further}
 use Rattle.sql_grammar.specs.QueryGrammar.{The}
 use Rattle.sql_grammar.specs.QueryLookahead.{table}
-use Rattle.sql_grammar.proofs.EveryKind.{every_kind_is_there}
-use Rattle.sql_grammar.proofs.QueryKnown.{production_known}
 use Rattle.sql_grammar.proofs.QueryForms.{form_has_fronts, roomier}
+use Rattle.schema_read.proofs.StatementKnown.{known}
 use Rattle.schema_read.proofs.WholeStatements.{few_grammar}
 use Rattle.case_core.specs.declared.text.CaseText.{CaseText}
 use Rattle.case_core.specs.CaseGrammar as g
@@ -31,7 +29,7 @@ use Rattle.grammar.specs.Limits.{KeepsWithin}
 use Rattle.case_core.specs.Refusals.{GoesOnBehind}
 
 pub case_known : (room : Room) → Known kind_of (of_form room g.case) (lookahead table g.case)
-case_known room = form_known kind_of every_kind every_kind_is_there table of_production production_known g.case room refl
+case_known = known g.case refl
 
 pub fronts : HasFronts cases
 fronts = form_has_fronts None g.case
