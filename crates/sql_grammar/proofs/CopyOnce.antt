@@ -11,7 +11,7 @@ use Rattle.grammar.proofs.SameFronts.{SameOf, StillOf, alike, same_fronts, still
 use Rattle.grammar.proofs.Sets.{and_both}
 use Rattle.sql_lex.specs.Lexemes.{Lexeme}
 use Rattle.sql_grammar.specs.Kinds.{every_kind, kind_of}
-use Rattle.sql_grammar.specs.QueryGrammar.{Production, Read, The, query, part, operand, block, item, from, entry, reference, expr, conj, neg, test, rest, value, term, unary, primary, agg, set_tail, and_tail, expr_tail, inner, in_inner, commas}
+use Rattle.sql_grammar.specs.QueryGrammar.{Production, Read, The, query, item, reference, test, rest, primary, agg, set_tail, and_tail, expr_tail, inner, in_inner, commas}
 use Rattle.sql_grammar.specs.Queries.{of_form, queries}
 use Rattle.sql_grammar.specs.QueryCopies.{copies_nothing}
 use Rattle.sql_grammar.specs.QueryLookahead.{table}
@@ -24,22 +24,10 @@ use Rattle.sql_grammar.proofs.QueryForms.{form_has_fronts, planned_includes}
 use Rattle.sql_grammar.proofs.QueryTable.{planned}
 
 pub same_rule : (p : Production) (v w : Read p) → SameOf planned copies_nothing any SameRead StillRead LooseRead (plan p) v w → SameRead p v w
-same_rule query v w s = (price_of evenly query refl).same v w s
-same_rule part v w s = (price_of evenly part refl).same v w s
-same_rule operand v w s = (price_of evenly operand refl).same v w s
-same_rule block v w s = (price_of evenly block refl).same v w s
 same_rule item v w s = item_rule.same v w s
-same_rule from v w s = (price_of evenly from refl).same v w s
-same_rule entry v w s = (price_of evenly entry refl).same v w s
 same_rule reference v w s = none
-same_rule expr v w s = (price_of evenly expr refl).same v w s
-same_rule conj v w s = (price_of evenly conj refl).same v w s
-same_rule neg v w s = (price_of evenly neg refl).same v w s
 same_rule test v w s = test_rule.same v w s
 same_rule rest v w s = rest_rule.same v w s
-same_rule value v w s = (price_of evenly value refl).same v w s
-same_rule term v w s = (price_of evenly term refl).same v w s
-same_rule unary v w s = (price_of evenly unary refl).same v w s
 same_rule primary v w s = primary_rule.same v w s
 same_rule agg v w s = agg_rule.same v w s
 same_rule set_tail v w s = set_tail_rule.same v w s
@@ -47,24 +35,13 @@ same_rule and_tail v w s = and_tail_rule.same v w s
 same_rule expr_tail v w s = expr_tail_rule.same v w s
 same_rule inner v w s = (insides_even empty no_price evenly.of_empty).same v w s
 same_rule in_inner v w s = λ left. (insides_even commas (members_price left) (commas_even left)).same v w s
+same_rule other v w s = (price_of evenly other refl).same v w s
 
 pub still_rule : (p : Production) (v : Read p) → StillOf planned copies_nothing StillRead (plan p) v → StillRead p v
-still_rule query v s = (price_of evenly query refl).still v s
-still_rule part v s = (price_of evenly part refl).still v s
-still_rule operand v s = (price_of evenly operand refl).still v s
-still_rule block v s = (price_of evenly block refl).still v s
 still_rule item v s = item_rule.still v s
-still_rule from v s = (price_of evenly from refl).still v s
-still_rule entry v s = (price_of evenly entry refl).still v s
 still_rule reference v s = refl
-still_rule expr v s = (price_of evenly expr refl).still v s
-still_rule conj v s = (price_of evenly conj refl).still v s
-still_rule neg v s = (price_of evenly neg refl).still v s
 still_rule test v s = test_rule.still v s
 still_rule rest v s = rest_rule.still v s
-still_rule value v s = (price_of evenly value refl).still v s
-still_rule term v s = (price_of evenly term refl).still v s
-still_rule unary v s = (price_of evenly unary refl).still v s
 still_rule primary v s = primary_rule.still v s
 still_rule agg v s = agg_rule.still v s
 still_rule set_tail v s = set_tail_rule.still v s
@@ -72,6 +49,7 @@ still_rule and_tail v s = and_tail_rule.still v s
 still_rule expr_tail v s = expr_tail_rule.still v s
 still_rule inner v s = (insides_even empty no_price evenly.of_empty).still v s
 still_rule in_inner v s = λ left. (insides_even commas (members_price left) (commas_even left)).still v s
+still_rule other v s = (price_of evenly other refl).still v s
 
 pub loose_rule : (p : Production) (v : Read p) → StillOf planned any LooseRead (plan p) v → LooseRead p v
 loose_rule rest v s = rest_rule.loose v s

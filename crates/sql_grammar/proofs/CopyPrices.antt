@@ -8,32 +8,23 @@ use Rattle.sql_lex.specs.Lexemes.{Lexeme}
 use Rattle.sql_model.specs.declared.tree.Expr.{Expr}
 use Rattle.sql_model.specs.declared.tree.Query.{Query}
 use Rattle.sql_grammar.specs.Kinds as k
-use Rattle.sql_grammar.specs.Kinds.{Kind, kind_of, same, among}
+use Rattle.sql_grammar.specs.Kinds.{Kind, same, among}
 use Rattle.sql_grammar.specs.Numbering.{Built, plain, each, perhaps}
 use Rattle.sql_grammar.specs.QueryTrees as t
-use Rattle.sql_grammar.specs.QueryTrees.{Left, Listed, SetWord, not_sub}
+use Rattle.sql_grammar.specs.QueryTrees.{SetWord, not_sub}
 use Rattle.sql_grammar.specs.QueryGrammar as grammar
-use Rattle.sql_grammar.specs.QueryGrammar.{Production, Read, The, a, one_of, name, called_word, aggregate_word, in_parentheses, parens, listed, alias, union_or_except, intersect, intersects, unions, products, sums, ands, ors, join_on, cross_join, group_by, not_neg, exists, minus, subquery, call, rules, query, part, operand, block, item, from, entry, reference, expr, conj, neg, test, rest, value, term, unary, primary, agg, set_tail, and_tail, expr_tail, inner, in_inner}
+use Rattle.sql_grammar.specs.QueryGrammar.{Production, Read, The, a, one_of, in_parentheses, parens, listed, alias, union_or_except, intersect, join_on, cross_join, group_by, exists, minus, call, rules, query, part, operand, block, item, from, entry, reference, expr, conj, neg, test, rest, value, term, unary, primary, agg, set_tail, and_tail, expr_tail, inner, in_inner}
 
 -- what is copied in a value of a production that goes by its parts alone
 abbrev pub copies_in : (p : Production) → Read p → ℕ
-copies_in query read = read.copies
-copies_in part read = read.copies
-copies_in operand read = read.copies
-copies_in block read = read.copies
-copies_in item read = read.copies
-copies_in from read = read.copies
-copies_in entry read = read.copies
-copies_in expr read = read.copies
-copies_in conj read = read.copies
-copies_in neg read = read.copies
-copies_in test read = read.copies
-copies_in value read = read.copies
-copies_in term read = read.copies
-copies_in unary read = read.copies
-copies_in primary read = read.copies
-copies_in agg read = read.copies
-copies_in other read = 0
+copies_in reference read = 0
+copies_in rest read = 0
+copies_in set_tail read = 0
+copies_in and_tail read = 0
+copies_in expr_tail read = 0
+copies_in inner read = 0
+copies_in in_inner read = 0
+copies_in other read = read.copies
 
 -- ---- lists of parts
 
@@ -276,10 +267,4 @@ module _ {Priced : (A : Type 0) → The A → (A → ℕ) → Type 0} (pr : Pric
   price_of unary i = unary_price
   price_of primary i = primary_price
   price_of agg i = agg_price
-  price_of test i = cc
-  price_of rest i = cc
-  price_of set_tail i = cc
-  price_of and_tail i = cc
-  price_of expr_tail i = cc
-  price_of inner i = cc
-  price_of in_inner i = cc
+  price_of other i = cc

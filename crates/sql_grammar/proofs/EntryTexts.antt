@@ -12,9 +12,8 @@ use Rattle.sql_grammar.specs.Kinds as k
 use Rattle.sql_grammar.specs.Kinds.{kind_of}
 use Rattle.sql_grammar.specs.Numbering.{Built}
 use Rattle.sql_grammar.specs.QueryTrees as t
-use Rattle.sql_grammar.specs.QueryTrees.{Listed}
 use Rattle.sql_grammar.specs.QueryGrammar as grammar
-use Rattle.sql_grammar.specs.QueryGrammar.{Production, Read, The, listed, join_on, cross_join, rules, query, part, operand, block, item, from, entry, reference, expr, conj, neg, test, rest, value, term, unary, primary, agg, set_tail, and_tail, expr_tail, inner, in_inner}
+use Rattle.sql_grammar.specs.QueryGrammar.{Production, Read, The, listed, rules, block, item, from, entry, expr}
 use Rattle.sql_grammar.specs.QueryEntries.{Further, next_entry, further_entries, parted, items_of, few_rules}
 use Rattle.sql_grammar.proofs.EntryLists.{joins, next_item}
 
@@ -158,28 +157,7 @@ module _ (m : ℕ) where
 
     own_short : (p : Production) (ts : List Lexeme) (v : Read p) → length ts ≤ m → (form_language kind_of E None (rules p)).spells ts v → (fl (few_rules m p)).spells ts v
     own_short block ts v n s = block_short ts v n s
-    own_short query ts v n s = again (rules query) ts v n s
-    own_short part ts v n s = again (rules part) ts v n s
-    own_short operand ts v n s = again (rules operand) ts v n s
-    own_short item ts v n s = again (rules item) ts v n s
-    own_short from ts v n s = again (rules from) ts v n s
-    own_short entry ts v n s = again (rules entry) ts v n s
-    own_short reference ts v n s = again (rules reference) ts v n s
-    own_short expr ts v n s = again (rules expr) ts v n s
-    own_short conj ts v n s = again (rules conj) ts v n s
-    own_short neg ts v n s = again (rules neg) ts v n s
-    own_short test ts v n s = again (rules test) ts v n s
-    own_short rest ts v n s = again (rules rest) ts v n s
-    own_short value ts v n s = again (rules value) ts v n s
-    own_short term ts v n s = again (rules term) ts v n s
-    own_short unary ts v n s = again (rules unary) ts v n s
-    own_short primary ts v n s = again (rules primary) ts v n s
-    own_short agg ts v n s = again (rules agg) ts v n s
-    own_short set_tail ts v n s = again (rules set_tail) ts v n s
-    own_short and_tail ts v n s = again (rules and_tail) ts v n s
-    own_short expr_tail ts v n s = again (rules expr_tail) ts v n s
-    own_short inner ts v n s = again (rules inner) ts v n s
-    own_short in_inner ts v n s = again (rules in_inner) ts v n s
+    own_short other ts v n s = again (rules other) ts v n s
 
   at_height : (h : ℕ) (p : Production) (ts : List Lexeme) (v : Read p) → length ts ≤ m → (language_within kind_of rules h None p).spells ts v → (F None p).spells ts v
   at_height zero p ts v n s = absurd s

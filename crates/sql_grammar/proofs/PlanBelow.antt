@@ -4,7 +4,7 @@ use Rattle.grammar.specs.Form.{Room, empty, language}
 use Rattle.grammar.proofs.Forms.{includes_through}
 use Rattle.grammar.proofs.Plans.{plan_included}
 use Rattle.sql_grammar.specs.Kinds.{kind_of}
-use Rattle.sql_grammar.specs.QueryGrammar.{Production, rules, rules_with, query, part, operand, block, item, from, entry, reference, expr, conj, neg, test, rest, value, term, unary, primary, agg, set_tail, and_tail, expr_tail, inner, in_inner, commas}
+use Rattle.sql_grammar.specs.QueryGrammar.{Production, rules_with, item, reference, rest, primary, agg, inner, in_inner, commas}
 use Rattle.sql_grammar.specs.QueryPlan.{plan_with}
 use Rattle.sql_grammar.proofs.QueryWords.{Below, itself}
 use Rattle.sql_grammar.proofs.PlanInsides.{G, gl, closes}
@@ -24,22 +24,7 @@ module _ (variant : Variant) where
   plan_below agg = agg_planned variant
   plan_below inner = insides_planned variant empty
   plan_below in_inner = insides_planned variant commas
-  plan_below query = itself (rules query)
-  plan_below part = itself (rules part)
-  plan_below operand = itself (rules operand)
-  plan_below block = itself (rules_with variant.froms block)
-  plan_below from = itself (rules from)
-  plan_below entry = itself (rules entry)
-  plan_below expr = itself (rules expr)
-  plan_below conj = itself (rules conj)
-  plan_below neg = itself (rules neg)
-  plan_below test = itself (rules test)
-  plan_below value = itself (rules value)
-  plan_below term = itself (rules term)
-  plan_below unary = itself (rules unary)
-  plan_below set_tail = itself (rules set_tail)
-  plan_below and_tail = itself (rules and_tail)
-  plan_below expr_tail = itself (rules expr_tail)
+  plan_below other = itself (rules_with variant.froms other)
 
   closed : (room : Room) (p : Production) → Includes (G variant room p) (gl variant room (plan_with variant.froms p))
   closed room p = includes_through (gl variant room (plan_with variant.froms p)) (gl variant room (rules_with variant.froms p)) (G variant room p) ((plan_below p).holds room) (closes variant room p)

@@ -10,11 +10,11 @@ use Rattle.sql_lex.specs.Lexemes.{Lexeme}
 use Rattle.sql_model.specs.declared.tree.Expr.{Expr}
 use Rattle.sql_model.specs.declared.tree.Query.{Query}
 use Rattle.sql_grammar.specs.Kinds as k
-use Rattle.sql_grammar.specs.Kinds.{Kind, kind_of, among}
+use Rattle.sql_grammar.specs.Kinds.{among}
 use Rattle.sql_grammar.specs.Numbering.{Built}
 use Rattle.sql_grammar.specs.QueryTrees as t
-use Rattle.sql_grammar.specs.QueryTrees.{Left, Enclosed, Inside, SetWord, weight}
-use Rattle.sql_grammar.specs.QueryGrammar.{Production, Read, The, a, next_comma, commas, products, sums, ands, ors, rules, query, part, operand, block, item, from, entry, reference, expr, conj, neg, test, rest, value, term, unary, primary, agg, set_tail, and_tail, expr_tail, inner, in_inner}
+use Rattle.sql_grammar.specs.QueryTrees.{Left, Inside, SetWord, weight}
+use Rattle.sql_grammar.specs.QueryGrammar.{Production, Read, The, a, next_comma, commas, products, sums, ands, ors, rules, part, operand, expr, conj, neg, rest, term, unary, set_tail, and_tail, expr_tail, inner, in_inner}
 use Rattle.sql_grammar.specs.QueryCopies.{copies_nothing}
 use Rattle.sql_grammar.proofs.TestCopies.{behind_commas, comma_copies, no_members, one_more_comma}
 use Rattle.sql_grammar.proofs.CopyPrices.{copies_in, sets_copies, operated_copies, chained_copies, free_union, free_intersect}
@@ -73,23 +73,7 @@ same_cost set_tail v w i = none
 same_cost and_tail v w i = none
 same_cost inner v w i = none
 same_cost in_inner v w i = none
-same_cost query v w i = i
-same_cost part v w i = i
-same_cost operand v w i = i
-same_cost block v w i = i
-same_cost item v w i = i
-same_cost from v w i = i
-same_cost entry v w i = i
-same_cost reference v w i = i
-same_cost expr v w i = i
-same_cost conj v w i = i
-same_cost neg v w i = i
-same_cost test v w i = i
-same_cost value v w i = i
-same_cost term v w i = i
-same_cost unary v w i = i
-same_cost primary v w i = i
-same_cost agg v w i = i
+same_cost other v w i = i
 
 still_cost : (p : Production) (v : Read p) → StillRead p v → copies_in p v ≡ 0
 still_cost rest v i = refl
@@ -98,23 +82,7 @@ still_cost set_tail v i = refl
 still_cost and_tail v i = refl
 still_cost inner v i = refl
 still_cost in_inner v i = refl
-still_cost query v i = i
-still_cost part v i = i
-still_cost operand v i = i
-still_cost block v i = i
-still_cost item v i = i
-still_cost from v i = i
-still_cost entry v i = i
-still_cost reference v i = i
-still_cost expr v i = i
-still_cost conj v i = i
-still_cost neg v i = i
-still_cost test v i = i
-still_cost value v i = i
-still_cost term v i = i
-still_cost unary v i = i
-still_cost primary v i = i
-still_cost agg v i = i
+still_cost other v i = i
 
 abbrev pub EvenIn : {A : Type 0} → The A → (A → ℕ) → Type 0
 EvenIn f price = Even planned copies_nothing any SameRead StillRead LooseRead f price

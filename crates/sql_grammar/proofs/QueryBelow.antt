@@ -6,7 +6,7 @@ use Rattle.grammar.proofs.Heights.{name_fronts}
 use Rattle.grammar.proofs.Known.{Known, narrowed}
 use Rattle.grammar.proofs.Plans.{plan_included}
 use Rattle.sql_grammar.specs.Kinds.{kind_of}
-use Rattle.sql_grammar.specs.QueryGrammar.{Production, rules, rules_with, query, part, operand, block, item, from, entry, reference, expr, conj, neg, test, rest, value, term, unary, primary, agg, set_tail, and_tail, expr_tail, inner, in_inner, commas}
+use Rattle.sql_grammar.specs.QueryGrammar.{Production, rules_with, item, reference, rest, primary, agg, inner, in_inner, commas}
 use Rattle.sql_grammar.specs.QueryPlan.{plan_with}
 use Rattle.sql_grammar.specs.QueryLookahead.{table}
 use Rattle.sql_grammar.proofs.QueryInside.{P, fl, closes}
@@ -26,22 +26,7 @@ module _ (variant : Variant) where
   rules_below agg = agg_below variant
   rules_below inner = record { holds = insides_included variant empty }
   rules_below in_inner = record { holds = insides_included variant commas }
-  rules_below query = itself (rules query)
-  rules_below part = itself (rules part)
-  rules_below operand = itself (rules operand)
-  rules_below block = itself (rules_with variant.froms block)
-  rules_below from = itself (rules from)
-  rules_below entry = itself (rules entry)
-  rules_below expr = itself (rules expr)
-  rules_below conj = itself (rules conj)
-  rules_below neg = itself (rules neg)
-  rules_below test = itself (rules test)
-  rules_below value = itself (rules value)
-  rules_below term = itself (rules term)
-  rules_below unary = itself (rules unary)
-  rules_below set_tail = itself (rules set_tail)
-  rules_below and_tail = itself (rules and_tail)
-  rules_below expr_tail = itself (rules expr_tail)
+  rules_below other = itself (rules_with variant.froms other)
 
   closed : (room : Room) (p : Production) → Includes (P variant room p) (fl variant room (rules_with variant.froms p))
   closed room p = includes_through (fl variant room (rules_with variant.froms p)) (fl variant room (plan_with variant.froms p)) (P variant room p) ((rules_below p).holds room) (closes variant room p)

@@ -22,7 +22,7 @@ use Rattle.sql_grammar.specs.Numbering.{Built}
 use Rattle.sql_grammar.specs.Queries.{of_form}
 use Rattle.sql_grammar.specs.QueryTrees as t
 use Rattle.sql_grammar.specs.QueryTrees.{not_sub}
-use Rattle.sql_grammar.specs.QueryGrammar.{Production, Read, The, a, in_parentheses, parens, listed, comparison, in_query, in_list, between, like, next_or, rules, query, part, operand, block, item, from, entry, reference, expr, conj, neg, test, rest, value, term, unary, primary, agg, set_tail, and_tail, expr_tail, inner, in_inner}
+use Rattle.sql_grammar.specs.QueryGrammar.{Production, Read, The, a, in_parentheses, parens, listed, comparison, in_query, in_list, between, like, next_or, rules, expr, rest, value, primary, set_tail, and_tail, expr_tail, inner, in_inner}
 use Rattle.sql_grammar.specs.QueryCopies.{copies_nothing}
 use Rattle.sql_grammar.proofs.QueryFillings.{Filled, FilledBy, of_names, samples, word, symbol, number_one, fill_token, fill_only, fill_parens, fill_first, fill_second, fill_listed, fill_expr, fill_conj}
 
@@ -211,29 +211,14 @@ module _ (h : ℕ) (m : AreCompleted h) where
       go x e (inr (inr (inr (inr s)))) = by_like x e s
 
   goes : (p : Production) → is_part p ≡ true → Goes (rules p)
-  goes query i = by_parts (rules query) refl
-  goes part i = by_parts (rules part) refl
-  goes operand i = by_parts (rules operand) refl
-  goes block i = by_parts (rules block) refl
-  goes item i = by_parts (rules item) refl
-  goes from i = by_parts (rules from) refl
-  goes entry i = by_parts (rules entry) refl
-  goes reference i = by_parts (rules reference) refl
-  goes expr i = by_parts (rules expr) refl
-  goes conj i = by_parts (rules conj) refl
-  goes neg i = by_parts (rules neg) refl
-  goes test i = by_parts (rules test) refl
   goes rest i = goes_rest
-  goes value i = by_parts (rules value) refl
-  goes term i = by_parts (rules term) refl
-  goes unary i = by_parts (rules unary) refl
   goes primary i = goes_primary
-  goes agg i = by_parts (rules agg) refl
   goes set_tail i = absurd (never i)
   goes and_tail i = absurd (never i)
   goes expr_tail i = absurd (never i)
   goes inner i = absurd (never i)
   goes in_inner i = absurd (never i)
+  goes other i = by_parts (rules other) refl
 
 completed_at : (h : ℕ) → AreCompleted h
 completed_at zero p i x e s = absurd (e s)

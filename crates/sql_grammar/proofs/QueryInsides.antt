@@ -11,7 +11,7 @@ use Rattle.sql_grammar.specs.Kinds.{kind_of}
 use Rattle.sql_grammar.specs.Numbering.{Built}
 use Rattle.sql_grammar.specs.QueryTrees as t
 use Rattle.sql_grammar.specs.QueryTrees.{Left, Enclosed, Inside, not_sub}
-use Rattle.sql_grammar.specs.QueryGrammar.{Production, The, in_parentheses, insides, minus, rules_with, query, part, operand, block, item, from, entry, reference, expr, conj, neg, test, rest, value, term, unary, primary, agg, set_tail, and_tail, expr_tail, inner, in_inner}
+use Rattle.sql_grammar.specs.QueryGrammar.{Production, The, in_parentheses, insides, minus, rules_with, query, item, reference, expr, rest, value, unary, primary, agg, expr_tail, inner, in_inner}
 use Rattle.sql_grammar.specs.QueryPlan.{plan_with, sort, after_query, after_expression, plan_of_insides, no_parenthesis, going_on, going_on_by_and, enclosed_first, literal, named_first}
 use Rattle.sql_grammar.proofs.QuerySplits.{is_kept}
 use Rattle.sql_grammar.proofs.QuerySplits as split
@@ -27,22 +27,6 @@ module _ (variant : Variant) where
 
   -- the productions that the plan keeps
   pub kept : (p : Production) → is_kept p ≡ true → Alike kind_of (P variant) (ref p) (rules_with variant.froms p)
-  kept query e = own query refl
-  kept part e = own part refl
-  kept operand e = own operand refl
-  kept block e = own block refl
-  kept from e = own from refl
-  kept entry e = own entry refl
-  kept expr e = own expr refl
-  kept conj e = own conj refl
-  kept neg e = own neg refl
-  kept test e = own test refl
-  kept value e = own value refl
-  kept term e = own term refl
-  kept unary e = own unary refl
-  kept set_tail e = own set_tail refl
-  kept and_tail e = own and_tail refl
-  kept expr_tail e = own expr_tail refl
   kept item e = cc
   kept reference e = cc
   kept rest e = cc
@@ -50,6 +34,7 @@ module _ (variant : Variant) where
   kept agg e = cc
   kept inner e = cc
   kept in_inner e = cc
+  kept other e = own other refl
 
   abbrev pub Same : {A : Type 0} → The A → The A → Type 0
   Same f g = Alike kind_of (P variant) f g

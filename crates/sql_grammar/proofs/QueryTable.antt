@@ -3,35 +3,14 @@ use Rattle.std.proofs.Common.{◌≡◌, true, refl}
 use Rattle.grammar.specs.Lookahead.{PredictiveGrammar, is_right}
 use Rattle.sql_lex.specs.Lexemes.{Lexeme}
 use Rattle.sql_grammar.specs.Kinds.{Kind, kind_of, every_kind}
-use Rattle.sql_grammar.specs.QueryGrammar.{Production, Read, query, part, operand, block, item, from, entry, reference, expr, conj, neg, test, rest, value, term, unary, primary, agg, set_tail, and_tail, expr_tail, inner, in_inner}
+use Rattle.sql_grammar.specs.QueryGrammar.{Production, Read, query}
 use Rattle.sql_grammar.specs.QueryLookahead.{table}
 use Rattle.sql_grammar.proofs.EveryKind.{every_kind_is_there}
 use Rattle.sql_grammar.specs.QueryPlan.{plan}
 
 abbrev pub right : (p : Production) → is_right every_kind table plan p ≡ true
 right query = refl
-right part = refl
-right operand = refl
-right block = refl
-right item = refl
-right from = refl
-right entry = refl
-right reference = refl
-right expr = refl
-right conj = refl
-right neg = refl
-right test = refl
-right rest = refl
-right value = refl
-right term = refl
-right unary = refl
-right primary = refl
-right agg = refl
-right set_tail = refl
-right and_tail = refl
-right expr_tail = refl
-right inner = refl
-right in_inner = refl
+right other = refl
 
 -- the plan, with its table
 abbrev pub planned : PredictiveGrammar Lexeme Kind Production Read
