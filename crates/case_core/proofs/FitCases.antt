@@ -1,5 +1,5 @@
 -- The literals of a case that is spelled have numbers in it, and so those of its trees.
-use Rattle.std.proofs.Common.{ℕ, false, List, [], ◌∷◌, ◌++◌, length, map, None, inl, inr, sym, ◌∙◌, ap, subst, unwrap_or, arith}
+use Rattle.std.proofs.Common.{ℕ, ◌<◌, false, List, [], ◌∷◌, ◌++◌, length, map, None, inl, inr, sym, ◌∙◌, ap, subst, unwrap_or, arith}
 use Rattle.data_model.specs.Lists.{Each}
 use Rattle.sql_lex.specs.Lexemes.{Lexeme}
 use Rattle.sql_model.specs.declared.statement.NameAt.{NameAt}
@@ -18,7 +18,7 @@ use Rattle.schema_read.specs.Indexes.{column_item, index_query, shown_columns}
 use Rattle.schema_read.specs.Order.{map_along}
 use Rattle.schema_read.specs.StatementGrammar as statements
 use Rattle.schema_read.specs.StatementTrees as trees_of
-use Rattle.sql_grammar.specs.Queries.{of_form}
+use Rattle.sql_grammar.specs.Queries.{of_form, queries}
 use Rattle.scope_core.specs.Literals.{QueryFits, RelationFits, SchemaFits, TreeFits}
 use Rattle.scope_core.specs.Syntax.{RQuery}
 use Rattle.case_core.specs.declared.text.CaseText.{CaseText}
@@ -26,11 +26,20 @@ use Rattle.case_core.specs.CaseGrammar as g
 use Rattle.case_core.specs.Cases.{SpellsCase, cases}
 use Rattle.case_core.specs.Fitting.{TextFits, TreesFitSymbols, ViewFits}
 use Rattle.case_core.specs.Answer.{HasSchema}
-use Rattle.case_core.proofs.FitQueries.{Fits, each_of, fit_both, fit_each, fit_mapped, fit_plain, query_fits}
-use Rattle.case_core.proofs.FitTrees as trees
-use Rattle.case_core.proofs.FitTrees.{OfEntry, OfItem}
+use Rattle.sql_model.specs.Compute.{everything}
+use Rattle.sql_model.specs.Everywhere.{Anything, Everywhere, InItem}
+use Rattle.sql_grammar.proofs.EntryTexts.{few_spell}
+use Rattle.sql_grammar.proofs.EverywhereQueries.{everywhere}
+use Rattle.sql_grammar.proofs.EverywhereTrees.{block_has}
+use Rattle.sql_grammar.proofs.Fits.{Fits, each_of, fit_both, fit_each, fit_mapped, fit_plain}
+use Rattle.sql_grammar.specs.QueryGrammar.{query}
 
 -- ---- the text
+
+-- with as many entries as its text has tokens, each query is spelled
+query_fits : (ts : List Lexeme) (read : Built Query) → queries.spells ts read → Fits QueryFits read
+query_fits ts read s =
+    everywhere (λ count number. number < count) Anything (length ts) (λ count number below. below) (λ number few. tt) ts read (few_spell (length ts) query ts read (omega arith) s)
 
 statement_fits : (ts : List Lexeme) (v : Built Statement) → (of_form None statements.statement).spells ts v → Fits ViewFits v
 statement_fits ts v (p, (x, y, e, w, inl (u, s, j)), i) = subst (Fits ViewFits) (sym (i ∙ j)) (fit_plain _ (λ count. tt))
@@ -62,15 +71,20 @@ text_fits text written numbers s =
 -- ---- the schema that its statements build
 
 module _ (count : ℕ) where
-  columns_fit : (columns : List NameAt) → Each (OfItem count) (map column_item columns)
+  abbrev Below : ℕ → Type 0
+  Below number = number < count
+
+  columns_fit : (columns : List NameAt) → Each (InItem Below Anything) (map column_item columns)
+  unfolding everything Everywhere
   columns_fit [] = tt
-  columns_fit (column ∷ columns) = (trees.bare_column_fits count column.name column.at, columns_fit columns)
+  columns_fit (column ∷ columns) = (tt, columns_fit columns)
 
   -- an index has none
   index_fits : (on : NameAt) (columns : List NameAt) (table : Table) → QueryFits count (index_query on columns table)
+  unfolding everything Everywhere
   index_fits on columns table =
-      trees.block_fits count false (map column_item (shown_columns columns on.at table)) (entry_of on.name on.name on.at on.at ∷ []) (columns_fit (shown_columns columns on.at table))
-      (trees.table_entry_fits count on.name on.name on.at on.at, tt) None None None tt tt tt
+      block_has Below Anything false (map column_item (shown_columns columns on.at table)) (entry_of on.name on.name on.at on.at ∷ []) None None None
+      (record { items_have = columns_fit (shown_columns columns on.at table); count = tt; entries_have = ((tt, tt, tt), tt); cond = tt; having = tt }) tt
 
   relation_fits : (all earlier : List Statement) (s : Statement) → ViewFits count s → RelationFits count (declared_relation all earlier s)
   relation_fits all earlier (statement.Table name columns rules) f = tt

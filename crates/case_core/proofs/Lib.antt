@@ -9,6 +9,4 @@ pub mod CaseTerms
 pub mod LimitsOnce
 pub mod OneCount
 pub mod FewInCases
-pub mod FitTrees
-pub mod FitQueries
 pub mod FitCases

@@ -38,6 +38,5 @@ pub mod CountParts
 pub mod StatedCounts
 pub mod WholeStatements
 pub mod CountsApart
-pub mod FewTrees
 pub mod FewQueries
 pub mod FewSpelled

@@ -3,6 +3,7 @@ use Rattle.std.proofs.Common.{ℕ, suc, ◌+◌, ◌<◌, Bool, true, false, Lis
 use Rattle.std.specs.Prelude.{find, if◌then◌else◌}
 use Rattle.data_model.specs.Lists.{Each}
 use Rattle.sql_model.specs.Syntax as n
+use Rattle.sql_model.specs.Everywhere.{Anything, Everywhere, InArgument, InBlock, InEntries, InExpr, InExprs, InItem, InItems, InSource, InWritten}
 use Rattle.sql_model.specs.Frames.{ColumnName}
 use Rattle.sql_model.specs.Columns.{same_name}
 use Rattle.sql_model.specs.Grouping.{is_one_group}
@@ -19,13 +20,16 @@ use Rattle.scope_core.specs.declared.tree.RQuery.TheVariants as q
 use Rattle.scope_core.specs.Syntax.{RVal, RCond, RSource, RBlock, RQuery, Grouping}
 use Rattle.scope_core.specs.Scope.{Known, heading, Sight, AsRows, AsGroup, AsMember, Level, Levels, Place, place_at, column_at, column_from, rows_level, output_level, member_levels, on_level, no_entry, headings_here, grouping_of}
 use Rattle.scope_core.specs.Resolving.{source_named, entry_of, nothing, star, entry_columns, alias_star, conjunction, resolved_value, resolved_values, resolved_argument, only_block, conjuncts, conjuncts_of_each, resolved_conditions, conjuncts_written, resolved_having, resolved, resolved_block, resolved_entries, resolved_source, on_conjuncts, resolved_items, resolved_item}
-use Rattle.scope_core.specs.Literals.{QueryFits, BlockFits, EntriesFit, SourceFits, WrittenFits, ItemsFit, ItemFits, ExprFits, ExprsFit, ArgumentFits, RelationFits, SchemaFits, TreeFits, TreeBlockFits, TreeEntriesFit, TreeSourceFits, TreeConditionFits, TreeConditionsFit, TreeValueFits, TreeValuesFit}
+use Rattle.scope_core.specs.Literals.{QueryFits, RelationFits, SchemaFits, TreeFits, TreeBlockFits, TreeEntriesFit, TreeSourceFits, TreeConditionFits, TreeConditionsFit, TreeValueFits, TreeValuesFit}
 use Rattle.scope_core.specs.Relations.{count_views, known_with, known_relations, known_of}
 use Rattle.scope_core.specs.ViewTrees.{trees_with, view_trees, views_of, tree_of}
 use Rattle.scope_core.specs.Compute.{everything}
 use Rattle.scope_core.proofs.Each.{Each-append, Each-end}
 
 module _ (count : ℕ) where
+  abbrev Below : ℕ → Type 0
+  Below literal = literal < count
+
   abbrev V : RVal → Type 0
   V = TreeValueFits count
 
@@ -180,9 +184,9 @@ module _ (count : ℕ) where
 
   module _ (known : List Known) (fit : KnownFit known) where
     mutual
-      unfolding resolved QueryFits
+      unfolding resolved Everywhere
 
-      value-fits : (e : n.Expr) (ls : Levels) → ExprFits count e → V (resolved_value e known ls)
+      value-fits : (e : n.Expr) (ls : Levels) → InExpr Below Anything e → V (resolved_value e known ls)
       value-fits (n.Col qual qual_at name at) ls h = column-fits 0 qual name ls
       value-fits (n.Lit lit at) ls h = fit-Lit lit h
       value-fits (n.Fun symbol s args at) ls h = fit-Fun symbol (resolved_values args known ls) (values-of args ls h)
@@ -192,11 +196,11 @@ module _ (count : ℕ) where
       value-fits (n.Sub query at) ls h = fit-Sub (only_block query known ls) (only_block-fits query ls h)
       value-fits _ ls h = fit-Col (length ls) 0 0
 
-      values-of : {m : _} (es : n.Exprs m) (ls : Levels) → ExprsFit count es → Each V (resolved_values es known ls)
+      values-of : {m : _} (es : n.Exprs m) (ls : Levels) → InExprs Below Anything es → Each V (resolved_values es known ls)
       values-of n.NoExprs ls h = tt
       values-of (n.ExprThen expr rest) ls h = (value-fits expr ls h.0, values-of rest ls h.1)
 
-      argument-fits : (argument : n.MaybeArgument) (ls : Levels) → ArgumentFits count argument → ArgumentOk (resolved_argument argument known ls)
+      argument-fits : (argument : n.MaybeArgument) (ls : Levels) → InArgument Below Anything argument → ArgumentOk (resolved_argument argument known ls)
       argument-fits n.NoArgument ls h = tt
       argument-fits (n.AnArgument expr) ls h = value-fits expr ls h
 
@@ -204,7 +208,7 @@ module _ (count : ℕ) where
       only_block-fits (n.OfBlock block) ls h = block-fits block ls h
       only_block-fits (n.Set op left right at) ls h = fit-nothing
 
-      conjuncts-fit : (e : n.Expr) (ls : Levels) → ExprFits count e → Each C (conjuncts e known ls)
+      conjuncts-fit : (e : n.Expr) (ls : Levels) → InExpr Below Anything e → Each C (conjuncts e known ls)
       conjuncts-fit (n.And s parts at) ls h = conjuncts_of_each-fit parts ls h
       conjuncts-fit (n.Pred symbol s args at) ls h = (fit-Pred symbol (resolved_values args known ls) (values-of args ls h), tt)
       conjuncts-fit (n.Call symbol s args at) ls h = (fit-Pred symbol (resolved_values args known ls) (values-of args ls h), tt)
@@ -218,21 +222,21 @@ module _ (count : ℕ) where
           (fit-In (resolved_value left known ls) (resolved query known ls) (value-fits left ls h.0) (query-fits query ls h.1), tt)
       conjuncts-fit _ ls h = (fit-Or [] tt, tt)
 
-      conjuncts_of_each-fit : {m : _} (es : n.Exprs m) (ls : Levels) → ExprsFit count es → Each C (conjuncts_of_each es known ls)
+      conjuncts_of_each-fit : {m : _} (es : n.Exprs m) (ls : Levels) → InExprs Below Anything es → Each C (conjuncts_of_each es known ls)
       conjuncts_of_each-fit n.NoExprs ls h = tt
       conjuncts_of_each-fit (n.ExprThen expr rest) ls h =
           Each-append C (conjuncts expr known ls) (conjuncts_of_each rest known ls) (conjuncts-fit expr ls h.0) (conjuncts_of_each-fit rest ls h.1)
 
-      conditions-of : {m : _} (es : n.Exprs m) (ls : Levels) → ExprsFit count es → Each C (resolved_conditions es known ls)
+      conditions-of : {m : _} (es : n.Exprs m) (ls : Levels) → InExprs Below Anything es → Each C (resolved_conditions es known ls)
       conditions-of n.NoExprs ls h = tt
       conditions-of (n.ExprThen expr rest) ls h =
           (fit-conjunction (conjuncts expr known ls) (conjuncts-fit expr ls h.0), conditions-of rest ls h.1)
 
-      written-fits : (condition : n.MaybeCondition) (ls : Levels) → WrittenFits count condition → Each C (conjuncts_written condition known ls)
+      written-fits : (condition : n.MaybeCondition) (ls : Levels) → InWritten Below Anything condition → Each C (conjuncts_written condition known ls)
       written-fits n.NoCondition ls h = tt
       written-fits (n.ACondition expr) ls h = conjuncts-fit expr ls h
 
-      having-fits : (condition : n.MaybeCondition) (ls : Levels) → WrittenFits count condition → HavingOk (resolved_having condition known ls)
+      having-fits : (condition : n.MaybeCondition) (ls : Levels) → InWritten Below Anything condition → HavingOk (resolved_having condition known ls)
       having-fits n.NoCondition ls h = tt
       having-fits (n.ACondition expr) ls h = fit-conjunction (conjuncts expr known ls) (conjuncts-fit expr ls h)
 
@@ -241,7 +245,7 @@ module _ (count : ℕ) where
       query-fits (n.Set op left right at) ls h =
           fit-Set op (resolved left known ls) (resolved right known ls) (query-fits left ls h.0) (query-fits right ls h.1)
 
-      block-fits : (block : n.Block) (ls : Levels) → BlockFits count block → TreeBlockFits count (resolved_block block known ls)
+      block-fits : (block : n.Block) (ls : Levels) → InBlock Below Anything block → TreeBlockFits count (resolved_block block known ls)
       block-fits (n.Select is_distinct s items s' from where_condition group_by having) ls h =
           let H = headings from (map heading known) in
           let gr = grouping_of group_by (is_one_group items having) H in
@@ -252,27 +256,27 @@ module _ (count : ℕ) where
           (on-fits from 0 no_entry ls h.0) (written-fits where_condition (rows_level H ∷ ls) h.1))
           (having-fits having output h.4) (items-of items output h.3)
 
-      entries-of : {m : _} (es : n.Entries m) (ls : Levels) → EntriesFit count es → Each (λ e. TreeSourceFits count e.0) (resolved_entries es known ls)
+      entries-of : {m : _} (es : n.Entries m) (ls : Levels) → InEntries Below Anything es → Each (λ e. TreeSourceFits count e.0) (resolved_entries es known ls)
       entries-of n.NoEntries ls h = tt
       entries-of (n.EntryThen source alias at joined on rest) ls h = (source-fits source ls h.0, entries-of rest ls h.2)
 
-      source-fits : (source : n.Source) (ls : Levels) → SourceFits count source → TreeSourceFits count (resolved_source source known ls)
+      source-fits : (source : n.Source) (ls : Levels) → InSource Below Anything source → TreeSourceFits count (resolved_source source known ls)
       source-fits (n.Named name at) ls h = named-fits name known fit
       source-fits (n.Derived query) ls h = fit-Query (resolved query known ls) (query-fits query ls h)
 
-      on-fits : {m : _} (es : n.Entries m) (entry : ℕ) (before : Level) (ls : Levels) → EntriesFit count es → Each C (on_conjuncts es entry before known ls)
+      on-fits : {m : _} (es : n.Entries m) (entry : ℕ) (before : Level) (ls : Levels) → InEntries Below Anything es → Each C (on_conjuncts es entry before known ls)
       on-fits n.NoEntries entry before ls h = tt
       on-fits (n.EntryThen source alias at joined on rest) entry before ls h =
           let seen = on_level joined before entry (record { alias = alias; columns = source_columns source (map heading known) }) in
           Each-append C (conjuncts_written on known (seen ∷ ls)) (on_conjuncts rest (suc entry) seen known ls)
           (written-fits on (seen ∷ ls) h.1) (on-fits rest (suc entry) seen ls h.2)
 
-      items-of : {m : _} (items : n.Items m) (ls : Levels) → ItemsFit count items → Each V (resolved_items items known ls)
+      items-of : {m : _} (items : n.Items m) (ls : Levels) → InItems Below Anything items → Each V (resolved_items items known ls)
       items-of n.NoItems ls h = tt
       items-of (n.ItemThen item rest) ls h =
           Each-append V (resolved_item item known ls) (resolved_items rest known ls) (item-fits item ls h.0) (items-of rest ls h.1)
 
-      item-fits : (item : n.Item) (ls : Levels) → ItemFits count item → Each V (resolved_item item known ls)
+      item-fits : (item : n.Item) (ls : Levels) → InItem Below Anything item → Each V (resolved_item item known ls)
       item-fits (n.Star at) ls h = star-fits 0 (headings_here ls)
       item-fits (n.AliasStar alias at) ls h = alias-fits alias 0 (headings_here ls)
       item-fits (n.Value expr name) ls h = (value-fits expr ls h, tt)

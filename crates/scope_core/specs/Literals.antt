@@ -1,6 +1,7 @@
 -- Whether each literal of a query, of a schema or of a tree is one of the first `count` literals.
 use Rattle.std.specs.Prelude.{ℕ, ◌<◌}
 use Rattle.data_model.specs.Lists.{Each}
+use Rattle.sql_model.specs.Everywhere.{Anything, Everywhere}
 use Rattle.sql_model.specs.Syntax as n
 use Rattle.sql_model.specs.declared.schema.Schema.{Schema}
 use Rattle.sql_model.specs.declared.schema.Relation.TheVariants as relation
@@ -9,62 +10,8 @@ use Rattle.scope_core.specs.Syntax.{RVal, Col, Key, Lit, Fun, Agg, Sub, Values, 
 
 module _ (count : ℕ) where
   -- ---- of a query
-  unfoldable mutual
-    pub QueryFits : n.Query → Type 0
-    QueryFits (n.OfBlock block) = BlockFits block
-    QueryFits (n.Set op left right at) = QueryFits left × QueryFits right
-
-    pub BlockFits : n.Block → Type 0
-    BlockFits (n.Select is_distinct s items s' from where_condition group_by having) =
-        EntriesFit from × WrittenFits where_condition × GroupByFits group_by × ItemsFit items × WrittenFits having
-
-    pub EntriesFit : {m : _} → n.Entries m → Type 0
-    EntriesFit n.NoEntries = Unit {0}
-    EntriesFit (n.EntryThen source alias at joined on rest) = SourceFits source × WrittenFits on × EntriesFit rest
-
-    pub SourceFits : n.Source → Type 0
-    SourceFits (n.Named name at) = Unit {0}
-    SourceFits (n.Derived query) = QueryFits query
-
-    pub WrittenFits : n.MaybeCondition → Type 0
-    WrittenFits n.NoCondition = Unit {0}
-    WrittenFits (n.ACondition expr) = ExprFits expr
-
-    pub GroupByFits : n.MaybeGroupBy → Type 0
-    GroupByFits n.NoGroupBy = Unit {0}
-    GroupByFits (n.GroupBy s columns) = ExprsFit columns
-
-    pub ItemsFit : {m : _} → n.Items m → Type 0
-    ItemsFit n.NoItems = Unit {0}
-    ItemsFit (n.ItemThen item rest) = ItemFits item × ItemsFit rest
-
-    pub ItemFits : n.Item → Type 0
-    ItemFits (n.Star at) = Unit {0}
-    ItemFits (n.AliasStar alias at) = Unit {0}
-    ItemFits (n.Value expr name) = ExprFits expr
-
-    pub ExprFits : n.Expr → Type 0
-    ExprFits (n.Col qual qual_at name at) = Unit {0}
-    ExprFits (n.Lit lit at) = lit < count
-    ExprFits (n.Fun sym s args at) = ExprsFit args
-    ExprFits (n.Pred sym s args at) = ExprsFit args
-    ExprFits (n.Call sym s args at) = ExprsFit args
-    ExprFits (n.Agg fun is_distinct argument at) = ArgumentFits argument
-    ExprFits (n.Sub query at) = QueryFits query
-    ExprFits (n.Eq left right at) = ExprFits left × ExprFits right
-    ExprFits (n.And s parts at) = ExprsFit parts
-    ExprFits (n.Or s parts at) = ExprsFit parts
-    ExprFits (n.Not part at) = ExprFits part
-    ExprFits (n.Exists query at) = QueryFits query
-    ExprFits (n.In left query at in_at) = ExprFits left × QueryFits query
-
-    pub ExprsFit : {m : _} → n.Exprs m → Type 0
-    ExprsFit n.NoExprs = Unit {0}
-    ExprsFit (n.ExprThen expr rest) = ExprFits expr × ExprsFit rest
-
-    pub ArgumentFits : n.MaybeArgument → Type 0
-    ArgumentFits n.NoArgument = Unit {0}
-    ArgumentFits (n.AnArgument expr) = ExprFits expr
+  abbrev pub QueryFits : n.Query → Type 0
+  QueryFits query = Everywhere (λ literal. literal < count) Anything query
 
   -- ---- of the views of a schema
   abbrev pub RelationFits : Relation → Type 0

@@ -12,6 +12,10 @@ pub mod QueryItems
 pub mod QueryBelow
 pub mod QueryKnown
 pub mod NoSubqueries
+pub mod EverywhereTrees
+pub mod Fits
+pub mod EntryCounts
+pub mod EverywhereQueries
 pub mod PlanInsides
 pub mod PlanWords
 pub mod PlanParens

@@ -13,5 +13,6 @@ pub mod Relations
 pub mod Meets
 pub mod Equivalent
 pub mod SelectStar
+pub mod Everywhere
 pub mod Compute
 pub mod samples
