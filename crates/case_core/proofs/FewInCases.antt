@@ -3,12 +3,12 @@ use Rattle.std.proofs.Common.{ℕ, List, sym, ap, subst}
 use Rattle.data_model.specs.Lists.{Each}
 use Rattle.sql_lex.specs.Lexemes.{Lexeme}
 use Rattle.sql_model.specs.declared.tree.Query.{Query}
-use Rattle.sql_read.specs.declared.fault.LimitKind.TheVariants as limit
 use Rattle.sql_grammar.specs.Numbering.{Built, Numbers, first_numbers}
 use Rattle.sql_grammar.specs.QueryEntries.{most_further}
-use Rattle.schema_read.specs.FewEntries.{HasFewEntries, ViewHasFew}
 use Rattle.sql_grammar.proofs.Fits.{Fits, fit_both, fit_mapped, now_holds}
-use Rattle.schema_read.proofs.FewQueries.{query_few, statements_few}
+use Rattle.sql_read.specs.declared.fault.LimitKind.TheVariants as limit
+use Rattle.schema_read.specs.FewEntries.{HasFewEntries, ViewHasFew}
+use Rattle.schema_read.proofs.FewStatements.{query_few, statements_few}
 use Rattle.schema_read.proofs.WholeStatements.{few_grammar}
 use Rattle.case_core.specs.declared.text.CaseText.{CaseText}
 use Rattle.case_core.specs.CaseGrammar as g

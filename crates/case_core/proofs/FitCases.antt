@@ -1,5 +1,5 @@
 -- The literals of a case that is spelled have numbers in it, and so those of its trees.
-use Rattle.std.proofs.Common.{ℕ, ◌<◌, false, List, [], ◌∷◌, ◌++◌, length, map, None, inl, inr, sym, ◌∙◌, ap, subst, unwrap_or, arith}
+use Rattle.std.proofs.Common.{ℕ, ◌<◌, false, List, [], ◌∷◌, ◌++◌, length, map, None, sym, subst, unwrap_or, arith}
 use Rattle.data_model.specs.Lists.{Each}
 use Rattle.sql_lex.specs.Lexemes.{Lexeme}
 use Rattle.sql_model.specs.declared.statement.NameAt.{NameAt}
@@ -10,15 +10,21 @@ use Rattle.sql_model.specs.declared.schema.Table.{Table}
 use Rattle.sql_model.specs.declared.symbols.Symbols.{Symbols}
 use Rattle.sql_model.specs.declared.tree.Query.{Query}
 use Rattle.sql_model.specs.SelectStar.{entry_of}
+use Rattle.sql_model.specs.Compute.{everything}
+use Rattle.sql_model.specs.Everywhere.{Anything, Everywhere, InItem}
 use Rattle.sql_grammar.specs.Numbering.{Built, Numbers, first_numbers}
+use Rattle.sql_grammar.specs.Queries.{of_form, of_production, queries}
+use Rattle.sql_grammar.specs.QueryGrammar.{query}
+use Rattle.sql_grammar.proofs.EntryTexts.{few_spell}
+use Rattle.sql_grammar.proofs.EverywhereQueries.{everywhere}
+use Rattle.sql_grammar.proofs.EverywhereTrees.{block_has}
+use Rattle.sql_grammar.proofs.Fits.{Fits, fit_both, fit_mapped}
 use Rattle.sql_read.specs.Cursor.{numbers_of}
 use Rattle.schema_read.specs.Builds.{Builds}
 use Rattle.schema_read.specs.Declarations.{declared_relation, no_table, relation_entry, table_named}
 use Rattle.schema_read.specs.Indexes.{column_item, index_query, shown_columns}
 use Rattle.schema_read.specs.Order.{map_along}
-use Rattle.schema_read.specs.StatementGrammar as statements
-use Rattle.schema_read.specs.StatementTrees as trees_of
-use Rattle.sql_grammar.specs.Queries.{of_form, queries}
+use Rattle.schema_read.proofs.FewStatements.{statements_fit}
 use Rattle.scope_core.specs.Literals.{QueryFits, RelationFits, SchemaFits, TreeFits}
 use Rattle.scope_core.specs.Syntax.{RQuery}
 use Rattle.case_core.specs.declared.text.CaseText.{CaseText}
@@ -26,13 +32,6 @@ use Rattle.case_core.specs.CaseGrammar as g
 use Rattle.case_core.specs.Cases.{SpellsCase, cases}
 use Rattle.case_core.specs.Fitting.{TextFits, TreesFitSymbols, ViewFits}
 use Rattle.case_core.specs.Answer.{HasSchema}
-use Rattle.sql_model.specs.Compute.{everything}
-use Rattle.sql_model.specs.Everywhere.{Anything, Everywhere, InItem}
-use Rattle.sql_grammar.proofs.EntryTexts.{few_spell}
-use Rattle.sql_grammar.proofs.EverywhereQueries.{everywhere}
-use Rattle.sql_grammar.proofs.EverywhereTrees.{block_has}
-use Rattle.sql_grammar.proofs.Fits.{Fits, each_of, fit_both, fit_each, fit_mapped, fit_plain}
-use Rattle.sql_grammar.specs.QueryGrammar.{query}
 
 -- ---- the text
 
@@ -41,19 +40,6 @@ query_fits : (ts : List Lexeme) (read : Built Query) → queries.spells ts read 
 query_fits ts read s =
     everywhere (λ count number. number < count) Anything (length ts) (λ count number below. below) (λ number few. tt) ts read (few_spell (length ts) query ts read (omega arith) s)
 
-statement_fits : (ts : List Lexeme) (v : Built Statement) → (of_form None statements.statement).spells ts v → Fits ViewFits v
-statement_fits ts v (p, (x, y, e, w, inl (u, s, j)), i) = subst (Fits ViewFits) (sym (i ∙ j)) (fit_plain _ (λ count. tt))
-statement_fits ts v (p, (x, y, e, w, inr (inl (u, (o, (x1, y1, e1, c, (x2, y2, e2, d, (q, (x3, y3, e3, b, s), h))), k), j))), i) =
-    subst (Fits ViewFits) (sym (i ∙ (j ∙ ap (λ z. trees_of.view z.0 z.1) (k ∙ ap (λ z. (o.1.0, z)) h))))
-    (fit_mapped (λ z. statement.View (trees_of.named o.1.0) z) (λ count z f. f) (query_fits y3 q.1 s))
-statement_fits ts v (p, (x, y, e, w, inr (inr (u, s, j))), i) = subst (Fits ViewFits) (sym (i ∙ j)) (fit_plain _ (λ count. tt))
-
-ended_statement_fits : (ts : List Lexeme) (v : Built Statement) → (of_form None (statements.ended_with statements.elements)).spells ts v → Fits ViewFits v
-ended_statement_fits ts v (p, (x, y, e, s, end), i) = subst (Fits ViewFits) (sym i) (statement_fits x p.0 s)
-
-statements_fit : (ts : List Lexeme) (read : Built (List Statement)) → (of_form None statements.statements).spells ts read → Fits (λ count. Each (ViewFits count)) read
-statements_fit ts read (bs, s, i) = subst (Fits (λ count. Each (ViewFits count))) (sym i) (fit_each bs (each_of ended_statement_fits bs ts s))
-
 ended_query_fits : (ts : List Lexeme) (v : Built Query) → (of_form None g.ended_query).spells ts v → Fits QueryFits v
 ended_query_fits ts v (p, (x, y, e, s, end), i) = subst (Fits QueryFits) (sym i) (query_fits x p.0 s)
 
@@ -61,7 +47,7 @@ case_fits : (ts : List Lexeme) (v : Built CaseText) → cases.spells ts v → Fi
 case_fits ts v (u, (x, y, e, s, (x1, y1, e1, l, r)), i) =
     subst (Fits TextFits) (sym i)
     (fit_mapped g.text_of (λ count p f. record { views = f.0; left = f.1.0; right = f.1.1 })
-    (fit_both (statements_fit x u.0 s) (fit_both (ended_query_fits x1 u.1.0 l) (ended_query_fits y1 u.1.1 r))))
+    (fit_both (statements_fit of_production query_fits x u.0 s) (fit_both (ended_query_fits x1 u.1.0 l) (ended_query_fits y1 u.1.1 r))))
 
 pub text_fits : (text : List ℕ) (written : CaseText) (numbers : Numbers) → SpellsCase text written numbers → TextFits (length numbers.literals) written
 text_fits text written numbers s =

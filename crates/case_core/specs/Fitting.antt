@@ -2,8 +2,8 @@
 use Rattle.std.specs.Prelude.{ℕ, List, length}
 use Rattle.data_model.specs.Lists.{Each}
 use Rattle.sql_model.specs.declared.statement.Statement.{Statement}
-use Rattle.sql_model.specs.declared.statement.Statement.TheVariants as statement
 use Rattle.sql_model.specs.declared.symbols.Symbols.{Symbols}
+use Rattle.schema_read.specs.FewEntries.{OfView}
 use Rattle.scope_core.specs.Literals.{QueryFits, TreeFits}
 use Rattle.scope_core.specs.Syntax.{RQuery}
 use Rattle.case_core.specs.declared.text.CaseText.{CaseText}
@@ -12,9 +12,7 @@ use Rattle.case_core.specs.declared.text.CaseText.{CaseText}
 
 -- each literal of a view's query has one
 abbrev pub ViewFits : ℕ → Statement → Type 0
-ViewFits count (statement.Table name columns rules) = Unit {0}
-ViewFits count (statement.View name query) = QueryFits count query
-ViewFits count (statement.Index name unique on columns) = Unit {0}
+ViewFits count s = OfView (QueryFits count) s
 
 -- each literal of the views and of the two queries has one
 pub record TextFits (count : ℕ) (written : CaseText) : Type 0 where

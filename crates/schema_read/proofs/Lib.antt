@@ -38,5 +38,4 @@ pub mod CountParts
 pub mod StatedCounts
 pub mod WholeStatements
 pub mod CountsApart
-pub mod FewQueries
-pub mod FewSpelled
+pub mod FewStatements

@@ -9,8 +9,11 @@ use Rattle.sql_model.specs.declared.statement.Statement.TheVariants as statement
 abbrev pub HasFewEntries : ℕ → Query → Type 0
 HasFewEntries most query = Everywhere Anything (λ count. count ≤ most) query
 
--- the same of the query of a view
+-- P holds of the query, where the statement declares a view
+abbrev pub OfView : (Query → Type 0) → Statement → Type 0
+OfView P (statement.Table name columns rules) = Unit {0}
+OfView P (statement.View name query) = P query
+OfView P (statement.Index name unique on columns) = Unit {0}
+
 abbrev pub ViewHasFew : ℕ → Statement → Type 0
-ViewHasFew most (statement.Table name columns rules) = Unit {0}
-ViewHasFew most (statement.View name query) = HasFewEntries most query
-ViewHasFew most (statement.Index name unique on columns) = Unit {0}
+ViewHasFew most s = OfView (HasFewEntries most) s

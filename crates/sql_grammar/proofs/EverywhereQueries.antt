@@ -1,7 +1,7 @@
 -- What holds everywhere in a query that is spelled with few entries: each property of literals that have numbers behind it, and each of at
 -- most so many entries.
-use Rattle.std.proofs.Common.{ℕ, zero, suc, ◌*◌, ◌<◌, ◌≤◌, ◌≡◌, false, true, List, [], ◌∷◌, length, Option, Some, None, inl, inr, sym, ◌∙◌, ap, subst, arith}
-use Rattle.grammar.specs.Form.{Room, form_language, language_within, language, alt, seq, only, ref}
+use Rattle.std.proofs.Common.{ℕ, zero, suc, ◌*◌, ◌<◌, ◌≤◌, ◌≡◌, Bool, false, true, List, [], ◌∷◌, length, Option, Some, None, inl, inr, sym, subst, arith}
+use Rattle.grammar.specs.Form.{Room, form_language, language_within, language, alt, map, nest, only, ref, seq, star}
 use Rattle.grammar.specs.Language.{Language}
 use Rattle.grammar.specs.Productions.{skip_then, optional}
 use Rattle.grammar.proofs.Heights.{spelled_at}
@@ -18,9 +18,8 @@ use Rattle.sql_model.specs.declared.tree.Query.TheVariants as query_tree
 use Rattle.sql_model.specs.Compute.{everything}
 use Rattle.sql_model.specs.Everywhere.{Everywhere}
 use Rattle.sql_model.specs.Syntax as tree
-use Rattle.sql_grammar.specs.Kinds as k
 use Rattle.sql_grammar.specs.Kinds.{kind_of}
-use Rattle.sql_grammar.specs.Numbering.{Built, both, each, mapped}
+use Rattle.sql_grammar.specs.Numbering.{Built, both, each, mapped, plain}
 use Rattle.sql_grammar.specs.QueryEntries.{Further, few_froms, few_rules, further_entries, items_of, next_entry, parted}
 use Rattle.sql_grammar.specs.QueryGrammar as grammar
 use Rattle.sql_grammar.specs.QueryGrammar.{Production, Read, The, parens, listed, query, part, operand, block, item, entry, reference, expr, conj, neg, test, rest, value, term, unary, primary, agg}
@@ -211,66 +210,84 @@ module _ (literal : ℕ → ℕ → Type 0) (entries : ℕ → Type 0) where
     -- ---- productions, from the names in them
 
     module _ (E : Room → (p : Production) → Language Lexeme (Read p)) (names : (p : Production) (ts : List Lexeme) (v : Read p) → (E None p).spells ts v → Good p v) where
-      abbrev fl : {A : Type 0} → The A → Language Lexeme A
-      fl f = form_language kind_of E None f
-
       -- P holds of all that the form spells
-      abbrev All : {A : Type 0} → The A → (A → Type 0) → Type 0
-      All {A = A} f P = (ts : List Lexeme) (v : A) → (fl f).spells ts v → P v
+      record All {A : Type 0} (f : The A) (P : A → Type 0) : Type 0 where
+        has : (ts : List Lexeme) (v : A) → (form_language kind_of E None f).spells ts v → P v
 
-      in_parens : {A : Type 0} (f : The A) (P : A → Type 0) → All f P → All (parens f) P
-      in_parens f P all ts v (q, (x, y, e, open_, (r, (x1, y1, e1, s, close_), i)), j) = subst P (sym (j ∙ i)) (all x1 r.0 s)
+      of : (p : Production) → All (ref p) (Good p)
+      of p = record { has = names p }
+
+      of_map : {A B : Type 0} {f : The A} {P : A → Type 0} {Q : B → Type 0} (g : A → B) → ((v : A) → P v → Q (g v)) → All f P → All (map g f) Q
+      of_map {Q = Q} g h all = record { has = λ ts v (u, s, i). subst Q (sym i) (h u (all.has ts u s)) }
+
+      of_both : {A B : Type 0} {f : The A} {g : The B} {P : A → Type 0} {Q : B → Type 0} → All f P → All g Q → All (seq f g) (λ v. P v.0 × Q v.1)
+      of_both all others = record { has = λ ts v (x, y, e, s, r). (all.has x v.0 s, others.has y v.1 r) }
+
+      of_first : {A B : Type 0} {f : The A} {g : The B} {P : A → Type 0} → All f P → All (seq f g) (λ v. P v.0)
+      of_first all = record { has = λ ts v (x, y, e, s, r). all.has x v.0 s }
+
+      of_second : {A B : Type 0} {f : The A} {g : The B} {Q : B → Type 0} → All g Q → All (seq f g) (λ v. Q v.1)
+      of_second others = record { has = λ ts v (x, y, e, s, r). others.has y v.1 r }
+
+      of_either : {A : Type 0} {f g : The A} {P : A → Type 0} → All f P → All g P → All (alt f g) P
+      of_either {f = f} {g = g} {P = P} all others = record { has = go }
+        where
+          go : (ts : List Lexeme) (v : _) → (form_language kind_of E None (alt f g)).spells ts v → P v
+          go ts v (inl s) = all.has ts v s
+          go ts v (inr s) = others.has ts v s
+
+      of_any : {A : Type 0} {f : The A} → All f (λ v. Unit {0})
+      of_any = record { has = λ ts v s. tt }
+
+      of_each : {A : Type 0} {most : Option ℕ} {f : The A} {P : A → Type 0} → All f P → All (star most f) (Each P)
+      of_each all = record { has = λ ts v s. each_of all.has v ts s }
+
+      of_nest : {A : Type 0} {f : The A} {P : A → Type 0} → All f P → All (nest f) P
+      of_nest all = record { has = λ ts v s. all.has ts v s }
+
+      of_only : {A : Type 0} {p : A → Bool} {f : The A} {P : A → Type 0} → All f P → All (only p f) P
+      of_only all = record { has = λ ts v s. all.has ts v s.0 }
+
+      of_optional : {A : Type 0} {f : The A} {P : A → Type 0} → All f P → All (optional f) (Perhaps P)
+      of_optional all = of_either (of_map (λ v. Some v) (λ v h. h) all) (of_map (λ v. None) (λ v h. tt) of_any)
 
       -- behind a token
-      behind : {A B : Type 0} (f : The B) (g : The A) (P : A → Type 0) → All g P → All (skip_then f g) P
-      behind f g P all ts v (q, (x, y, e, w, s), i) = subst P (sym i) (all y q.1 s)
+      behind : {A B : Type 0} {f : The A} {g : The B} {Q : B → Type 0} → All g Q → All (skip_then f g) Q
+      behind all = of_map (λ v. v.1) (λ v h. h) (of_second all)
 
-      in_list : {A : Type 0} (f : The A) (P : A → Type 0) → All f P → All (listed f) (λ v. P v.0 × Each P v.1)
-      in_list f P all ts v (x, y, e, s, r) = (all x v.0 s, each_of (behind (grammar.a k.Comma) f P all) v.1 y r)
+      in_parens : {A : Type 0} {f : The A} {P : A → Type 0} → All f P → All (parens f) P
+      in_parens all = of_map (λ v. v.1) (λ v h. h) (of_nest (of_second (of_map (λ v. v.0) (λ v h. h) (of_first all))))
 
-      perhaps_in : {A : Type 0} (f : The A) (P : A → Type 0) → All f P → All (optional f) (Perhaps P)
-      perhaps_in f P all ts v (inl (u, s, i)) = subst (Perhaps P) (sym i) (all ts u s)
-      perhaps_in f P all ts v (inr (u, s, i)) = subst (Perhaps P) (sym i) tt
+      in_list : {A : Type 0} {f : The A} {P : A → Type 0} → All f P → All (listed f) (λ v. P v.0 × Each P v.1)
+      in_list all = of_both all (of_each (behind all))
 
       -- ---- queries
 
       join_has : All (alt grammar.join_on grammar.cross_join) BuiltEntry
-      join_has ts v (inl (u, (p, (x, y, e, w, (x1, y1, e1, s, (q, (x2, y2, e2, o, r), j))), i), l)) =
-          subst BuiltEntry (sym (l ∙ ap (λ z. t.joined_on z.0 z.1) (i ∙ ap (λ z. (p.1.0, z)) j)))
-          (fit_mapped (λ z. t.entry_of true (Some z.1) z.0) (λ count z f. (trees.entry_has (literal count) entries true (Some z.1) z.0).0 f) (fit_both (names entry x1 p.1.0 s) (names expr y2 q.1 r)))
-      join_has ts v (inr (u, (p, (x, y, e, w, s), i), l)) =
-          subst BuiltEntry (sym (l ∙ ap t.cross_joined i))
-          (fit_mapped (t.entry_of true None) (λ count z f. (trees.entry_has (literal count) entries true None z).0 (f, tt)) (names entry y p.1 s))
+      join_has =
+          of_either
+          (of_map (λ p. t.joined_on p.0 p.1) (λ p f. fit_mapped (λ z. t.entry_of true (Some z.1) z.0) (λ count z. (trees.entry_has (literal count) entries true (Some z.1) z.0).0) (fit_both f.0 f.1))
+          (behind (of_both (of entry) (behind (of expr)))))
+          (of_map t.cross_joined (λ p f. fit_mapped (t.entry_of true None) (λ count z g. (trees.entry_has (literal count) entries true None z).0 (g, tt)) f) (behind (of entry)))
 
       next_has : All next_entry FurtherHas
-      next_has ts v (inl (u, s, i)) = subst FurtherHas (sym i) (behind (grammar.a k.Comma) (ref entry) BuiltListed (names entry) ts u s)
-      next_has ts v (inr (u, s, i)) = subst FurtherHas (sym i) (join_has ts u s)
+      next_has = of_either (of_map (λ listed. inl listed) (λ v f. f) (behind (of entry))) (of_map (λ joined. inr joined) (λ v f. f) join_has)
 
       further_have : (most : ℕ) → All (further_entries most) (λ w. (length w ≤ most) × Each FurtherHas w)
-      further_have zero ts w (inl (u, e, i)) = subst (λ z. (length z ≤ zero) × Each FurtherHas z) (sym i) (omega arith, tt)
-      further_have zero ts w (inr (u, (s, n), i)) = cc
-      further_have (suc most) ts w (inl (u, e, i)) = subst (λ z. (length z ≤ suc most) × Each FurtherHas z) (sym i) (omega arith, tt)
-      further_have (suc most) ts w (inr (u, (x, y, e, s, r), i)) =
-          let g = further_have most y u.1 r in subst (λ z. (length z ≤ suc most) × Each FurtherHas z) (sym i) (omega (arith, g.0), (next_has x u.0 s, g.1))
+      further_have zero = of_either (of_map (λ none. []) (λ v f. (omega arith, tt)) of_any) (of_map (λ none. []) (λ v f. (omega arith, tt)) of_any)
+      further_have (suc most) =
+          of_either (of_map (λ none. []) (λ v f. (omega arith, tt)) of_any) (of_map (λ p. p.0 ∷ p.1) (λ p f. (omega (arith, f.1.0), (f.0, f.1.1))) (of_both next_has (further_have most)))
 
       froms_have : All (few_froms m) BuiltFroms
-      froms_have ts v (u, (x, y, e, s, r), i) = let g = further_have m y u.1 r in subst BuiltFroms (sym i) (items_have u.0 u.1 g.0 (names entry x u.0 s) g.1)
+      froms_have = of_map items_of (λ p f. items_have p.0 p.1 f.1.0 f.0 f.1.1) (of_both (of entry) (further_have m))
 
       group_has : All grammar.group_by (λ v. Perhaps (Each Always) (t.columns_of v))
-      group_has ts v (inl (u, (p, (x, y, e, w, s), j), i)) =
-          subst (λ z. Perhaps (Each Always) (t.columns_of z)) (sym (i ∙ ap (λ z. Some z) j)) (in_list (ref reference) Always (names reference) y p.1 s)
-      group_has ts v (inr (u, s, i)) = subst (λ z. Perhaps (Each Always) (t.columns_of z)) (sym i) tt
-
-      -- WHERE or HAVING
-      written_has : (kind : k.Kind) → All (optional (skip_then (grammar.a kind) (ref expr))) (Perhaps BuiltExpr)
-      written_has kind = perhaps_in (skip_then (grammar.a kind) (ref expr)) BuiltExpr (behind (grammar.a kind) (ref expr) BuiltExpr (names expr))
+      group_has = of_either (of_map (λ v. Some v) (λ v f. f) (behind (in_list (of reference)))) (of_map (λ v. None) (λ v f. tt) of_any)
 
       block_has : All (few_rules m block) BuiltQuery
-      block_has ts v (u, (p, (x, y, i, sel, (x1, y1, i1, d, (x2, y2, i2, its, (x3, y3, i3, fs, (x4, y4, i4, w, (x5, y5, i5, gs, hs)))))), l), o) =
-          subst BuiltQuery (sym (o ∙ ap block_from l))
-          (of_parts p.1.0 p.1.1.0 p.1.1.1.0 p.1.1.1.1.0 p.1.1.1.1.1.0 p.1.1.1.1.1.1 (in_list (ref item) BuiltItem (names item) x2 p.1.1.0 its)
-          (behind (grammar.a k.From) (few_froms m) BuiltFroms froms_have x3 p.1.1.1.0 fs) (written_has k.Where x4 p.1.1.1.1.0 w) (group_has x5 p.1.1.1.1.1.0 gs)
-          (written_has k.Having y5 p.1.1.1.1.1.1 hs))
+      block_has =
+          of_map block_from (λ p f. of_parts p.0 p.1.0 p.1.1.0 p.1.1.1.0 p.1.1.1.1.0 p.1.1.1.1.1 f.0 f.1.0 f.1.1.0 f.1.1.1.0 f.1.1.1.1)
+          (behind (of_second (of_both (in_list (of item)) (of_both (behind froms_have) (of_both (of_optional (behind (of expr))) (of_both group_has (of_optional (behind (of expr)))))))))
         where
           columns_at : (count : ℕ) (xs : List Expr) → Each Always xs → Each (OfExpr count) xs
           columns_at count [] f = tt
@@ -291,20 +308,20 @@ module _ (literal : ℕ → ℕ → Type 0) (entries : ℕ → Type 0) where
               (fit_both (fit_each (t.all_of items) a) (fit_both f (fit_both (fit_perhaps cond c) (fit_perhaps having h))))
 
       query_has : All (few_rules m query) BuiltQuery
-      query_has ts v (u, (x, y, e, s, r), i) = subst BuiltQuery (sym i) (sets_have u.1 u.0 (names part x u.0 s) (each_of (λ zs w (x1, y1, e1, o, q). names part y1 w.1 q) u.1 y r))
+      query_has = of_map (λ p. t.sets p.0 p.1) (λ p f. sets_have p.1 p.0 f.0 f.1) (of_both (of part) (of_each (of_second (of part))))
 
       part_has : All (few_rules m part) BuiltQuery
-      part_has ts v (u, (x, y, e, s, r), i) = subst BuiltQuery (sym i) (sets_have u.1 u.0 (names operand x u.0 s) (each_of (λ zs w (x1, y1, e1, o, q). names operand y1 w.1 q) u.1 y r))
+      part_has = of_map (λ p. t.sets p.0 p.1) (λ p f. sets_have p.1 p.0 f.0 f.1) (of_both (of operand) (of_each (of_second (of operand))))
 
       operand_has : All (few_rules m operand) BuiltQuery
-      operand_has ts v (inl s) = names block ts v s
-      operand_has ts v (inr s) = in_parens (ref query) BuiltQuery (names query) ts v s
+      operand_has = of_either (of block) (in_parens (of query))
 
       item_has : All (few_rules m item) BuiltItem
       unfolding everything Everywhere
-      item_has ts v (inl (u, s, i)) = subst BuiltItem (sym i) (fit_plain (item_tree.Star u.start) (λ count. tt))
-      item_has ts v (inr (inl (u, s, i))) = subst BuiltItem (sym i) (fit_plain (item_tree.AliasStar (name_of u) u.start) (λ count. tt))
-      item_has ts v (inr (inr (u, (x, y, e, s, a), i))) = subst BuiltItem (sym i) (fit_mapped (λ z. item_tree.Value z (t.name_of_alias u.1)) (λ count z f. f) (names expr x u.0 s))
+      item_has =
+          of_either (of_map t.star_item (λ u f. fit_plain (item_tree.Star u.start) (λ count. tt)) of_any)
+          (of_either (of_map t.alias_star_item (λ u f. fit_plain (item_tree.AliasStar (name_of u) u.start) (λ count. tt)) of_any)
+          (of_map (λ p. t.value_item p.0 p.1) (λ p f. fit_mapped (λ z. item_tree.Value z (t.name_of_alias p.1)) (λ count z g. g) f) (of_first (of expr))))
 
       table_has : (table : Lexeme) (alias : Option Lexeme) → BuiltListed (t.table_entry table alias)
       unfolding everything Everywhere
@@ -313,83 +330,75 @@ module _ (literal : ℕ → ℕ → Type 0) (entries : ℕ → Type 0) where
 
       entry_has : All (few_rules m entry) BuiltListed
       unfolding everything Everywhere
-      entry_has ts v (inl (u, s, i)) = subst BuiltListed (sym i) (table_has u.0 u.1)
-      entry_has ts v (inr (u, (x, y, e, s, a), i)) = subst BuiltListed (sym i) (fit_mapped (t.listed_query u.1) (λ count z f. f) (in_parens (ref query) BuiltQuery (names query) x u.0 s))
+      entry_has =
+          of_either (of_map (λ p. t.table_entry p.0 p.1) (λ p f. table_has p.0 p.1) of_any)
+          (of_map (λ p. t.query_entry p.0 p.1) (λ p f. fit_mapped (t.listed_query p.1) (λ count z g. g) f) (of_first (in_parens (of query))))
 
       reference_has : All (few_rules m reference) Always
-      reference_has ts v (u, s, i) = subst Always (sym i) (λ count. trees.column_has (literal count) entries u)
+      reference_has = of_map t.column (λ u f count. trees.column_has (literal count) entries u) of_any
 
       -- ---- expressions
 
       expr_has : All (few_rules m expr) BuiltExpr
-      expr_has ts v (u, (x, y, e, s, r), i) =
-          subst BuiltExpr (sym i) (chained_has t.or_node or_has u (names conj x u.0 s, each_of (behind (grammar.a k.Or) (ref conj) BuiltExpr (names conj)) u.1 y r))
+      expr_has = of_map (t.chained t.or_node) (chained_has t.or_node or_has) (of_both (of conj) (of_each (behind (of conj))))
 
       conj_has : All (few_rules m conj) BuiltExpr
-      conj_has ts v (u, (x, y, e, s, r), i) =
-          subst BuiltExpr (sym i) (chained_has t.and_node and_has u (names neg x u.0 s, each_of (behind (grammar.a k.And) (ref neg) BuiltExpr (names neg)) u.1 y r))
+      conj_has = of_map (t.chained t.and_node) (chained_has t.and_node and_has) (of_both (of neg) (of_each (behind (of neg))))
 
       neg_has : All (few_rules m neg) BuiltExpr
       unfolding everything Everywhere
-      neg_has ts v (inl (u, (x, y, e, w, s), i)) = subst BuiltExpr (sym i) (fit_mapped (λ z. expr_tree.Not z u.0.start) (λ count z f. f) (names neg y u.1 s))
-      neg_has ts v (inr s) = names test ts v s
+      neg_has = of_either (of_map t.not_of (λ p f. fit_mapped (λ z. expr_tree.Not z p.0.start) (λ count z g. g) f) (of_nest (of_second (of neg)))) (of test)
 
       test_has : All (few_rules m test) BuiltExpr
       unfolding everything Everywhere
-      test_has ts v (inl (u, (x, y, e, w, s), i)) =
-          subst BuiltExpr (sym i) (fit_mapped (λ z. expr_tree.Exists z u.0.start) (λ count z f. f) (in_parens (ref query) BuiltQuery (names query) y u.1 s))
-      test_has ts v (inr (u, (x, y, e, s, r), i)) = subst BuiltExpr (sym i) (go u.0 u.1 (names value x u.0.0 s.0) (perhaps_in (ref rest) (Good rest) (names rest) y u.1 r))
+      test_has =
+          of_either (of_map t.exists (λ p f. fit_mapped (λ z. expr_tree.Exists z p.0.start) (λ count z g. g) f) (of_second (in_parens (of query))))
+          (of_map (λ p. t.tested p.0 p.1) (λ p f. go p.0 p.1 f.0 f.1) (of_both (record { has = λ ts v s. names value ts v.0 s.0 }) (of_optional (of rest))))
         where
           go : (left : Left) (r : Option (Left → Built Expr)) → BuiltExpr left.0 → Perhaps (Good rest) r → BuiltExpr (t.tested left r)
           go left None l f = l
           go left (Some r) l f = f left l
 
       rest_has : All (few_rules m rest) (Good rest)
-      rest_has ts v (inl (u, (x, y, e, w, s), i)) = subst (Good rest) (sym i) (comparison_has u.0 u.1 (names value y u.1 s))
-      rest_has ts v (inr (inl (u, (x, y, e, w, (x1, y1, e1, o, s)), i))) =
-          subst (Good rest) (sym i) (in_query_has u.0 u.1.0 u.1.1 (in_parens (ref query) BuiltQuery (names query) y1 u.1.1 s))
-      rest_has ts v (inr (inr (inl (u, (x, y, e, w, s), i)))) =
-          let members = in_parens (only t.is_no_query (listed (ref expr))) Members (λ zs z q. in_list (ref expr) BuiltExpr (names expr) zs z q.0) in
-          subst (Good rest) (sym i) (in_list_has u.0 u.1 (behind (grammar.a k.In) (parens (only t.is_no_query (listed (ref expr)))) Members members y u.1 s))
-      rest_has ts v (inr (inr (inr (inl (u, (x, y, e, w, (p, (x1, y1, e1, o, (x2, y2, e2, s, (q, (x3, y3, e3, n, r), j))), h)), i))))) =
-          subst (Good rest) (sym (i ∙ ap (λ z left. t.between u.0 z.0 z.1 left) (h ∙ ap (λ z. (p.1.0, z)) j))) (between_has u.0 p.1.0 q.1 (names value x2 p.1.0 s) (names value y3 q.1 r))
-      rest_has ts v (inr (inr (inr (inr (u, (x, y, e, w, s), i))))) =
-          subst (Good rest) (sym i) (like_has u.0 u.1 (behind (grammar.a k.Like) (ref value) BuiltExpr (names value) y u.1 s))
+      rest_has =
+          of_either (of_map (λ p left. t.comparison p.0 p.1 left) (λ p. comparison_has p.0 p.1) (of_second (of value)))
+          (of_either (of_map (λ p left. t.in_query p.0 p.1.0 p.1.1 left) (λ p. in_query_has p.0 p.1.0 p.1.1) (of_second (of_second (in_parens (of query)))))
+          (of_either (of_map (λ p left. t.in_list p.0 p.1 left) (λ p. in_list_has p.0 p.1) (of_second (behind (in_parens (of_only (in_list (of expr)))))))
+          (of_either (of_map (λ p left. t.between p.0 p.1.0 p.1.1 left) (λ p f. between_has p.0 p.1.0 p.1.1 f.0 f.1) (of_second (behind (of_both (of value) (behind (of value))))))
+          (of_map (λ p left. t.like p.0 p.1 left) (λ p. like_has p.0 p.1) (of_second (behind (of value)))))))
 
       value_has : All (few_rules m value) BuiltExpr
-      value_has ts v (u, (x, y, e, s, r), i) = subst BuiltExpr (sym i) (operated_has u.1 u.0 (names term x u.0 s) (each_of (λ zs w (x1, y1, e1, o, q). names term y1 w.1 q) u.1 y r))
+      value_has = of_map (λ p. t.operated p.0 p.1) (λ p f. operated_has p.1 p.0 f.0 f.1) (of_both (of term) (of_each (of_second (of term))))
 
       term_has : All (few_rules m term) BuiltExpr
-      term_has ts v (u, (x, y, e, s, r), i) = subst BuiltExpr (sym i) (operated_has u.1 u.0 (names unary x u.0 s) (each_of (λ zs w (x1, y1, e1, o, q). names unary y1 w.1 q) u.1 y r))
+      term_has = of_map (λ p. t.operated p.0 p.1) (λ p f. operated_has p.1 p.0 f.0 f.1) (of_both (of unary) (of_each (of_second (of unary))))
 
       unary_has : All (few_rules m unary) BuiltExpr
       unfolding everything Everywhere
-      unary_has ts v (inl (u, (x, y, e, w, s), i)) = subst BuiltExpr (sym i) (fit_mapped (λ z. expr_tree.Fun 4 (z ∷ []) u.0.start) (λ count z f. (f, tt)) (names unary y u.1 s))
-      unary_has ts v (inr s) = names primary ts v s
+      unary_has = of_either (of_map t.minus (λ p f. fit_mapped (λ z. expr_tree.Fun 4 (z ∷ []) p.0.start) (λ count z g. (g, tt)) f) (of_nest (of_second (of unary)))) (of primary)
 
       literal_has : (at : ℕ) (l : Lit) → BuiltExpr (t.literal_at at l)
       unfolding everything Everywhere
       literal_has at l = fit_mapped (λ number. expr_tree.Lit number at) below (literal_below l)
 
-      primary_has : All (few_rules m primary) BuiltExpr
+      sub_has : All grammar.subquery BuiltExpr
       unfolding everything Everywhere
-      primary_has ts v (inl (u, s, i)) = subst BuiltExpr (sym i) (literal_has u.start (t.number_of u))
-      primary_has ts v (inr (inl (u, s, i))) = subst BuiltExpr (sym i) (literal_has u.start (t.text_of u))
-      primary_has ts v (inr (inr (inl (u, s, i)))) = subst BuiltExpr (sym i) (fit_plain u (names reference ts u s))
-      primary_has ts v (inr (inr (inr (inl s)))) = names agg ts v s
-      primary_has ts v (inr (inr (inr (inr (inl (u, (x, y, e, w, s), i)))))) =
-          let args = perhaps_in (listed (ref expr)) Members (in_list (ref expr) BuiltExpr (names expr)) in
-          subst BuiltExpr (sym i) (call_has u.0 u.1 (in_parens (optional (listed (ref expr))) (Perhaps Members) args y u.1 s))
-      primary_has ts v (inr (inr (inr (inr (inr (inl s)))))) = in_parens (only t.not_sub (ref expr)) BuiltExpr (λ zs z q. names expr zs z q.0) ts v s
-      primary_has ts v (inr (inr (inr (inr (inr (inr (u, (x, y, e, w, (p, (x1, y1, e1, s, c), j)), i))))))) =
-          subst BuiltExpr (sym (i ∙ ap t.sub (ap (λ z. (u.0, z)) j))) (fit_mapped (λ z. expr_tree.Sub z u.0.start) (λ count z f. f) (names query x1 p.0 s))
+      sub_has = of_map t.sub (λ p f. fit_mapped (λ z. expr_tree.Sub z p.0.start) (λ count z g. g) f) (of_nest (of_second (of_map (λ v. v.0) (λ v h. h) (of_first (of query)))))
+
+      primary_has : All (few_rules m primary) BuiltExpr
+      primary_has =
+          of_either (of_map t.number_literal (λ u f. literal_has u.start (t.number_of u)) of_any)
+          (of_either (of_map t.text_literal (λ u f. literal_has u.start (t.text_of u)) of_any)
+          (of_either (of_map (λ x. plain x) (λ x f. fit_plain x f) (of reference))
+          (of_either (of agg)
+          (of_either (of_map (λ p. t.call p.0 p.1) (λ p. call_has p.0 p.1) (of_second (in_parens (of_optional (in_list (of expr)))))) (of_either (in_parens (of_only (of expr))) sub_has)))))
 
       agg_has : All (few_rules m agg) BuiltExpr
       unfolding everything Everywhere
-      agg_has ts v (inl (u, s, i)) = subst BuiltExpr (sym i) (fit_plain (expr_tree.Agg tree.Count false None u.0.start) (λ count. tt))
-      agg_has ts v (inr (u, (x, y, e, w, s), i)) =
-          subst BuiltExpr (sym i) (fit_mapped (λ z. expr_tree.Agg (t.aggregate (kind_of u.0)) (t.is_given u.1.0) (Some z) u.0.start) (λ count z f. f)
-          (in_parens (seq (optional (grammar.a k.Distinct)) (ref expr)) (λ p. BuiltExpr p.1) (λ zs z (x1, y1, e1, d, q). names expr y1 z.1 q) y u.1 s))
+      agg_has =
+          of_either (of_map (λ p. t.count_rows p.0) (λ p f. fit_plain (expr_tree.Agg tree.Count false None p.0.start) (λ count. tt)) of_any)
+          (of_map (λ p. t.aggregated p.0 p.1.0 p.1.1)
+          (λ p f. fit_mapped (λ z. expr_tree.Agg (t.aggregate (kind_of p.0)) (t.is_given p.1.0) (Some z) p.0.start) (λ count z g. g) f) (of_second (in_parens (of_second (of expr)))))
 
       own_has : (p : Production) → All (few_rules m p) (Good p)
       own_has query = query_has
@@ -409,11 +418,11 @@ module _ (literal : ℕ → ℕ → Type 0) (entries : ℕ → Type 0) where
       own_has unary = unary_has
       own_has primary = primary_has
       own_has agg = agg_has
-      own_has other = λ ts v s. tt
+      own_has other = of_any
 
     at_height : (h : ℕ) (p : Production) (ts : List Lexeme) (v : Read p) → (language_within kind_of (few_rules m) h None p).spells ts v → Good p v
     at_height zero p ts v s = absurd s
-    at_height (suc h) p ts v s = own_has (language_within kind_of (few_rules m) h) (at_height h) p ts v s
+    at_height (suc h) p ts v s = (own_has (language_within kind_of (few_rules m) h) (at_height h) p).has ts v s
 
     pub everywhere : (ts : List Lexeme) (read : Built Query) → (language kind_of (few_rules m) None query).spells ts read → Fits OfQuery read
     everywhere ts read s = let q = spelled_at kind_of (few_rules m) None query ts read s in at_height q.0 query ts read q.1

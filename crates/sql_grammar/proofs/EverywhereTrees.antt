@@ -1,6 +1,7 @@
 -- What holds everywhere in a tree holds in its parts, and back.
 use Rattle.std.proofs.Common.{◌≡◌, ℕ, suc, Bool, List, [], ◌∷◌, length, Option, Some, None, refl, sym, ap, subst, ◌∙◌}
 use Rattle.data_model.specs.Lists.{Each}
+use Rattle.sql_lex.specs.Lexemes.{Lexeme}
 use Rattle.sql_model.specs.declared.tree.Expr.{Expr}
 use Rattle.sql_model.specs.declared.tree.Expr.TheVariants as expr
 use Rattle.sql_model.specs.declared.tree.Expr.TheBlock as node
@@ -15,7 +16,6 @@ use Rattle.sql_grammar.specs.Kinds as k
 use Rattle.sql_grammar.specs.Kinds.{Kind}
 use Rattle.sql_grammar.specs.QueryTrees as t
 use Rattle.sql_grammar.specs.QueryTrees.{Listed}
-use Rattle.sql_lex.specs.Lexemes.{Lexeme}
 
 -- ---- lists, as trees have them in a row
 

@@ -1,6 +1,6 @@
 -- What is built with numbers, with a property at the count of the literals that have numbers behind it.
-use Rattle.std.proofs.Common.{ℕ, ◌+◌, ◌<◌, ◌≤◌, Bool, true, false, List, [], ◌∷◌, ◌++◌, length, Option, Some, None, arith}
 use Rattle.std.specs.Prelude.{if◌then◌else◌}
+use Rattle.std.proofs.Common.{ℕ, ◌+◌, ◌<◌, ◌≤◌, Bool, true, false, List, [], ◌∷◌, ◌++◌, length, Option, Some, None, arith}
 use Rattle.grammar.specs.Language.{Concatenates}
 use Rattle.data_model.specs.Lists.{Each}
 use Rattle.sql_lex.specs.Lexemes.{Lexeme}

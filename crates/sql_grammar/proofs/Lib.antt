@@ -16,6 +16,7 @@ pub mod EverywhereTrees
 pub mod Fits
 pub mod EntryCounts
 pub mod EverywhereQueries
+pub mod FewSpelled
 pub mod PlanInsides
 pub mod PlanWords
 pub mod PlanParens

@@ -1,5 +1,5 @@
-use Rattle.schema_read.proofs.FewQueries.{built_few, views_few}
-use Rattle.schema_read.proofs.FewSpelled.{built_again, views_again}
+use Rattle.sql_grammar.proofs.FewSpelled.{built_again}
+use Rattle.schema_read.proofs.FewStatements.{built_few, views_again, views_few}
 use Rattle.schema_read.proofs.statement_laws.few_in_each_block.Goals as goal
 
 pub returns-clause-queries : goal.returns-clause-queries
