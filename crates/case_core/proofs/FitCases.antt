@@ -14,7 +14,7 @@ use Rattle.sql_model.specs.Compute.{everything}
 use Rattle.sql_model.specs.Everywhere.{Anything, Everywhere, InItem}
 use Rattle.sql_grammar.specs.Numbering.{Built, Numbers, first_numbers}
 use Rattle.sql_grammar.specs.Queries.{of_form, of_production, queries}
-use Rattle.sql_grammar.specs.QueryGrammar.{query}
+use Rattle.sql_grammar.specs.QueryGrammar as grammar
 use Rattle.sql_grammar.proofs.EntryTexts.{few_spell}
 use Rattle.sql_grammar.proofs.EverywhereQueries.{everywhere}
 use Rattle.sql_grammar.proofs.EverywhereTrees.{block_has}
@@ -38,7 +38,7 @@ use Rattle.case_core.specs.Answer.{HasSchema}
 -- with as many entries as its text has tokens, each query is spelled
 query_fits : (ts : List Lexeme) (read : Built Query) → queries.spells ts read → Fits QueryFits read
 query_fits ts read s =
-    everywhere (λ count number. number < count) Anything (length ts) (λ count number below. below) (λ number few. tt) ts read (few_spell (length ts) query ts read (omega arith) s)
+    everywhere (λ count number. number < count) Anything (length ts) (λ count number below. below) (λ number few. tt) ts read (few_spell (length ts) grammar.query ts read (omega arith) s)
 
 ended_query_fits : (ts : List Lexeme) (v : Built Query) → (of_form None g.ended_query).spells ts v → Fits QueryFits v
 ended_query_fits ts v (p, (x, y, e, s, end), i) = subst (Fits QueryFits) (sym i) (query_fits x p.0 s)

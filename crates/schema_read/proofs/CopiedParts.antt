@@ -10,7 +10,7 @@ use Rattle.grammar.proofs.Forms.{includes_through}
 use Rattle.sql_lex.specs.Lexemes.{Lexeme}
 use Rattle.sql_read.specs.declared.fault.LimitKind.TheVariants as limit
 use Rattle.sql_read.specs.declared.fault.ReadFault.{ReadFault}
-use Rattle.sql_read.specs.declared.fault.ReadFault.TheVariants.{Lex, Unexpected, LeftOut, TooDeep, Limit, NoMemory}
+use Rattle.sql_read.specs.declared.fault.ReadFault.TheVariants.{Limit, NoMemory}
 use Rattle.sql_read.specs.Copied as of_query
 use Rattle.sql_read.specs.Copied.{CopiesTooMuch}
 use Rattle.sql_read.specs.Cursor.{Cursor}
@@ -52,15 +52,9 @@ going_through {h = h} l m = record { goes = record { reaches = λ v rest r. m.go
 module _ {A Y : Type 0} {N : The A} {whole : A → Built Y} {start first after : Cursor} where
   -- where the fault tells where it comes
   pub told_if : (fault : ReadFault) → fault ≢ Limit limit.Copies → (IsPlaced fault → CopiesCounted N whole start first after) → CopiedToFault N whole start first fault after
-  told_if (Lex fault) n s = record { says = s tt }
-  told_if (Unexpected at) n s = record { says = s tt }
-  told_if (LeftOut word at) n s = record { says = s tt }
-  told_if (TooDeep at) n s = record { says = s tt }
-  told_if (Limit limit.Columns) n s = record { says = s tt }
   told_if (Limit limit.Copies) n s = absurd (n refl)
-  told_if (Limit limit.Entries) n s = record { says = s tt }
-  told_if (Limit limit.Relations) n s = record { says = s tt }
   told_if NoMemory n s = record { says = tt }
+  told_if other n s = record { says = s tt }
 
   pub copied_exit : {D : Type 0} {fault : ReadFault} {result : Result D ReadFault} → IsErrAnd result (λ y. y ≡ fault) → CopiedToFault N whole start first fault after → Copied N whole start first result after
   copied_exit {result = result} i t =
@@ -119,15 +113,9 @@ module _ {A Y : Type 0} {N : The A} {whole : A → Built Y} {start first after :
         }
 
         by : (fault : ReadFault) → Says f part began before fault after → Says N whole start first fault after
-        by (Lex fault) s = counted s
-        by (Unexpected at) s = counted s
-        by (LeftOut word at) s = counted s
-        by (TooDeep at) s = counted s
         by (Limit limit.Copies) s = too_much s
-        by (Limit limit.Entries) s = counted s
-        by (Limit limit.Columns) s = counted s
-        by (Limit limit.Relations) s = counted s
         by NoMemory s = tt
+        by other s = counted s
 
     pub copied_in : {X D : Type 0} {part : C → Built X} {began before : Cursor} (result : Result D ReadFault) → Going f before.tokens N first.tokens h → SamePrice start (λ v. whole (h v)) began part
         → Copied f part began before result after → Copied N whole start first result after
@@ -141,15 +129,11 @@ module _ {here after : Cursor} where
   counted_in_query r = record { value = r.value; up_to = r.up_to; count = omega (arith, r.count) }
 
   pub query_copied : (fault : ReadFault) → of_query.CopiedToFault (ref query) (λ read. read) here here fault after → CopiedToFault (ref query) (λ read. read) here here fault after
-  query_copied (Lex fault) s = record { says = counted_in_query s.says }
-  query_copied (Unexpected at) s = record { says = counted_in_query s.says }
-  query_copied (LeftOut word at) s = record { says = counted_in_query s.says }
-  query_copied (TooDeep at) s = record { says = counted_in_query s.says }
   query_copied (Limit limit.Copies) s = record { says = s.says }
-  query_copied (Limit limit.Entries) s = record { says = counted_in_query s.says }
   query_copied (Limit limit.Columns) s = absurd s.says
   query_copied (Limit limit.Relations) s = absurd s.says
   query_copied NoMemory s = record { says = tt }
+  query_copied other s = record { says = counted_in_query s.says }
 
 -- ---- the limit
 

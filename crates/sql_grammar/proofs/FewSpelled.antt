@@ -1,5 +1,5 @@
 -- A query whose blocks have few entries is spelled with few, wherever it is spelled.
-use Rattle.std.proofs.Common.{◌≡◌, ℕ, zero, suc, ◌+◌, ◌*◌, ◌≤◌, Bool, true, false, List, [], ◌∷◌, ◌++◌, length, Option, Some, None, inl, inr, sym, ◌∙◌, ap, subst, arith}
+use Rattle.std.proofs.Common.{◌≡◌, ℕ, zero, suc, ◌*◌, ◌≤◌, Bool, true, false, List, [], ◌∷◌, ◌++◌, length, Option, Some, None, inl, inr, sym, ◌∙◌, ap, subst, arith}
 use Rattle.grammar.specs.Form.{Room, form_language, language_within, language, alt, counted, map, nest, only, ref, seq, star}
 use Rattle.grammar.specs.Language.{Concatenates, Language}
 use Rattle.grammar.specs.Productions.{skip_then, optional}

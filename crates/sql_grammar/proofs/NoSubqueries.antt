@@ -14,10 +14,6 @@ use Rattle.sql_grammar.specs.QueryTrees.{Left, not_sub, is_sub}
 compared_is : (kind : Kind) (x y : Expr) → is_sub (t.compared kind x y) ≡ false
 unfolding everything
 compared_is k.Equals x y = refl
-compared_is k.Differs x y = refl
-compared_is k.Less x y = refl
-compared_is k.AtMost x y = refl
-compared_is k.Greater x y = refl
 compared_is other x y = refl
 
 abbrev step : Built Expr → Lexeme × Built Expr → Built Expr

@@ -11,7 +11,7 @@ use Rattle.sql_grammar.specs.Kinds.{kind_of}
 use Rattle.sql_grammar.specs.Numbering.{Built}
 use Rattle.sql_grammar.specs.QueryTrees as t
 use Rattle.sql_grammar.specs.QueryTrees.{Left, Enclosed, Inside, not_sub}
-use Rattle.sql_grammar.specs.QueryGrammar.{Production, The, in_parentheses, insides, minus, rules_with, query, item, reference, expr, rest, value, unary, primary, agg, expr_tail, inner, in_inner}
+use Rattle.sql_grammar.specs.QueryGrammar.{Production, The, in_parentheses, insides, minus, rules_with, query, item, reference, expr, rest, unary, primary, agg, expr_tail, inner, in_inner}
 use Rattle.sql_grammar.specs.QueryPlan.{plan_with, sort, after_query, after_expression, plan_of_insides, no_parenthesis, going_on, going_on_by_and, enclosed_first, literal, named_first}
 use Rattle.sql_grammar.proofs.QuerySplits.{is_kept}
 use Rattle.sql_grammar.proofs.QuerySplits as split
