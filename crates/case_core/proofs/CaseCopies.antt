@@ -1,12 +1,16 @@
 -- What a case copies is what its statements and its two queries copy, and where it passes the limit.
 use Rattle.std.proofs.Common.{◌≡◌, ◌≤◌, ◌+◌, ℕ, List, ◌++◌, refl, ap, arith}
 use Rattle.grammar.specs.Form.{ref}
-use Rattle.grammar.proofs.Limits.{CostsByCompletion, kept_within_cost, whole_within_cost}
+use Rattle.grammar.specs.Reading.{Stops}
+use Rattle.grammar.proofs.Limits.{CostsByCompletion, IsPrefixClosed, whole_within_cost, within_cost_closed}
 use Rattle.sql_lex.specs.Lexemes.{Lexeme}
 use Rattle.sql_model.specs.declared.statement.Statement.{Statement}
 use Rattle.sql_model.specs.declared.tree.Query.{Query}
 use Rattle.sql_read.specs.declared.fault.ReadFault.{ReadFault}
+use Rattle.sql_read.specs.declared.fault.LimitKind.{LimitKind}
+use Rattle.sql_read.specs.declared.fault.LimitKind.TheVariants as limit
 use Rattle.sql_read.specs.Cursor.{Cursor}
+use Rattle.sql_read.specs.ReadingTexts.{TextLimit, count_limit, depth_limit, keeping}
 use Rattle.sql_read.specs.Reads.{Gives}
 use Rattle.sql_read.proofs.ReadCopiedSteps.{on_still}
 use Rattle.sql_read.proofs.ReadCopies.{Going, at_start, on_first, on_mapped, on_taken}
@@ -22,12 +26,14 @@ use Rattle.sql_grammar.proofs.QueryFillings.{Filled, select_one}
 use Rattle.grammar.proofs.Prices.{priced_then_skip}
 use Rattle.schema_read.specs.CopiedStatements.{CopiedToFault, CopiesCounted}
 use Rattle.schema_read.specs.StatementGrammar.{statements}
-use Rattle.schema_read.proofs.CopiedParts.{copied_to, counted_before, counted_within}
+use Rattle.schema_read.proofs.CopiedParts.{copied_to, counted_before}
 use Rattle.schema_read.proofs.StatementCopies.{free, statements_even}
 use Rattle.case_core.specs.declared.text.CaseText.{CaseText}
 use Rattle.case_core.specs.CaseGrammar as g
-use Rattle.case_core.specs.Cases.{CopiesFew, cases}
-use Rattle.case_core.proofs.CaseCounts.{ReadsQuery, StatementsRead}
+use Rattle.case_core.specs.Cases.{cases, shallow_cases, texts, within}
+use Rattle.case_core.specs.Refusals.{KeepsLimits}
+use Rattle.case_core.proofs.CaseCounts.{ReadsQuery, StatementsRead, within_fronts}
+use Rattle.case_core.proofs.CaseFronts.{kept_to, shallow_fronts}
 
 -- ---- cases as forms
 
@@ -48,9 +54,6 @@ case_even = evenly.of_map g.case_of (λ read. read.copies) (evenly.of_seq statem
 pub case_costs : CostsByCompletion copies_nothing cases (λ read. read.copies)
 case_costs = form_costs g.case refl (λ read. read.copies) case_even refl
 
-pub few_copies : (copied : ℕ) (ts : List Lexeme) → (within_copies copied cases).front ts → CopiesFew copied ts
-few_copies = kept_within_cost case_costs most_copies
-
 -- a whole case
 pub whole_few : (copied : ℕ) (ts : List Lexeme) (read : Built CaseText) → cases.spells ts read → copied + read.copies ≤ most_copies → (within_copies copied cases).front ts
 whole_few copied ts read s l = whole_within_cost case_costs most_copies copied ts read (s, l)
@@ -62,8 +65,34 @@ CopiedAll before fault after = CopiedToFault g.case (λ read. read) before befor
 abbrev pub Counted : Cursor → Cursor → Type 0
 Counted before after = CopiesCounted g.case (λ read. read) before before after
 
-pub counted_few : {before after : Cursor} → Counted before after → after.copies ≤ most_copies → (taken : List Lexeme) → before.tokens ≡ taken ++ after.tokens → CopiesFew before.copies taken
-counted_few {before} {after} r most taken e = few_copies before.copies taken (counted_within r most taken e)
+-- ---- all limits
+
+pub closed : (copied : ℕ) (which : TextLimit) → IsPrefixClosed (keeping texts copied which)
+closed copied depth_limit = shallow_fronts.shorter
+closed copied (count_limit limit.Columns) = (within_fronts limit.Columns).shorter
+closed copied (count_limit limit.Entries) = (within_fronts limit.Entries).shorter
+closed copied (count_limit limit.Relations) = (within_fronts limit.Relations).shorter
+closed copied (count_limit limit.Copies) = within_cost_closed case_costs most_copies copied
+
+-- what is spelled within a limit is a front within it
+pub spelled_front : (copied : ℕ) (which : TextLimit) (ts : List Lexeme) (read : Built CaseText) → (keeping texts copied which).spells ts read → (keeping texts copied which).front ts
+spelled_front copied depth_limit ts read s = shallow_fronts.spelled ts read s
+spelled_front copied (count_limit limit.Columns) ts read s = (within_fronts limit.Columns).spelled ts read s
+spelled_front copied (count_limit limit.Entries) ts read s = (within_fronts limit.Entries).spelled ts read s
+spelled_front copied (count_limit limit.Relations) ts read s = (within_fronts limit.Relations).spelled ts read s
+spelled_front copied (count_limit limit.Copies) ts read s = whole_within_cost case_costs most_copies copied ts read s
+
+-- what was taken keeps them, and goes on with nothing
+pub keeps_limits : (copied : ℕ) {ts : List Lexeme} (taken rest : List Lexeme) → ts ≡ taken ++ rest → shallow_cases.front taken → ((what : LimitKind) → (within what).front taken) → (within_copies copied cases).front taken
+    → Stops cases taken rest → KeepsLimits copied ts
+keeps_limits copied {ts} taken rest e shallow few copies s which = kept_to (keeping texts copied which) (closed copied which) ts taken rest e (front which) s
+  where
+    front : (which : TextLimit) → (keeping texts copied which).front taken
+    front depth_limit = shallow
+    front (count_limit limit.Columns) = few limit.Columns
+    front (count_limit limit.Entries) = few limit.Entries
+    front (count_limit limit.Relations) = few limit.Relations
+    front (count_limit limit.Copies) = copies
 
 -- ---- one query
 

@@ -2,7 +2,7 @@
 use Rattle.std.proofs.Common.{◌≡◌, List, ◌++◌, None, refl, subst}
 use Rattle.grammar.specs.Language.{HasFronts, Includes, Language, map_language, seq_language}
 use Rattle.grammar.specs.Form.{seq}
-use Rattle.grammar.specs.Reading.{Began, Stops, Took}
+use Rattle.grammar.specs.Reading.{Began, Took}
 use Rattle.grammar.proofs.Begun.{nothing_began}
 use Rattle.grammar.proofs.Forms.{includes_through}
 use Rattle.grammar.proofs.Fronts.{map_fronts, seq_fronts}
@@ -27,7 +27,7 @@ use Rattle.schema_read.specs.StatementGrammar.{elements, ended_with, statements,
 use Rattle.schema_read.specs.StatementLimits as of_statements
 use Rattle.schema_read.specs.StatementLimits.{most_further_columns, most_relations}
 use Rattle.schema_read.proofs.CountSteps.{Holds, Rest, RestOf, below_within, free, held, holds, part_refused, rest_first, rest_second, same_read, statement_refused, took_free}
-use Rattle.schema_read.proofs.StatedCounts.{few_within}
+use Rattle.schema_read.proofs.StatementsAgree.{few_within}
 use Rattle.schema_read.proofs.StatementFronts.{few_statement_fronts, narrow_below}
 use Rattle.sql_grammar.proofs.QueryForms.{form_has_fronts, known_includes, planned_includes}
 use Rattle.schema_read.proofs.Telling.{refused_more, with_columns}
@@ -35,8 +35,8 @@ use Rattle.schema_read.proofs.Unlimited.{itself}
 use Rattle.schema_read.proofs.WholeStatements.{few_back, few_included, few_there}
 use Rattle.case_core.specs.declared.text.CaseText.{CaseText}
 use Rattle.case_core.specs.CaseGrammar as g
-use Rattle.case_core.specs.Cases.{KeepsCounts, cases, cases_behind, within}
-use Rattle.case_core.proofs.CaseFronts.{few_fronts, kept_to}
+use Rattle.case_core.specs.Cases.{cases, cases_behind, within}
+use Rattle.case_core.proofs.CaseFronts.{few_fronts}
 
 -- ---- the languages of the plan
 
@@ -210,6 +210,3 @@ module _ {a b : Cursor} {list : List Statement} (s : StatementsRead a list b) wh
 pub few_before : {ts rest : List Lexeme} → KeepsAll ts rest → (taken : List Lexeme) → ts ≡ taken ++ rest → (what : LimitKind) → (within what).front taken
 few_before {ts} {rest} k taken e what =
     let u = k what in subst (λ z. (within what).front z) (same_taken ts rest u.taken taken u.whole e) ((within_same what).there.front u.taken u.begun)
-
-pub keeps_counts : {ts rest : List Lexeme} → KeepsAll ts rest → (taken : List Lexeme) → ts ≡ taken ++ rest → Stops cases taken rest → KeepsCounts ts
-keeps_counts {ts} {rest} k taken e s what = kept_to (within what) (within_fronts what).shorter ts taken rest e (few_before k taken e what) s

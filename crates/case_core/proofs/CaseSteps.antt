@@ -4,7 +4,6 @@ use Rattle.std.proofs.lemmas.Bool.{false≢true}
 use Rattle.std.proofs.lemmas.List.{append-nil}
 use Rattle.grammar.specs.Reading.{Stops, Took}
 use Rattle.grammar.proofs.Begun.{nothing_began}
-use Rattle.grammar.proofs.Limits.{within_cost_closed}
 use Rattle.grammar.proofs.Longest.{stops_at_longest}
 use Rattle.sql_lex.specs.Lexemes.{Lexeme}
 use Rattle.sql_model.specs.declared.statement.Statement.{Statement}
@@ -21,7 +20,9 @@ use Rattle.sql_grammar.specs.QueryGrammar.{The}
 use Rattle.sql_read.specs.Reads.{Refuses, few_form, relations_too}
 use Rattle.sql_read.specs.Refusals.{refusal}
 use Rattle.sql_read.proofs.Extending.{◌⨟◌}
-use Rattle.sql_read.proofs.ReadSteps.{LeftOf, blocks, built_both, built_map, entries_within, first_part, mapped as mapped_left, refuses, second, takes, whole}
+use Rattle.sql_read.proofs.WholeTexts.{refusal_here}
+use Rattle.schema_read.proofs.CopiedParts.{counted_within}
+use Rattle.sql_read.proofs.ReadSteps.{LeftOf, blocks, built_both, built_map, entries_within, first_part, mapped as mapped_left, refuses, second, takes, whole, same_taken}
 use Rattle.schema_read.specs.CopiedStatements.{CopiedToFault}
 use Rattle.schema_read.specs.StatementGrammar.{statements}
 use Rattle.sql_grammar.proofs.QueryForms.{form_has_fronts, roomier}
@@ -30,14 +31,14 @@ use Rattle.case_core.specs.declared.fault.CaseFault.{CaseFault}
 use Rattle.case_core.specs.declared.fault.CaseFault.TheVariants.{Read, Schema, Scope, QueriesDiffer, NotTwoQueries, NoMemory}
 use Rattle.case_core.specs.declared.text.CaseText.{CaseText}
 use Rattle.case_core.specs.CaseGrammar as g
-use Rattle.case_core.specs.Cases.{IsShallow, KeepsCounts, cases, shallow_cases, within}
+use Rattle.case_core.specs.Cases.{cases, shallow_cases, within}
 use Rattle.case_core.specs.ReadingCases.{IsEnded, IsMore, IsNoEnd, IsTrailing, RefusesCase, TakesCase}
-use Rattle.case_core.specs.Refusals.{GoesOnBehind, Says}
+use Rattle.case_core.specs.Refusals.{GoesOnBehind, Says, KeepsLimits}
 use Rattle.case_core.specs.Wrapping.{of_read}
-use Rattle.case_core.proofs.CaseCopies.{CopiedAll, behind_first, behind_statements, case_costs, counted_few, few_copies, first_copied, second_copied, whole_few}
-use Rattle.case_core.proofs.CaseCounts.{CountsRefused, ReadsQuery, StatementsRead, first_counted, keeps_behind, keeps_behind_first, keeps_counts, second_counted, taken_within, within_fronts}
-use Rattle.case_core.proofs.CaseFronts.{fronts, kept_to, shallow_fronts, shallow_included, third_there}
-use Rattle.case_core.proofs.Outcomes.{Behind, RefusesAll, TakesAll, more_behind, not_two_excluded, refusal_here, refused, says_next, took}
+use Rattle.case_core.proofs.CaseCopies.{CopiedAll, behind_first, behind_statements, first_copied, second_copied, whole_few, keeps_limits}
+use Rattle.case_core.proofs.CaseCounts.{CountsRefused, ReadsQuery, StatementsRead, first_counted, keeps_behind, keeps_behind_first, second_counted, taken_within, within_fronts, few_before}
+use Rattle.case_core.proofs.CaseFronts.{fronts, shallow_fronts, shallow_included, third_there}
+use Rattle.case_core.proofs.Outcomes.{Behind, RefusesAll, TakesAll, more_behind, not_two_excluded, refused, says_next, took}
 
 behind : {V : Type 0} {part : The V} {before here : Cursor} {value : V} → TakesAll part before.tokens value here.tokens → Extends before here → IsMore here → Behind part before
 behind {here = here} {value = value} t x more = record { value = value; here = here; takes = t; fault = x.fault; more = more }
@@ -75,9 +76,7 @@ module _ {a b : Cursor} {list : List Statement} (s : StatementsRead a list b) (x
               place = e;
             },
           );
-          shallow = kept_to shallow_cases shallow_fronts.shorter a.tokens t.taken [] (all ∙ sym (append-nil t.taken)) begun tt;
-          few = keeps_counts (keeps_behind s entries) t.taken t.whole (stops_at_end t.taken b.tokens n.tokens);
-          few_copies = counted_few (behind_statements s) most a.tokens (sym (append-nil a.tokens) ∙ ap (λ z. a.tokens ++ z) (sym n.tokens));
+          kept = keeps_limits a.copies t.taken b.tokens t.whole begun (few_before (keeps_behind s entries) t.taken t.whole) (counted_within (behind_statements s) most t.taken t.whole) (stops_at_end t.taken b.tokens n.tokens);
         };
   }
 
@@ -116,9 +115,7 @@ module _ {a b c : Cursor} {list : List Statement} {left : Query} (s : Statements
                 place = e;
               },
             ));
-            shallow = kept_to shallow_cases shallow_fronts.shorter a.tokens t.taken [] (all ∙ sym (append-nil t.taken)) begun tt;
-            few = keeps_counts (keeps_behind_first s p entries) t.taken t.whole (stops_at_end t.taken c.tokens n.tokens);
-            few_copies = counted_few (behind_first s p) most a.tokens (sym (append-nil a.tokens) ∙ ap (λ z. a.tokens ++ z) (sym n.tokens));
+            kept = keeps_limits a.copies t.taken c.tokens t.whole begun (few_before (keeps_behind_first s p entries) t.taken t.whole) (counted_within (behind_first s p) most t.taken t.whole) (stops_at_end t.taken c.tokens n.tokens);
           };
     }
 
@@ -152,12 +149,11 @@ module _ {a b c d : Cursor} {list : List Statement} {left right : Query} (s : St
   case_few : d.copies ≤ most_copies → (within_copies a.copies cases).front taken
   case_few most = whole_few a.copies taken value spelled (omega (arith, most, s.reads.builds.copies, p.builds.copies, q.builds.copies))
 
-  is_shallow : IsShallow a.tokens
-  is_shallow = kept_to shallow_cases shallow_fronts.shorter a.tokens taken d.tokens the_case.whole (shallow_fronts.spelled taken value the_case.spelled) the_case.stops
+  few_spelled : (what : LimitKind) → (within what).spells taken value
+  few_spelled what = let t = the_few what in subst (λ z. (within what).spells z value) (same_taken a.tokens d.tokens t.taken taken t.whole the_case.whole) t.spelled
 
-  is_counted : KeepsCounts a.tokens
-  is_counted what =
-      let f = within_fronts what in let t = the_few what in kept_to (within what) f.shorter a.tokens t.taken d.tokens t.whole (f.spelled t.taken value t.spelled) t.stops
+  is_limited : d.copies ≤ most_copies → KeepsLimits a.copies a.tokens
+  is_limited most = keeps_limits a.copies taken d.tokens the_case.whole (shallow_fronts.spelled taken value the_case.spelled) (λ what. (within_fronts what).spelled taken value (few_spelled what)) (case_few most) the_case.stops
 
   module _ (x : Extends a b) (y : Extends b c) (z : Extends c d) where
     pub all_read : IsEnded d → TakesCase a (record { statements = list; left = left; right = right }) d
@@ -168,8 +164,8 @@ module _ {a b c d : Cursor} {list : List Statement} {left right : Query} (s : St
           last = sym ((x ⨟ y) ⨟ z).fault ∙ n.fault;
           value = value;
           spelled = subst (λ u. cases.spells u value) (sym all) spelled;
-          shallow = is_shallow;
-          few = λ what. let t = the_few what in subst (λ u. (within what).spells u value) (sym (all_taken a.tokens t.taken d.tokens t.whole n.tokens)) t.spelled;
+          shallow = subst (λ u. shallow_cases.spells u value) (sym all) the_case.spelled;
+          few = λ what. subst (λ u. (within what).spells u value) (sym all) (few_spelled what);
           built = builds.numbers;
           copied = builds.copies;
         }
@@ -184,9 +180,7 @@ module _ {a b c d : Cursor} {list : List Statement} {left right : Query} (s : St
           leading = stops_at_longest cases fronts a.tokens taken d.tokens the_case.whole (fronts.spelled taken value spelled) the_case.stops;
           unspelled = more_behind (behind case_taken whole_way t.more);
           not_counted = not_two_excluded a (more_behind (behind s.reads.takes x first_more)) (more_behind (behind (one_taken s p) (x ⨟ y) second_more)) (λ at third. no_third third);
-          shallow = is_shallow;
-          few = is_counted;
-          few_copies = few_copies a.copies taken (case_few most);
+          kept = is_limited most;
           refusal = refl;
         }))
       where
@@ -215,9 +209,7 @@ module _ {a b c d : Cursor} {list : List Statement} {left right : Query} (s : St
     says_no_end first_more second_more (QueriesDiffer one other) n most = n
     says_no_end first_more second_more (NotTwoQueries count at) n most = record {
       counted = inr (inr (n.0, third_behind at d.tokens refl n.1.begins n.1.place));
-      shallow = is_shallow;
-      few = is_counted;
-      few_copies = kept_to (within_copies a.copies cases) (within_cost_closed case_costs most_copies a.copies) a.tokens taken d.tokens the_case.whole (case_few most) the_case.stops;
+      kept = is_limited most;
     }
     says_no_end first_more second_more NoMemory n most = tt
 

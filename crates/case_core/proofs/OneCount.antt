@@ -3,7 +3,7 @@ use Rattle.std.proofs.Common.{◌≡◌, ℕ, List, [], ◌∷◌, ◌++◌, ◌
 use Rattle.std.proofs.lemmas.List.{append-nil}
 use Rattle.grammar.specs.Language.{HasFronts, Includes, Language, map_language, seq_language}
 use Rattle.grammar.specs.Lookahead.{lookahead}
-use Rattle.grammar.specs.Limits.{KeepsWithin}
+use Rattle.grammar.specs.Limits.{IsFirstBeyond, KeepsWithin}
 use Rattle.grammar.proofs.Limits.{kept}
 use Rattle.grammar.proofs.Cut.{Cut, longer, same, shorter, cut, nil_right}
 use Rattle.grammar.proofs.Forms.{includes_itself}
@@ -15,6 +15,7 @@ use Rattle.sql_model.specs.declared.statement.Statement.{Statement}
 use Rattle.sql_model.specs.declared.tree.Query.{Query}
 use Rattle.sql_read.specs.declared.fault.LimitKind.{LimitKind}
 use Rattle.sql_read.specs.declared.fault.LimitKind.TheVariants as limit
+use Rattle.sql_read.specs.ReadingTexts.{IsSooner, Passes, TextLimit, count_limit, depth_limit, keeping}
 use Rattle.sql_grammar.specs.Kinds.{every_kind, kind_of}
 use Rattle.sql_grammar.specs.Numbering.{Built}
 use Rattle.sql_grammar.specs.QueryEntries.{most_further}
@@ -31,9 +32,8 @@ use Rattle.schema_read.proofs.Unlimited.{gl}
 use Rattle.schema_read.proofs.WholeStatements.{few_grammar}
 use Rattle.case_core.specs.declared.text.CaseText.{CaseText}
 use Rattle.case_core.specs.CaseGrammar as g
-use Rattle.case_core.specs.Cases.{IsOneTooMany, cases, within}
-use Rattle.case_core.specs.Refusals.{PassesCount}
-use Rattle.case_core.proofs.CaseCounts.{within_fronts}
+use Rattle.case_core.specs.Cases.{cases, texts, within}
+use Rattle.case_core.proofs.CaseCopies.{closed}
 use Rattle.case_core.proofs.LimitsOnce.{Order, before, behind, one, order}
 
 abbrev Queries : Type 1
@@ -121,41 +121,57 @@ relations_entries =
 -- ---- one token
 
 -- the token passes one limit at most
-not_both : (what other : LimitKind) → Within what other → (x : List Lexeme) (t : Lexeme) → IsOneTooMany what x t → IsOneTooMany other x t → ⊥
+not_both : (what other : LimitKind) → Within what other → (x : List Lexeme) (t : Lexeme) → IsFirstBeyond cases (within what) x t → IsFirstBeyond cases (within other) x t → ⊥
 not_both what other w x t a b = by (w x t a.goes_on a.within b.within)
   where
     by : (within what).front (x ++ t ∷ []) ⊎ (within other).front (x ++ t ∷ []) → ⊥
     by (inl f) = a.beyond f
     by (inr f) = b.beyond f
 
-no_copies : (x : List Lexeme) (t : Lexeme) → IsOneTooMany limit.Copies x t → ⊥
-no_copies x t a = a.beyond a.goes_on
+module _ (copied : ℕ) (x : List Lexeme) (t : Lexeme) where
+  -- the limits that are told sooner are kept with it
+  abbrev IsTold : TextLimit → Type 0
+  IsTold which = (sooner : TextLimit) → IsSooner sooner which → (keeping texts copied sooner).front (x ++ t ∷ [])
 
-pub one_at : (what other : LimitKind) (x : List Lexeme) (t : Lexeme) → IsOneTooMany what x t → IsOneTooMany other x t → what ≡ other
-one_at limit.Columns limit.Columns x t a b = refl
-one_at limit.Columns limit.Entries x t a b = absurd (not_both limit.Columns limit.Entries columns_entries x t a b)
-one_at limit.Columns limit.Relations x t a b = absurd (not_both limit.Relations limit.Columns relations_columns x t b a)
-one_at limit.Columns limit.Copies x t a b = absurd (no_copies x t b)
-one_at limit.Entries limit.Columns x t a b = absurd (not_both limit.Columns limit.Entries columns_entries x t b a)
-one_at limit.Entries limit.Entries x t a b = refl
-one_at limit.Entries limit.Relations x t a b = absurd (not_both limit.Relations limit.Entries relations_entries x t b a)
-one_at limit.Entries limit.Copies x t a b = absurd (no_copies x t b)
-one_at limit.Relations limit.Columns x t a b = absurd (not_both limit.Relations limit.Columns relations_columns x t a b)
-one_at limit.Relations limit.Entries x t a b = absurd (not_both limit.Relations limit.Entries relations_entries x t a b)
-one_at limit.Relations limit.Relations x t a b = refl
-one_at limit.Relations limit.Copies x t a b = absurd (no_copies x t b)
-one_at limit.Copies other x t a b = absurd (no_copies x t a)
+  abbrev IsBeyond : TextLimit → Type 0
+  IsBeyond which = IsFirstBeyond cases (keeping texts copied which) x t
+
+  one_count : (what other : LimitKind) → IsBeyond (count_limit what) → IsBeyond (count_limit other) → IsTold (count_limit what) → IsTold (count_limit other) → what ≡ other
+  one_count limit.Columns limit.Columns a b s r = refl
+  one_count limit.Columns limit.Entries a b s r = absurd (not_both limit.Columns limit.Entries columns_entries x t a b)
+  one_count limit.Columns limit.Relations a b s r = absurd (not_both limit.Relations limit.Columns relations_columns x t b a)
+  one_count limit.Entries limit.Columns a b s r = absurd (not_both limit.Columns limit.Entries columns_entries x t b a)
+  one_count limit.Entries limit.Entries a b s r = refl
+  one_count limit.Entries limit.Relations a b s r = absurd (not_both limit.Relations limit.Entries relations_entries x t b a)
+  one_count limit.Relations limit.Columns a b s r = absurd (not_both limit.Relations limit.Columns relations_columns x t a b)
+  one_count limit.Relations limit.Entries a b s r = absurd (not_both limit.Relations limit.Entries relations_entries x t a b)
+  one_count limit.Relations limit.Relations a b s r = refl
+  one_count limit.Columns limit.Copies a b s r = absurd (a.beyond (r (count_limit limit.Columns) tt))
+  one_count limit.Entries limit.Copies a b s r = absurd (a.beyond (r (count_limit limit.Entries) tt))
+  one_count limit.Relations limit.Copies a b s r = absurd (a.beyond (r (count_limit limit.Relations) tt))
+  one_count limit.Copies limit.Columns a b s r = absurd (b.beyond (s (count_limit limit.Columns) tt))
+  one_count limit.Copies limit.Entries a b s r = absurd (b.beyond (s (count_limit limit.Entries) tt))
+  one_count limit.Copies limit.Relations a b s r = absurd (b.beyond (s (count_limit limit.Relations) tt))
+  one_count limit.Copies limit.Copies a b s r = refl
+
+  one_at : (which other : TextLimit) → IsBeyond which → IsBeyond other → IsTold which → IsTold other → which ≡ other
+  one_at depth_limit depth_limit a b s r = refl
+  one_at depth_limit (count_limit what) a b s r = absurd (a.beyond (r depth_limit tt))
+  one_at (count_limit what) depth_limit a b s r = absurd (b.beyond (s depth_limit tt))
+  one_at (count_limit what) (count_limit other) a b s r = ap (λ z. count_limit z) (one_count what other a b s r)
 
 -- ---- one text
 
--- before the token that passes one limit none passes another
-not_before : (what : LimitKind) (x : List Lexeme) → (within what).front x → KeepsWithin cases (within what) x
-not_before what = kept cases (within what) (within_fronts what).shorter
-
-pub one_count : (copied : ℕ) (tokens : List Lexeme) (what other : LimitKind) → PassesCount copied tokens what → PassesCount copied tokens other → what ≡ other
-one_count copied tokens what other a b = go (order tokens a.taken b.taken a.rest b.rest a.token b.token a.parts b.parts)
+-- Before the token that passes one limit none passes another.
+pub one_limit : (copied : ℕ) (tokens : List Lexeme) (which other : TextLimit) → Passes texts copied tokens which → Passes texts copied tokens other → which ≡ other
+one_limit copied tokens which other a b = go (order tokens a.taken b.taken a.rest b.rest a.token b.token a.parts b.parts)
   where
-    go : Order a.taken b.taken a.token b.token → what ≡ other
-    go (before k e) = absurd (not_before what b.taken (b.few what) a.taken k a.token e a.too_many)
-    go (one e f) = one_at what other b.taken b.token (subst (λ z. IsOneTooMany what z b.token) e (subst (λ z. IsOneTooMany what a.taken z) f a.too_many)) b.too_many
-    go (behind k e) = absurd (not_before other a.taken (a.few other) b.taken k b.token e b.too_many)
+    not_before : (limit : TextLimit) (x : List Lexeme) → (keeping texts copied limit).front x → KeepsWithin cases (keeping texts copied limit) x
+    not_before limit = kept cases (keeping texts copied limit) (closed copied limit)
+
+    go : Order a.taken b.taken a.token b.token → which ≡ other
+    go (before k e) = absurd (not_before which b.taken (b.kept which) a.taken k a.token e a.beyond)
+    go (one e f) =
+        one_at copied b.taken b.token which other (subst (λ z. IsFirstBeyond cases (keeping texts copied which) z b.token) e (subst (λ z. IsFirstBeyond cases (keeping texts copied which) a.taken z) f a.beyond)) b.beyond
+        (λ sooner i. subst (λ z. (keeping texts copied sooner).front (z ++ b.token ∷ [])) e (subst (λ z. (keeping texts copied sooner).front (a.taken ++ z ∷ [])) f (a.sooner sooner i))) b.sooner
+    go (behind k e) = absurd (not_before other a.taken (a.kept other) b.taken k b.token e b.beyond)

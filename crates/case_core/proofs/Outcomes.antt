@@ -1,28 +1,26 @@
 -- Where reading stops, as the text is refused there: what was read of the forms of a case is read of the published grammar.
-use Rattle.std.proofs.Common.{◌≡◌, ◌≤◌, ℕ, Bool, true, false, List, [], ◌∷◌, ◌++◌, ◌⊎◌, Option, Some, None, Result, Ok, Err, inl, inr, refl, sym, ◌∙◌, ap, subst, append_assoc, if◌then◌else◌, map as map_list}
+use Rattle.std.proofs.Common.{◌≡◌, ◌≤◌, ℕ, Bool, true, false, List, [], ◌∷◌, ◌++◌, ◌⊎◌, Option, Some, None, Result, Ok, Err, inl, inr, refl, ◌∙◌, ap, subst, if◌then◌else◌, map as map_list}
 use Rattle.std.proofs.lemmas.List.{append-nil}
-use Rattle.grammar.specs.Completions.{Reaches}
 use Rattle.grammar.specs.Language.{Language, HasFronts}
-use Rattle.grammar.specs.Reading.{Began, Took, Failed, Exceeded, Passes}
+use Rattle.grammar.specs.Reading.{Began, Took, Failed}
 use Rattle.grammar.proofs.Longest.{no_longer, stops_at_longest}
-use Rattle.grammar.proofs.Steps.{Same, took_in, failed_in, exceeded_in}
+use Rattle.grammar.proofs.Steps.{Same, took_in, failed_in}
 use Rattle.sql_lex.specs.declared.token.LexFault.{LexFault}
 use Rattle.sql_lex.specs.Bytes.{folded_byte}
 use Rattle.sql_lex.specs.Lexemes.{Lexeme}
 use Rattle.sql_read.specs.declared.fault.ReadFault.{ReadFault}
 use Rattle.sql_read.specs.declared.fault.ReadFault.TheVariants.{Lex, Unexpected, LeftOut, TooDeep, Limit, NoMemory}
-use Rattle.sql_read.specs.declared.fault.LimitKind.{LimitKind}
 use Rattle.sql_read.specs.declared.fault.LimitKind.TheVariants as limit
-use Rattle.sql_read.specs.Copied.{CopiesTooMuch}
-use Rattle.sql_read.specs.Cursor.{Cursor, next}
-use Rattle.sql_read.specs.Eating.{Extends, IsNextAt}
+use Rattle.sql_read.specs.Cursor.{Cursor}
+use Rattle.sql_read.specs.Eating.{Extends}
 use Rattle.sql_grammar.specs.Queries.{most_levels, of_form}
-use Rattle.sql_grammar.specs.QueryCopies.{copies_nothing, most_copies}
-use Rattle.sql_grammar.proofs.CopyLimits.{too_many_here}
+use Rattle.sql_grammar.specs.QueryCopies.{most_copies}
 use Rattle.sql_grammar.specs.QueryGrammar.{The}
-use Rattle.sql_read.specs.Reads.{Exceeds, Fails, RefusesWithin, Spends, TakesWithin, few_form, relations_too}
-use Rattle.sql_read.specs.Refusals.{is_left_out_word, refusal, refusal_of}
-use Rattle.sql_read.proofs.ReadSteps.{same_taken}
+use Rattle.sql_read.specs.Reads.{Exceeds, Fails, RefusesWithin, TakesWithin, few_form, relations_too}
+use Rattle.sql_read.specs.ReadingTexts as of_texts
+use Rattle.sql_read.specs.Refusals.{is_left_out_word, refusal_of}
+use Rattle.sql_read.proofs.WholeTexts as whole
+use Rattle.sql_read.proofs.WholeTexts.{KeepsCopies, refusal_here}
 use Rattle.schema_read.specs.Counting.{IsPlaced}
 use Rattle.schema_read.specs.StatementGrammar.{statements}
 use Rattle.sql_grammar.specs.QueryPlan.{in_plan}
@@ -30,13 +28,14 @@ use Rattle.schema_read.proofs.CountSteps.{begun_free}
 use Rattle.sql_grammar.proofs.QueryForms.{form_has_fronts, known_includes, planned_includes}
 use Rattle.case_core.specs.declared.fault.CaseFault.TheVariants.{Read}
 use Rattle.case_core.specs.CaseGrammar as g
-use Rattle.case_core.specs.Cases.{CopiesFew, cases, shallow_cases, within}
+use Rattle.case_core.specs.Cases.{cases, texts}
 use Rattle.case_core.specs.ReadingCases.{IsMore, RefusesCase}
-use Rattle.case_core.specs.Refusals.{GoesOnBehind, HasNotTwoQueries, IsLimited, IsUnfinished, PassesCopies, PassesCount, PassesDepth, Says}
+use Rattle.case_core.specs.Refusals.{GoesOnBehind, HasNotTwoQueries, IsUnfinished, Says}
 use Rattle.case_core.specs.Wrapping.{of_read}
-use Rattle.case_core.proofs.CaseCopies.{CopiedAll, case_costs, counted_few}
-use Rattle.case_core.proofs.CaseCounts.{CountsRefused, KeepsAll, few_before, keeps_counts, planned_within, within_same}
-use Rattle.case_core.proofs.CaseFronts.{fronts, kept_to, no_third, shallow_fronts, shallow_included}
+use Rattle.case_core.proofs.CaseCopies.{CopiedAll, Counted, case_costs, keeps_limits}
+use Rattle.case_core.proofs.CaseCounts.{CountsRefused, KeepsAll, few_before, planned_within, within_fronts, within_same}
+use Rattle.schema_read.proofs.CopiedParts.{counted_within}
+use Rattle.case_core.proofs.CaseFronts.{fronts, no_third, shallow_included}
 
 -- both limits were kept before
 abbrev FailsAll : {A : Type 0} → The A → Cursor → ReadFault → Cursor → Type 0
@@ -66,10 +65,6 @@ module _ {A : Type 0} (f : The A) where
   failed : {before after : Cursor} {fault : ReadFault} → FailsAll f before fault after
       → Failed (of_form None f) (of_form (Some most_levels) f) before.tokens after.tokens
   failed {before = before} {after = after} r = failed_in _ _ _ _ free_same shallow_same before.tokens after.tokens r.failed
-
-  exceeded : {before after : Cursor} {at : ℕ} → ExceedsAll f before at after
-      → Exceeded (of_form None f) (of_form (Some most_levels) f) before.tokens after.tokens
-  exceeded {before = before} {after = after} r = exceeded_in _ _ _ _ free_same shallow_same before.tokens after.tokens r.exceeded
 
 -- ---- parts that are not all of the text
 
@@ -122,74 +117,6 @@ not_two_excluded before none one third count at (inl (e, x)) = none x.last x.val
 not_two_excluded before none one third count at (inr (inl (e, x))) = one x.last x.value x.whole
 not_two_excluded before none one third count at (inr (inr (e, x))) = third at x
 
-pub refusal_here : {before after : Cursor} → Extends before after → refusal after ≡ refusal_of before.end (next after.tokens before.fault)
-refusal_here {before} {after} x = ap (λ end. refusal_of end (next after.tokens after.fault)) x.end ∙ ap (λ f. refusal_of before.end (next after.tokens f)) x.fault
-
--- with none of the tokens that were passed too much is copied
-abbrev FewCopied : Cursor → Cursor → Type 0
-FewCopied before after = (taken : List Lexeme) → before.tokens ≡ taken ++ after.tokens → CopiesFew before.copies taken
-
-unfinished : {before after : Cursor} {fault : ReadFault} → FailsAll g.case before fault after → KeepsAll before.tokens after.tokens → FewCopied before after → Extends before after
-    → Exceeding statements before → Exceeding g.one_query before → IsUnfinished before.copies before.tokens before.fault before.end fault
-unfinished {before} {after} r few copies x none one =
-    let t = failed g.case r in
-    record {
-      taken = t.taken;
-      rest = after.tokens;
-      parts = t.whole;
-      leading = stops_at_longest cases fronts before.tokens t.taken after.tokens t.whole (shallow_included.front t.taken t.begun) t.stops;
-      unspelled = refused_within r;
-      not_counted = not_two_excluded before none one (λ at third. no_third t third);
-      shallow = kept_to shallow_cases shallow_fronts.shorter before.tokens t.taken after.tokens t.whole t.begun t.stops;
-      few = keeps_counts few t.taken t.whole t.stops;
-      few_copies = copies t.taken t.whole;
-      refusal = r.refused ∙ refusal_here x;
-    }
-
-passes : (copied : ℕ) (tokens taken rest : List Lexeme) (at : ℕ) → tokens ≡ taken ++ rest → shallow_cases.front taken → Passes cases shallow_cases taken rest → ((what : LimitKind) → (within what).front taken) → CopiesFew copied taken → IsNextAt at rest
-    → PassesDepth copied tokens at
-passes copied tokens taken [] at e f p i c n = absurd p
-passes copied tokens taken (t ∷ rest) at e f p i c n = record {
-  taken = taken;
-  token = t;
-  rest = rest;
-  parts = e;
-  too_deep = record { goes_on = p.0; within = f; beyond = p.1 };
-  few = i;
-  few_copies = c;
-  place = n;
-}
-
-passed : {before after : Cursor} {at : ℕ} → ExceedsAll g.case before at after → KeepsAll before.tokens after.tokens → FewCopied before after → PassesDepth before.copies before.tokens at
-passed {before} {after} {at} r few copies =
-    let t = exceeded g.case r in
-    passes before.copies before.tokens t.taken after.tokens at t.whole t.begun t.passes (few_before few t.taken t.whole) (copies t.taken t.whole) r.place
-
--- ---- a count that passes its limit
-
-module _ (before after : Cursor) (what : LimitKind) (token : Lexeme) (more : List Lexeme) (stood : after.tokens ≡ token ∷ more) (goes_on : Began (in_plan (Some most_levels) g.case) before.tokens more)
-    (e : Exceeded (in_plan None g.case) (planned_within what) before.tokens after.tokens) (few : KeepsAll before.tokens after.tokens) (copies : FewCopied before after) where
-  whole : before.tokens ≡ e.taken ++ token ∷ more
-  whole = e.whole ∙ ap (λ z. e.taken ++ z) stood
-
-  past : Passes (in_plan None g.case) (planned_within what) e.taken (token ∷ more)
-  past = subst (λ z. Passes (in_plan None g.case) (planned_within what) e.taken z) stood e.passes
-
-  taken_on : goes_on.taken ≡ e.taken ++ token ∷ []
-  taken_on = same_taken before.tokens more goes_on.taken (e.taken ++ token ∷ []) goes_on.whole (whole ∙ sym (append_assoc e.taken (token ∷ []) more))
-
-  passes_count : PassesCount before.copies before.tokens what
-  passes_count = record {
-    taken = e.taken;
-    token = token;
-    rest = more;
-    parts = whole;
-    too_many = record { goes_on = (free_same g.case).there.front _ past.0; within = few_before few e.taken e.whole what; beyond = λ f. past.1 ((within_same what).back.front _ f) };
-    few = few_before few e.taken e.whole;
-    few_copies = copies e.taken e.whole;
-    shallow = subst shallow_cases.front taken_on ((shallow_same g.case).there.front _ goes_on.begun);
-  }
-
 module _ {before after : Cursor} {fault : ReadFault} (r : RefusesAll g.case before fault after) (n : CountsRefused before fault after) (placed : IsPlaced fault)
     (entries : Began (few_form g.case) before.tokens after.tokens) where
   keeps_all : KeepsAll before.tokens after.tokens
@@ -198,35 +125,34 @@ module _ {before after : Cursor} {fault : ReadFault} (r : RefusesAll g.case befo
   keeps_all limit.Relations = n.relations.begun placed
   keeps_all limit.Copies = begun_free {f = g.case} tt fault r placed
 
--- ---- a copy that passes its limit
+unfinished : {before after : Cursor} {fault : ReadFault} → FailsAll g.case before fault after → KeepsAll before.tokens after.tokens → Counted before after → after.copies ≤ most_copies → Extends before after
+    → Exceeding statements before → Exceeding g.one_query before → IsUnfinished before.copies before.tokens before.fault before.end fault
+unfinished {before} {after} r few copies most x none one =
+    let t = failed g.case r in
+    record {
+      taken = t.taken;
+      rest = after.tokens;
+      parts = t.whole;
+      leading = stops_at_longest cases fronts before.tokens t.taken after.tokens t.whole (shallow_included.front t.taken t.begun) t.stops;
+      unspelled = refused_within r;
+      not_counted = not_two_excluded before none one (λ at third. no_third t third);
+      kept = keeps_limits before.copies t.taken after.tokens t.whole t.begun (few_before few t.taken t.whole) (counted_within copies most t.taken t.whole) t.stops;
+      refusal = r.refused ∙ refusal_here x;
+    }
 
-passed_copies : {before after : Cursor} → Spends relations_too g.case (few_form g.case) most_levels before after → CopiesTooMuch g.case (λ read. read) before before after → KeepsAll before.tokens after.tokens
-    → PassesCopies before.copies before.tokens
-passed_copies {before} {after} s r few = record {
-  taken = up_to.taken;
-  token = r.token;
-  rest = after.tokens;
-  parts = up_to.whole;
-  too_many = too_many_here g.case case_costs before.copies before.tokens up_to.taken after.tokens r.token up_to.whole r.overspends;
-  few = few_before few (up_to.taken ++ r.token ∷ []) with_token;
-  shallow = subst shallow_cases.front (same_taken before.tokens after.tokens s.goes_on.taken (up_to.taken ++ r.token ∷ []) s.goes_on.whole with_token) ((shallow_same g.case).there.front _ s.goes_on.begun);
-}
-  where
-    up_to : Reaches copies_nothing (in_plan None g.case) before.tokens r.overspends.before (r.token ∷ after.tokens)
-    up_to = r.overspends.up_to
+keeps_copies : (before after : Cursor) (fault : ReadFault) → CopiedAll before fault after → after.copies ≤ most_copies → KeepsCopies texts before fault after
+keeps_copies before after (Limit limit.Copies) c most = c.says
+keeps_copies before after NoMemory c most = tt
+keeps_copies before after other c most = counted_within c.says most
 
-    with_token : before.tokens ≡ (up_to.taken ++ r.token ∷ []) ++ after.tokens
-    with_token = up_to.whole ∙ sym (append_assoc up_to.taken (r.token ∷ []) after.tokens)
-
-limited : (before after : Cursor) (what : LimitKind) → after.copies ≤ most_copies → RefusesAll g.case before (Limit what) after → CountsRefused before (Limit what) after → CopiedAll before (Limit what) after → IsLimited before.copies before.tokens what
-limited before after limit.Entries l r n c =
-    let t = r.says in let e = t.few tt in
-    passes_count before after limit.Entries t.token t.more t.next t.goes_on e (keeps_all r n tt (record { taken = e.taken; whole = e.whole; begun = e.begun })) (counted_few c.says l)
-limited before after limit.Columns l r n c =
-    let t = r.says in passes_count before after limit.Columns t.token t.more t.next t.goes_on (n.columns.passed refl) (keeps_all r n tt (t.few tt)) (counted_few c.says l)
-limited before after limit.Relations l r n c =
-    let t = r.says in passes_count before after limit.Relations t.token t.more t.next t.goes_on (n.relations.passed refl) (keeps_all r n tt (t.few tt)) (counted_few c.says l)
-limited before after limit.Copies l r n c = passed_copies r.says c.says (keeps_all r n tt (r.says.few tt))
+-- a limit is passed
+limited : {before after : Cursor} (fault : ReadFault) → after.copies ≤ most_copies → RefusesAll g.case before fault after → CountsRefused before fault after → CopiedAll before fault after → Extends before after
+    → of_texts.IsRefused texts before.copies before.tokens before.fault before.end fault
+limited {before} {after} fault most r n c x =
+    whole.refused texts (planned_within limit.Columns) (planned_within limit.Relations) (within_same limit.Columns) (within_same limit.Entries) (within_same limit.Relations) (λ what. (within_fronts what).shorter) case_costs
+    relations_too tt before after x fault r
+    (record { columns_kept = λ placed shallow. n.columns.begun placed; relations_kept = λ placed shallow. n.relations.begun placed; columns_passed = n.columns.passed; relations_passed = n.relations.passed })
+    (keeps_copies before after fault c most)
 
 -- ---- all refusals
 
@@ -238,13 +164,13 @@ fails_within r n placed f = let t = f.few tt in keeps_all r n placed (record { t
 says_refused : {before after : Cursor} {fault : ReadFault} → RefusesAll g.case before fault after → CountsRefused before fault after → CopiedAll before fault after → Extends before after
     → Excluded statements before fault after → Excluded g.one_query before fault after → after.copies ≤ most_copies → Says before.copies before.tokens before.fault before.end (of_read fault)
 says_refused {fault = Lex fault} r n c x none one l =
-    unfinished r.says (fails_within r n tt r.says) (counted_few c.says l) x (excluded (λ q. q.says) none) (excluded (λ q. q.says) one)
+    unfinished r.says (fails_within r n tt r.says) c.says l x (excluded (λ q. q.says) none) (excluded (λ q. q.says) one)
 says_refused {fault = Unexpected at} r n c x none one l =
-    unfinished r.says (fails_within r n tt r.says) (counted_few c.says l) x (excluded (λ q. q.says) none) (excluded (λ q. q.says) one)
+    unfinished r.says (fails_within r n tt r.says) c.says l x (excluded (λ q. q.says) none) (excluded (λ q. q.says) one)
 says_refused {fault = LeftOut word at} r n c x none one l =
-    unfinished r.says (fails_within r n tt r.says) (counted_few c.says l) x (excluded (λ q. q.says) none) (excluded (λ q. q.says) one)
-says_refused {fault = TooDeep at} r n c x none one l = passed r.says (keeps_all r n tt (r.says.few tt)) (counted_few c.says l)
-says_refused {before} {after} {fault = Limit what} r n c x none one l = limited before after what l r n c
+    unfinished r.says (fails_within r n tt r.says) c.says l x (excluded (λ q. q.says) none) (excluded (λ q. q.says) one)
+says_refused {fault = TooDeep at} r n c x none one l = limited (TooDeep at) l r n c x
+says_refused {fault = Limit what} r n c x none one l = limited (Limit what) l r n c x
 says_refused {fault = NoMemory} r n c x none one l = tt
 
 pub refused : {before after : Cursor} {fault : ReadFault} → RefusesAll g.case before fault after → CountsRefused before fault after → CopiedAll before fault after → Extends before after

@@ -3,16 +3,15 @@ use Rattle.std.specs.Prelude.{◌≡◌, ◌≤◌, ℕ, List, length, Some, Non
 use Rattle.data_model.specs.Lists.{Each}
 use Rattle.grammar.specs.Form.{form_language, language}
 use Rattle.grammar.specs.Language.{Language, map_language, seq_language}
-use Rattle.grammar.specs.Limits.{IsFirstBeyond, KeepsWithin}
 use Rattle.sql_lex.specs.Lexemes.{Lexeme}
 use Rattle.sql_lex.specs.Tokens.{TokensOf}
 use Rattle.sql_model.specs.declared.statement.Statement.{Statement}
 use Rattle.sql_read.specs.declared.fault.LimitKind.{LimitKind}
 use Rattle.sql_read.specs.declared.fault.LimitKind.TheVariants as limit
+use Rattle.sql_read.specs.ReadingTexts.{TextLimit, Texts, keeping}
 use Rattle.sql_grammar.specs.Kinds.{kind_of}
 use Rattle.sql_grammar.specs.Numbering.{Built, Numbers, first_numbers}
 use Rattle.sql_grammar.specs.Queries.{most_levels, of_form}
-use Rattle.sql_grammar.specs.QueryCopies.{most_copies, within_copies}
 use Rattle.sql_grammar.specs.QueryEntries.{few_rules, most_further}
 use Rattle.schema_read.specs.Declarations.{IsSmall}
 use Rattle.schema_read.specs.StatementGrammar.{statements}
@@ -36,7 +35,7 @@ abbrev pub few_entry_cases : Language Lexeme (Built CaseText)
 few_entry_cases = form_language kind_of (language kind_of (few_rules most_further)) None g.case
 
 -- The cases that keep the limit on this count. Queries have neither columns nor relations to count, and what may be copied goes by what was
--- copied before (`IsCopyTooMany`).
+-- copied before.
 abbrev pub within : LimitKind → Language Lexeme (Built CaseText)
 within limit.Columns = cases_behind (of_statements.within limit.Columns)
 within limit.Entries = few_entry_cases
@@ -47,29 +46,9 @@ within limit.Copies = cases
 abbrev pub BeginsCase : List Lexeme → Type 0
 BeginsCase ts = cases.front ts
 
--- the token opens too many levels, or makes a chain or a list too long
-abbrev pub IsTooDeep : List Lexeme → Lexeme → Type 0
-IsTooDeep = IsFirstBeyond cases shallow_cases
-
--- none of the tokens is too deep
-abbrev pub IsShallow : List Lexeme → Type 0
-IsShallow = KeepsWithin cases shallow_cases
-
--- With the token this count passes its limit: it begins an entry too many of a block, a column too many of a table or a statement too many.
-abbrev pub IsOneTooMany : LimitKind → List Lexeme → Lexeme → Type 0
-IsOneTooMany what = IsFirstBeyond cases (within what)
-
--- none of the tokens passes the limit of a count
-abbrev pub KeepsCounts : List Lexeme → Type 0
-KeepsCounts ts = (what : LimitKind) → KeepsWithin cases (within what) ts
-
--- With so much copied before the case, the token is the first with which more is copied than may be.
-abbrev pub IsCopyTooMany : ℕ → List Lexeme → Lexeme → Type 0
-IsCopyTooMany copied = IsFirstBeyond cases (within_copies copied cases)
-
--- with none of these tokens too much is copied
-abbrev pub CopiesFew : ℕ → List Lexeme → Type 0
-CopiesFew copied = KeepsWithin cases (within_copies copied cases)
+-- cases, with what keeps each limit on a count
+abbrev pub texts : Texts CaseText
+texts = record { form = g.case; within = within }
 
 -- The text is blanks, comments and tokens, and these spell the statements and the two queries; at its end the literals and called
 -- names have these numbers.
@@ -83,9 +62,7 @@ pub record SpellsCase (text : List ℕ) (written : CaseText) (numbers : Numbers)
 -- it spells them within the limits
 pub record IsRead (text : List ℕ) (written : CaseText) (numbers : Numbers) : Type 0 where
   pub spells : SpellsCase text written numbers
-  pub shallow : IsShallow spells.tokens
-  pub few : (what : LimitKind) → (within what).spells spells.tokens spells.read
-  pub few_copies : spells.read.copies ≤ most_copies
+  pub kept : (which : TextLimit) → (keeping texts 0 which).spells spells.tokens spells.read
   -- the statements are within the limits of a schema
   pub few_relations : length written.statements ≤ most_relations
   pub small : Each IsSmall written.statements

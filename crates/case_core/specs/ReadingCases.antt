@@ -13,7 +13,7 @@ use Rattle.case_core.specs.declared.fault.CaseFault.{CaseFault}
 use Rattle.case_core.specs.declared.fault.CaseFault.TheVariants.{Read, Schema, Scope, QueriesDiffer, NotTwoQueries, NoMemory}
 use Rattle.case_core.specs.declared.text.CaseText.{CaseText}
 use Rattle.case_core.specs.CaseGrammar.{query_kinds}
-use Rattle.case_core.specs.Cases.{IsShallow, cases, within}
+use Rattle.case_core.specs.Cases.{cases, shallow_cases, within}
 use Rattle.case_core.specs.Refusals.{Says}
 
 -- all tokens, up to the end of the text, were taken and spell this within the limits
@@ -21,7 +21,7 @@ pub record TakesCase (before : Cursor) (written : CaseText) (after : Cursor) : T
   pub last : before.fault ≡ None
   pub value : Built CaseText
   pub spelled : cases.spells before.tokens value
-  pub shallow : IsShallow before.tokens
+  pub shallow : shallow_cases.spells before.tokens value
   pub few : (what : LimitKind) → (within what).spells before.tokens value
   pub built : value.build before.numbers ≡ (written, after.numbers)
   pub copied : after.copies ≡ before.copies + value.copies

@@ -1,18 +1,18 @@
 -- Why a text spells no case, and where: at the first of its tokens with which no text goes on, at its end, at its first lexical
 -- fault, or where it has not two queries.
-use Rattle.std.specs.Prelude.{◌≡◌, ℕ, List, [], ◌∷◌, ◌++◌, ◌⊎◌, length, true, Option, None}
+use Rattle.std.specs.Prelude.{◌≡◌, ℕ, List, ◌∷◌, ◌++◌, ◌⊎◌, length, true, Option, None}
 use Rattle.grammar.specs.Language.{Language}
+use Rattle.grammar.specs.Limits.{KeepsWithin}
 use Rattle.grammar.specs.Reading.{IsLongestFront}
 use Rattle.sql_lex.specs.declared.token.LexFault.{LexFault}
 use Rattle.sql_lex.specs.Lexemes.{Lexeme}
 use Rattle.sql_lex.specs.Tokens.{Lexes}
 use Rattle.sql_read.specs.declared.fault.ReadFault.{ReadFault}
 use Rattle.sql_read.specs.declared.fault.ReadFault.TheVariants as read_refusal
-use Rattle.sql_read.specs.declared.fault.LimitKind.{LimitKind}
-use Rattle.sql_read.specs.declared.fault.LimitKind.TheVariants as limit
 use Rattle.sql_read.specs.Cursor.{next}
 use Rattle.sql_grammar.specs.Kinds.{among, kind_of}
 use Rattle.sql_grammar.specs.Numbering.{Built}
+use Rattle.sql_read.specs.ReadingTexts.{Passes, PassesDepth, TextLimit, count_limit, keeping}
 use Rattle.sql_read.specs.Refusals.{refusal_of}
 use Rattle.schema_read.specs.StatementGrammar.{statements}
 use Rattle.sql_grammar.specs.Queries.{of_form}
@@ -20,7 +20,7 @@ use Rattle.case_core.specs.declared.fault.CaseFault.{CaseFault}
 use Rattle.case_core.specs.declared.fault.CaseFault.TheVariants.{Read, Schema, Scope, QueriesDiffer, NotTwoQueries, NoMemory}
 use Rattle.case_core.specs.declared.text.CaseText.{CaseText}
 use Rattle.case_core.specs.CaseGrammar.{one_query, query_kinds}
-use Rattle.case_core.specs.Cases.{CopiesFew, IsCopyTooMany, IsOneTooMany, IsShallow, IsTooDeep, KeepsCounts, cases, shallow_cases, within}
+use Rattle.case_core.specs.Cases.{cases, texts}
 
 -- A text is given by its tokens up to its end or to its first lexical fault, with that fault and the place of the end. What was copied before it
 -- counts too, and is nothing before a whole text.
@@ -53,12 +53,14 @@ HasNotTwoQueries tokens fault end count at =
 
 -- ---- refusals
 
--- That is so, and no token before passes a limit.
+-- none of the tokens passes a limit
+abbrev pub KeepsLimits : ℕ → List Lexeme → Type 0
+KeepsLimits copied tokens = (which : TextLimit) → KeepsWithin cases (keeping texts copied which) tokens
+
+-- That is so, and no token passes a limit.
 pub record IsNotTwo (copied : ℕ) (tokens : List Lexeme) (fault : Option LexFault) (end count at : ℕ) : Type 0 where
   pub counted : HasNotTwoQueries tokens fault end count at
-  pub shallow : IsShallow tokens
-  pub few : KeepsCounts tokens
-  pub few_copies : CopiesFew copied tokens
+  pub kept : KeepsLimits copied tokens
 
 -- The text spells no case, though it has not too few queries nor too many; what stands behind its longest front is refused.
 pub record IsUnfinished (copied : ℕ) (tokens : List Lexeme) (fault : Option LexFault) (end : ℕ) (refused : ReadFault) : Type 0 where
@@ -68,58 +70,16 @@ pub record IsUnfinished (copied : ℕ) (tokens : List Lexeme) (fault : Option Le
   pub leading : IsLongestFront cases tokens taken
   pub unspelled : fault ≡ None → (value : Built CaseText) → cases.spells tokens value → ⊥
   pub not_counted : (count at : ℕ) → HasNotTwoQueries tokens fault end count at → ⊥
-  pub shallow : IsShallow tokens
-  pub few : KeepsCounts tokens
-  pub few_copies : CopiesFew copied taken
+  pub kept : KeepsLimits copied tokens
   pub refusal : refused ≡ refusal_of end (next rest fault)
-
--- behind tokens within the limits the token at this place opens too many levels, or makes a chain or a list too long
-pub record PassesDepth (copied : ℕ) (tokens : List Lexeme) (at : ℕ) : Type 0 where
-  pub taken : List Lexeme
-  pub token : Lexeme
-  pub rest : List Lexeme
-  pub parts : tokens ≡ taken ++ token ∷ rest
-  pub too_deep : IsTooDeep taken token
-  -- no count had passed its limit before
-  pub few : (what : LimitKind) → (within what).front taken
-  pub few_copies : CopiesFew copied taken
-  pub place : token.start ≡ at
-
--- behind tokens within the limits the next one passes that on this count, and is not too deep
-pub record PassesCount (copied : ℕ) (tokens : List Lexeme) (what : LimitKind) : Type 0 where
-  pub taken : List Lexeme
-  pub token : Lexeme
-  pub rest : List Lexeme
-  pub parts : tokens ≡ taken ++ token ∷ rest
-  pub too_many : IsOneTooMany what taken token
-  -- no other count had passed its limit before
-  pub few : (other : LimitKind) → (within other).front taken
-  pub few_copies : CopiesFew copied taken
-  pub shallow : shallow_cases.front (taken ++ token ∷ [])
-
--- With so much copied before, the token is the first with which more is copied than may be; it is not too deep, and passes no other limit.
-pub record PassesCopies (copied : ℕ) (tokens : List Lexeme) : Type 0 where
-  pub taken : List Lexeme
-  pub token : Lexeme
-  pub rest : List Lexeme
-  pub parts : tokens ≡ taken ++ token ∷ rest
-  pub too_many : IsCopyTooMany copied taken token
-  pub few : (other : LimitKind) → (within other).front (taken ++ token ∷ [])
-  pub shallow : shallow_cases.front (taken ++ token ∷ [])
-
-abbrev pub IsLimited : ℕ → List Lexeme → LimitKind → Type 0
-IsLimited copied tokens limit.Columns = PassesCount copied tokens limit.Columns
-IsLimited copied tokens limit.Entries = PassesCount copied tokens limit.Entries
-IsLimited copied tokens limit.Relations = PassesCount copied tokens limit.Relations
-IsLimited copied tokens limit.Copies = PassesCopies copied tokens
 
 -- what each fault says of the text, with so much copied before it
 abbrev pub Says : ℕ → List Lexeme → Option LexFault → ℕ → CaseFault → Type 0
 Says copied tokens fault end (Read (read_refusal.Lex lexical)) = IsUnfinished copied tokens fault end (read_refusal.Lex lexical)
 Says copied tokens fault end (Read (read_refusal.Unexpected at)) = IsUnfinished copied tokens fault end (read_refusal.Unexpected at)
 Says copied tokens fault end (Read (read_refusal.LeftOut word at)) = IsUnfinished copied tokens fault end (read_refusal.LeftOut word at)
-Says copied tokens fault end (Read (read_refusal.TooDeep at)) = PassesDepth copied tokens at
-Says copied tokens fault end (Read (read_refusal.Limit what)) = IsLimited copied tokens what
+Says copied tokens fault end (Read (read_refusal.TooDeep at)) = PassesDepth texts copied tokens at
+Says copied tokens fault end (Read (read_refusal.Limit what)) = Passes texts copied tokens (count_limit what)
 Says copied tokens fault end (Read read_refusal.NoMemory) = ⊥
 Says copied tokens fault end (Schema refused) = ⊥
 Says copied tokens fault end (Scope refused) = ⊥

@@ -5,14 +5,13 @@ ghost use Rattle.grammar.specs.Form.{Room};
 ghost use Rattle.grammar.specs.Language.{HasFronts, Includes, IsUnambiguous};
 ghost use Rattle.sql_lex.specs.Lexemes.{Lexeme};
 ghost use Rattle.sql_grammar.specs.Numbering.{Built, Numbers};
-ghost use Rattle.sql_read.specs.declared.fault.LimitKind.{LimitKind as What};
+ghost use Rattle.sql_read.specs.ReadingTexts.{Passes, PassesDepth, TextLimit};
 ghost use Rattle.schema_read.specs.FewEntries.{HasFewEntries, ViewHasFew};
 ghost use Rattle.sql_grammar.specs.Queries.{of_form};
 ghost use Rattle.case_core.specs.declared.text.CaseText.{CaseText as Written};
 ghost use Rattle.case_core.specs.CaseGrammar as g;
-ghost use Rattle.case_core.specs.Cases.{BeginsCase, IsRead, SpellsCase, cases, shallow_cases};
+ghost use Rattle.case_core.specs.Cases.{BeginsCase, IsRead, SpellsCase, cases, shallow_cases, texts};
 ghost use Rattle.case_core.specs.Fitting.{TextFits};
-ghost use Rattle.case_core.specs.Refusals.{PassesCopies, PassesCount, PassesDepth};
 
 /// No text spells two cases, and no list of tokens two values of one.
 pub fn one_case()
@@ -37,21 +36,14 @@ pub fn limits()
 
 /// Each limit is passed at no more than one token of a text.
 pub fn passed_once()
-    ensures depth { (copied : ℕ) (tokens : List Lexeme) (at place : ℕ) (one : PassesDepth copied tokens at) (other : PassesDepth copied tokens place) →
+    ensures tokens { (copied : ℕ) (tokens : List Lexeme) (which : TextLimit) (one other : Passes texts copied tokens which) →
         (one.taken ≡ other.taken) × (one.token ≡ other.token) }
-    ensures places { (copied : ℕ) (tokens : List Lexeme) (at place : ℕ) → PassesDepth copied tokens at → PassesDepth copied tokens place → at ≡ place }
-    ensures counts { (copied : ℕ) (tokens : List Lexeme) (what : What) (one other : PassesCount copied tokens what) →
-        (one.taken ≡ other.taken) × (one.token ≡ other.token) }
-    ensures copies { (copied : ℕ) (tokens : List Lexeme) (one other : PassesCopies copied tokens) →
-        (one.taken ≡ other.taken) × (one.token ≡ other.token) }
+    ensures places { (copied : ℕ) (tokens : List Lexeme) (at place : ℕ) → PassesDepth texts copied tokens at → PassesDepth texts copied tokens place → at ≡ place }
 {}
 
 /// A text passes one limit at most: that on depth and length, that on columns, entries or relations, or that on copies.
 pub fn one_limit()
-    ensures counts { (copied : ℕ) (tokens : List Lexeme) (what other : What) → PassesCount copied tokens what → PassesCount copied tokens other → what ≡ other }
-    ensures depth_or_count { (copied : ℕ) (tokens : List Lexeme) (at : ℕ) (what : What) → PassesDepth copied tokens at → PassesCount copied tokens what → ⊥ }
-    ensures depth_or_copies { (copied : ℕ) (tokens : List Lexeme) (at : ℕ) → PassesDepth copied tokens at → PassesCopies copied tokens → ⊥ }
-    ensures count_or_copies { (copied : ℕ) (tokens : List Lexeme) (what : What) → PassesCount copied tokens what → PassesCopies copied tokens → ⊥ }
+    ensures { (copied : ℕ) (tokens : List Lexeme) (which other : TextLimit) → Passes texts copied tokens which → Passes texts copied tokens other → which ≡ other }
 {}
 
 /// No block of a case that is read has more than 32 entries: of its queries, of its views, or of a subquery of these.

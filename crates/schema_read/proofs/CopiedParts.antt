@@ -1,9 +1,7 @@
 -- How what a part of statements, or of a case, has copied is what the whole has copied.
-use Rattle.std.proofs.Common.{◌≡◌, ◌≢◌, ◌≤◌, ◌+◌, ℕ, true, List, ◌∷◌, ◌++◌, None, Result, Ok, Err, refl, sym, subst, arith}
+use Rattle.std.proofs.Common.{◌≡◌, ◌≢◌, ◌≤◌, ◌+◌, ℕ, true, List, ◌∷◌, ◌++◌, None, Result, Ok, Err, refl, sym, subst, arith, Bool, ◌∙◌}
 use Rattle.std.specs.Result.{IsErrAnd}
 use Rattle.std.proofs.lemmas.Result.{err_from_is_err_and}
-use Rattle.grammar.specs.Completions.{Completed}
-use Rattle.grammar.specs.Form.{ref}
 use Rattle.grammar.specs.Language.{Includes}
 use Rattle.grammar.proofs.Completing as c
 use Rattle.grammar.proofs.Forms.{includes_through}
@@ -13,22 +11,24 @@ use Rattle.sql_read.specs.declared.fault.ReadFault.{ReadFault}
 use Rattle.sql_read.specs.declared.fault.ReadFault.TheVariants.{Limit, NoMemory}
 use Rattle.sql_read.specs.Copied as of_query
 use Rattle.sql_read.specs.Copied.{CopiesTooMuch}
-use Rattle.sql_read.specs.Cursor.{Cursor}
-use Rattle.sql_read.specs.Reads.{ReadsWithin, RefusesWithin, TakesWithin, TellsEntries, Told, few_form, of_form}
+use Rattle.sql_read.specs.Cursor.{Cursor, next_of}
+use Rattle.sql_read.specs.Reads.{TakesWithin, Told, few_form, of_form}
 use Rattle.sql_read.proofs.ReadCopies.{Going, SamePrice}
 use Rattle.sql_grammar.specs.Numbering.{Built}
 use Rattle.sql_grammar.specs.QueryCopies.{copies_nothing, most_copies, within_copies}
-use Rattle.sql_grammar.specs.QueryGrammar.{The, query}
+use Rattle.sql_grammar.specs.QueryGrammar.{The}
 use Rattle.sql_grammar.proofs.CopyLimits.{reached_copies}
 use Rattle.sql_grammar.proofs.CopySteps.{plan_filled}
 use Rattle.sql_grammar.proofs.QueryCompletions.{filled, is_filled}
 use Rattle.sql_grammar.proofs.QueryTable.{planned}
 use Rattle.schema_read.specs.Counting.{IsPlaced}
-use Rattle.schema_read.specs.CopiedStatements.{Copied, CopiedToFault, CopiesCounted, CopiesNothing, Says}
+use Rattle.schema_read.specs.CopiedStatements.{Copied, CopiedToFault, CopiesCounted, Says}
 use Rattle.sql_grammar.specs.QueryPlan.{in_plan}
-use Rattle.schema_read.proofs.CountSteps.{begun_free}
-use Rattle.sql_grammar.proofs.QueryForms.{known_includes, planned_includes, roomier}
+use Rattle.sql_grammar.proofs.QueryForms.{known_includes, roomier}
 use Rattle.schema_read.proofs.Unlimited.{gl}
+use Rattle.sql_read.specs.Eating.{Misses, Refusing}
+use Rattle.sql_grammar.specs.declared.kinds.Kind.{Kind}
+use Rattle.sql_read.proofs.RefusedNext.{no_limit}
 
 -- ---- what was read, in the grammar of statements
 
@@ -42,10 +42,6 @@ pub taken_spelled : {A : Type 0} {limits : Told} {f : The A} {levels : ℕ} {her
 taken_spelled {f = f} {levels = levels} {value = value} t =
     let unlimited : Includes (gl f) (in_plan _ f) = includes_through _ _ _ (known_includes _ f) (roomier _ None tt f) in
     record { taken = t.took.taken; whole = t.took.whole; spelled = unlimited.spells t.took.taken value t.took.spelled }
-
--- f goes on in M, and this in N
-pub going_through : {C B A : Type 0} {f : The C} {M : The B} {N : The A} {here start : List Lexeme} {h : C → B} {k : B → A} → Going f here M start h → Going M start N start k → Going f here N start (λ v. k (h v))
-going_through {h = h} l m = record { goes = record { reaches = λ v rest r. m.goes.reaches (h v) rest (l.goes.reaches v rest r) } }
 
 -- ---- refusals
 
@@ -69,34 +65,6 @@ module _ {A Y : Type 0} {N : The A} {whole : A → Built Y} {start first after :
       up_to = c.left_filled planned 0 copies_nothing (of_form None N) first.tokens f after.tokens h l.goes b.value (plan_filled f b.value b.filled);
       count = i;
     }
-
-    -- these tokens of the part stand before
-    pub counted_behind : {here taken : List Lexeme} → Going f here N first.tokens h → (r : Completed copies_nothing (gl f) taken) → here ≡ taken ++ after.tokens → start.copies + (whole (h r.value)).copies ≤ after.copies
-        → CopiesCounted N whole start first after
-    counted_behind {taken = taken} l r i e = record {
-      value = h r.value;
-      up_to = l.goes.reaches r.value after.tokens (record {
-        taken = taken;
-        whole = i;
-        completes = record { more = r.by.more; are_chosen = r.by.are_chosen; spelled = (planned_includes None f).spells (taken ++ r.by.more) r.value r.by.spelled };
-      });
-      count = e;
-    }
-
-    -- a part is refused of which no query is part
-    pub free_refused : {limits : Told} {levels : ℕ} {here : Cursor} → TellsEntries limits → (fault : ReadFault) → RefusesWithin limits f (few_form f) levels here fault after → fault ≢ Limit limit.Copies
-        → Going f here.tokens N first.tokens h → ((ts : List Lexeme) → (gl f).front ts → Completed copies_nothing (gl f) ts)
-        → ((ts : List Lexeme) (v : C) → (gl f).spells ts v → start.copies + (whole (h v)).copies ≤ after.copies) → CopiedToFault N whole start first fault after
-    free_refused t fault r n l goes e =
-        told_if fault n (λ p.
-        let b = begun_free t fault r p in let d = goes b.taken ((known_includes None f).front b.taken b.begun) in
-        counted_behind l d b.whole (e (b.taken ++ d.by.more) d.value d.by.spelled))
-
-    pub free_part : {limits : Told} {levels : ℕ} {D : Type 0} {k : C → Built D} {begun here : Cursor} → TellsEntries limits → (result : Result D ReadFault) → ReadsWithin limits f (few_form f) levels k begun here result after
-        → CopiesNothing result → Going f here.tokens N first.tokens h → ((ts : List Lexeme) → (gl f).front ts → Completed copies_nothing (gl f) ts)
-        → ((ts : List Lexeme) (v : C) → (gl f).spells ts v → start.copies + (whole (h v)).copies ≤ after.copies) → Copied N whole start first result after
-    free_part t (Ok value) r n l goes e = record { answers = tt }
-    free_part t (Err fault) r n l goes e = record { answers = free_refused t fault r.answers n l goes e }
 
     -- the whole has copied what its part has
     pub copied_to : {X : Type 0} {part : C → Built X} {began before : Cursor} (fault : ReadFault) → Going f before.tokens N first.tokens h → SamePrice start (λ v. whole (h v)) began part
@@ -122,18 +90,22 @@ module _ {A Y : Type 0} {N : The A} {whole : A → Built Y} {start first after :
     copied_in (Ok value) l e q = record { answers = tt }
     copied_in (Err fault) l e q = record { answers = copied_to fault l e q.answers }
 
--- ---- the query of a view, and of a case
+-- ---- parts that are read as queries are, and the query of a view and of a case
 
-module _ {here after : Cursor} where
-  counted_in_query : of_query.CopiesSoFar (ref query) (λ read. read) here here after → CopiesCounted (ref query) (λ read. read) here here after
+module _ {V A : Type 0} {f : The V} {h : V → Built A} {start before after : Cursor} where
+  counted_in_query : of_query.CopiesSoFar f h start before after → CopiesCounted f h start before after
   counted_in_query r = record { value = r.value; up_to = r.up_to; count = omega (arith, r.count) }
 
-  pub query_copied : (fault : ReadFault) → of_query.CopiedToFault (ref query) (λ read. read) here here fault after → CopiedToFault (ref query) (λ read. read) here here fault after
+  pub query_copied : (fault : ReadFault) → of_query.CopiedToFault f h start before fault after → CopiedToFault f h start before fault after
   query_copied (Limit limit.Copies) s = record { says = s.says }
   query_copied (Limit limit.Columns) s = absurd s.says
   query_copied (Limit limit.Relations) s = absurd s.says
   query_copied NoMemory s = record { says = tt }
   query_copied other s = record { says = counted_in_query s.says }
+
+  pub part_copied : {B : Type 0} (result : Result B ReadFault) → of_query.Copied f h start before result after → Copied f h start before result after
+  part_copied (Ok value) s = record { answers = tt }
+  part_copied (Err fault) s = record { answers = query_copied fault s.answers }
 
 -- ---- the limit
 
@@ -141,3 +113,12 @@ module _ {here after : Cursor} where
 pub counted_within : {A : Type 0} {f : The (Built A)} {before after : Cursor} → CopiesCounted f (λ read. read) before before after → after.copies ≤ most_copies → (taken : List Lexeme) → before.tokens ≡ taken ++ after.tokens
     → (within_copies before.copies (gl f)).front taken
 counted_within {f = f} {before = before} {after = after} r most taken e = (r.value, reached_copies f before.tokens taken after.tokens r.value e r.up_to, omega (arith, r.count, most))
+
+-- ---- refusals that are not of copies
+
+-- what stands next is refused
+refusing_other : (b : Cursor) {fault : ReadFault} → Refusing b fault → fault ≢ Limit limit.Copies
+refusing_other b n e = no_limit b.end limit.Copies (next_of b) (sym e ∙ n (λ z. cc))
+
+pub missed_other : {p : Kind → Bool} {a b : Cursor} {fault : ReadFault} → Misses p a fault b → fault ≢ Limit limit.Copies
+missed_other {b = b} m = refusing_other b m.refusing

@@ -1,8 +1,6 @@
 -- How what is told of a limit on a count goes from the parts of a form to the form.
-use Rattle.std.proofs.Common.{◌≡◌, ℕ, Bool, true, List, [], ◌∷◌, None, Result, Ok, Err, sym, subst}
-use Rattle.std.specs.Result.{IsErrAnd}
-use Rattle.std.proofs.lemmas.Result.{err_from_is_err_and}
-use Rattle.grammar.specs.Form.{alt, language, map, nest, seq, token}
+use Rattle.std.proofs.Common.{◌≡◌, ℕ, true, List, [], ◌∷◌, None, Result, Ok, Err, subst}
+use Rattle.grammar.specs.Form.{alt, language, map, nest, seq}
 use Rattle.grammar.specs.Language.{Language}
 use Rattle.grammar.specs.Reading.{Began, Exceeded, Remains, Took}
 use Rattle.grammar.proofs.Choices.{is_absent}
@@ -13,19 +11,17 @@ use Rattle.grammar.proofs.Remaining as r
 use Rattle.grammar.proofs.Steps.{IsWithin}
 use Rattle.sql_lex.specs.Lexemes.{Lexeme}
 use Rattle.sql_read.specs.declared.fault.ReadFault.{ReadFault}
-use Rattle.sql_read.specs.declared.fault.ReadFault.TheVariants.{Lex, Unexpected, LeftOut, TooDeep, Limit, NoMemory}
+use Rattle.sql_read.specs.declared.fault.ReadFault.TheVariants.{TooDeep, Limit, NoMemory}
 use Rattle.sql_read.specs.declared.fault.LimitKind.{LimitKind}
 use Rattle.sql_read.specs.declared.fault.LimitKind.TheVariants as limit
 use Rattle.sql_read.specs.Cursor.{Cursor}
-use Rattle.sql_read.specs.Eating.{Passes}
-use Rattle.sql_read.specs.Reads.{Reads, Refuses, RefusesWithin, TakesWithin, Told, TellsEntries, columns_too, entries_too, few_form, of_form}
-use Rattle.sql_grammar.specs.declared.kinds.Kind.{Kind}
+use Rattle.sql_read.specs.Reads.{Reads, Refuses, RefusesWithin, TakesWithin, Told, TellsEntries, columns_too, few_form, of_form}
 use Rattle.sql_grammar.specs.Kinds.{kind_of}
 use Rattle.sql_grammar.specs.Numbering.{Built}
 use Rattle.sql_grammar.specs.QueryGrammar.{The}
 use Rattle.sql_grammar.specs.QueryPlan.{plan}
 use Rattle.sql_grammar.proofs.QueryTable.{planned}
-use Rattle.sql_read.proofs.ReadSteps.{deep_within, entries_within, same_taken, took_token}
+use Rattle.sql_read.proofs.ReadSteps.{deep_within, entries_within, same_taken}
 use Rattle.schema_read.specs.Counting.{Counts, IsPlaced, RefusesCounted}
 use Rattle.sql_grammar.proofs.QueryForms.{known_includes, planned_includes}
 use Rattle.schema_read.proofs.Unlimited.{Below, gl}
@@ -60,28 +56,20 @@ pub took_free : {A : Type 0} {told : Told} {f : The A} {B : Language Lexeme A} {
 took_free {f = f} {d = d} {v = v} t =
     record { taken = t.took.taken; whole = t.took.whole; spelled = (deep_within d f).includes.spells t.took.taken v t.took.spelled; stops = t.took.stops }
 
--- the token alone
-pub token_taken : {p : Kind → Bool} {a b : Cursor} {t : Lexeme} → Passes p a t b → Took (free (token p)) (free (token p)) a.tokens t b.tokens
-token_taken {p = p} q = took_free (took_token {told = entries_too} {p = p} 0 q)
-
 freely : {A : Type 0} (f : The A) (here rest : List Lexeme) → Began (few_form f) here rest → Began (free f) here rest
 freely f here rest t = record { taken = t.taken; whole = t.whole; begun = (entries_within f).includes.front t.taken t.begun }
 
 module _ {A : Type 0} {told : Told} {f : The A} {d : ℕ} (n : TellsEntries told) where
   limit_begun : {a b : Cursor} (what : LimitKind) → RefusesWithin told f (few_form f) d a (Limit what) b → IsPlaced (Limit what) → Began (free f) a.tokens b.tokens
   limit_begun {a = a} {b = b} limit.Entries t p = let x = t.says.few n in freely f a.tokens b.tokens (record { taken = x.taken; whole = x.whole; begun = x.begun })
-  limit_begun {a = a} {b = b} limit.Columns t p = freely f a.tokens b.tokens (t.says.few n)
-  limit_begun {a = a} {b = b} limit.Relations t p = freely f a.tokens b.tokens (t.says.few n)
-  limit_begun {a = a} {b = b} limit.Copies t p = freely f a.tokens b.tokens (t.says.few n)
+  limit_begun {a = a} {b = b} other t p = freely f a.tokens b.tokens (t.says.few n)
 
   -- what was taken begins the form
   pub begun_free : {a b : Cursor} (fault : ReadFault) → RefusesWithin told f (few_form f) d a fault b → IsPlaced fault → Began (free f) a.tokens b.tokens
-  begun_free {a = a} {b = b} (Lex fault) t p = let x = t.says.few n in freely f a.tokens b.tokens (record { taken = x.taken; whole = x.whole; begun = x.begun })
-  begun_free {a = a} {b = b} (Unexpected at) t p = let x = t.says.few n in freely f a.tokens b.tokens (record { taken = x.taken; whole = x.whole; begun = x.begun })
-  begun_free {a = a} {b = b} (LeftOut word at) t p = let x = t.says.few n in freely f a.tokens b.tokens (record { taken = x.taken; whole = x.whole; begun = x.begun })
   begun_free {a = a} {b = b} (TooDeep at) t p = freely f a.tokens b.tokens (t.says.few n)
   begun_free (Limit what) t p = limit_begun what t p
   begun_free NoMemory t p = absurd p
+  begun_free {a = a} {b = b} other t p = let x = t.says.few n in freely f a.tokens b.tokens (record { taken = x.taken; whole = x.whole; begun = x.begun })
 
 module _ {A : Type 0} {f : The A} {d : ℕ} {a b : Cursor} {fault : ReadFault} where
   pub no_columns : Refuses f d a fault b → fault ≡ Limit limit.Columns → ⊥
@@ -121,17 +109,6 @@ pub held : {A C : Type 0} {own : LimitKind} {f : The C} {F : Language Lexeme C} 
     → Holds f F a.tokens N NC s.tokens → RefusesCounted own f F a fault b → RefusesCounted own N NC s fault b
 held {b = b} l t = record { begun = λ p. l.began b.tokens (t.begun p); passed = λ e. l.exceeded b.tokens (t.passed e) }
 
--- at the exit of a `?`
-pub counted_exits : {A X : Type 0} {own : LimitKind} {N : The A} {NC : Language Lexeme A} {s b : Cursor} {result : Result X ReadFault} {fault : ReadFault}
-    → IsErrAnd result (λ y. y ≡ fault) → RefusesCounted own N NC s fault b → Counts own N NC s result b
-counted_exits {own = own} {N = N} {NC = NC} {s = s} {b = b} {result = result} {fault = fault} i t =
-    let p = err_from_is_err_and result i in
-    subst (λ z. Counts own N NC s z b) (sym p.1) (record { answers = subst (λ z. RefusesCounted own N NC s z b) (sym p.2) t })
-
--- the same, where memory ran out
-pub counted_exits_for_memory : {A X : Type 0} {own : LimitKind} {N : The A} {NC : Language Lexeme A} {s b : Cursor} {result : Result X ReadFault} → IsErrAnd result (λ y. y ≡ NoMemory) → Counts own N NC s result b
-counted_exits_for_memory {own = own} i = counted_exits i (record { begun = λ p. absurd p; passed = λ (e : NoMemory ≡ Limit own). cc })
-
 -- ---- from a form to its parts
 
 pub whole_rest : {A : Type 0} {N N' : The A} {start : List Lexeme} → Rest N N' start N (free N') start (λ v. v)
@@ -161,14 +138,8 @@ module _ {A : Type 0} {N : The A} {NC : Language Lexeme A} {start : List Lexeme}
     pub rest_other : Below f' f → ok planned f ≡ true → is_absent kind_of (ahead planned f) here ≡ true → Rest g g' here N NC start h
     rest_other m o n = record { remains = r.left_other planned _ _ start f g (free f') (free g') here h l.remains (below_within m) o n }
 
--- ---- answers that are passed on
-
+-- of a part that has no columns
 module _ {A C X : Type 0} {f : The C} {N : The A} {NC : Language Lexeme A} {h : C → A} {a s b : Cursor} where
-  pub answers_on : {own : LimitKind} {F : Language Lexeme C} {result : Result X ReadFault} → RestOf f F a.tokens N NC s.tokens h → Counts own f F a result b → Counts own N NC s result b
-  answers_on {result = Ok value} l t = record { answers = record { read = _; took = l.remains.took t.answers.read b.tokens t.answers.took } }
-  answers_on {result = Err fault} l t = record { answers = held (holds_of l) t.answers }
-
-  -- of a part that has no columns
   pub part_counted : {d : ℕ} {k : C → Built X} {start : Cursor} {result : Result X ReadFault} → RestOf f (free f) a.tokens N NC s.tokens h → Reads f d k start a result b → Counts limit.Columns N NC s result b
   part_counted {result = Ok value} l t = record { answers = record { read = _; took = l.remains.took t.answers.read b.tokens (took_free t.answers.takes) } }
   part_counted {result = Err fault} l t = record { answers = held (holds_of l) (part_refused t.answers) }

@@ -1,8 +1,8 @@
 -- The columns of a table as they are counted by the loop that reads its elements.
-use Rattle.std.proofs.Common.{◌≡◌, ℕ, zero, suc, ◌+◌, ◌-◌, ◌≤◌, ◌<◌, nat_lt, Bool, true, false, not, ◌||◌, List, [], ◌∷◌, ◌++◌, length, length-append, inl, inr, None, refl, sym, ◌∙◌, ap, subst, arith}
-use Rattle.std.proofs.lemmas.Bool.{ltb-true, ltb-false}
+use Rattle.std.proofs.Common.{◌≡◌, ℕ, zero, suc, ◌+◌, ◌-◌, ◌≤◌, ◌<◌, nat_lt, Bool, true, false, not, ◌||◌, List, [], ◌∷◌, ◌++◌, length, inl, inr, None, refl, sym, ◌∙◌, ap, subst, arith, Result}
+use Rattle.std.proofs.lemmas.Bool.{ltb-true, ltb-false, lt-ltb}
 use Rattle.grammar.specs.Form.{seq}
-use Rattle.grammar.specs.Language.{HasFronts, Language, alt_language, seq_language}
+use Rattle.grammar.specs.Language.{HasFronts, Language, alt_language, seq_language, no_language}
 use Rattle.grammar.specs.Reading.{Began, Exceeded, Passes, Stops, Took}
 use Rattle.grammar.proofs.Begun.{nothing_began}
 use Rattle.grammar.proofs.Choices.{is_absent}
@@ -11,11 +11,11 @@ use Rattle.grammar.proofs.Plans.{alt_within, nothing_within, seq_within}
 use Rattle.grammar.proofs.Predictions.{ahead, known}
 use Rattle.grammar.proofs.Remaining as r
 use Rattle.grammar.proofs.Sets.{and_both}
-use Rattle.grammar.proofs.Steps.{IsWithin}
+use Rattle.grammar.proofs.Steps.{IsWithin, no_room}
 use Rattle.sql_lex.specs.Lexemes.{Lexeme}
 use Rattle.sql_grammar.specs.declared.kinds.Kind.TheVariants as k
-use Rattle.sql_grammar.specs.Kinds.{kind_of, same}
-use Rattle.sql_grammar.specs.Numbering.{plain}
+use Rattle.sql_grammar.specs.Kinds.{kind_of, same, among, name_kinds}
+use Rattle.sql_grammar.specs.Numbering.{Built}
 use Rattle.sql_grammar.specs.QueryGrammar.{The}
 use Rattle.sql_grammar.proofs.EveryKind.{every_kind_is_there}
 use Rattle.sql_grammar.proofs.QueryTable.{planned}
@@ -23,23 +23,23 @@ use Rattle.sql_read.specs.declared.fault.ReadFault.{ReadFault}
 use Rattle.sql_read.specs.declared.fault.ReadFault.TheVariants.{Limit, TooDeep}
 use Rattle.sql_read.specs.declared.fault.LimitKind.TheVariants as limit
 use Rattle.sql_read.specs.Cursor.{Cursor}
-use Rattle.sql_read.specs.Eating.{Overflows, PassesWithin, Stays}
+use Rattle.sql_read.specs.Eating.{Overflows, PassesWithin, Stays, is_next}
 use Rattle.sql_read.specs.ReadingEntries.{allowed}
-use Rattle.sql_read.specs.Reads.{GivesWithin, columns_too, few_form}
-use Rattle.sql_read.proofs.ReadSteps.{absent_unless, deep_within, same_taken}
-use Rattle.schema_read.specs.Counting.{RefusesCounted, TakesCounted, element_behind, narrowly}
+use Rattle.sql_read.specs.Reads.{columns_too, few_form, Reads, Refuses, RefusesWithin}
+use Rattle.sql_read.proofs.ReadSteps.{absent_unless, same_taken, absent_where, entries_within}
+use Rattle.schema_read.specs.Counting.{RefusesCounted, TakesCounted, element_behind, narrowly, Counts}
 use Rattle.schema_read.specs.StatementGrammar as g
-use Rattle.schema_read.specs.StatementLimits.{few_columns, most_columns, most_further_columns}
-use Rattle.schema_read.specs.StatementTrees as t
+use Rattle.schema_read.specs.StatementLimits.{few_columns, most_columns}
 use Rattle.schema_read.specs.StatementTrees.{Elements}
-use Rattle.schema_read.proofs.CountSteps.{Rest, RestOf, below_within, free, held, rest_first, rest_second, same_read, whole_rest}
-use Rattle.schema_read.proofs.Readings.{value_built}
+use Rattle.schema_read.proofs.CountSteps.{Rest, RestOf, below_within, free, held, holds_of, no_columns, part_counted}
 use Rattle.schema_read.proofs.FewColumns.{Comma, behind, behind_comma, each_next, element_and_more, few, next, no_column, one_column, sorted}
-use Rattle.schema_read.proofs.TableElements.{listed}
 use Rattle.schema_read.proofs.StatementFronts.{columns_below}
 use Rattle.sql_grammar.proofs.QueryForms.{known_includes}
 use Rattle.schema_read.proofs.StatementColumns.{in_column, in_rule}
 use Rattle.schema_read.proofs.Unlimited.{Below, itself}
+use Rattle.grammar.proofs.Fronts.{no_fronts}
+use Rattle.sql_read.proofs.ReadLoops.{IsFirst, first_there}
+use Rattle.schema_read.specs.StatementReaders.{constraint_kinds}
 
 column_fronts : HasFronts (free g.column)
 column_fronts = (known planned g.column refl).fronts
@@ -97,24 +97,20 @@ comma_at count = go (fits count) refl
 
 -- ---- the loop
 
+abbrev pub listed : The (Elements × List Elements)
+listed = seq g.column g.elements
+
 -- within the limit
 abbrev pub narrow_listed : The (Elements × List Elements)
 narrow_listed = seq g.column narrowly
 
 -- so many columns were read, and what may follow them is few
-pub record Narrow (start here : Cursor) (count : ℕ) : Type 0 where
-  join : List Elements → Elements × List Elements
+pub record Narrow (start here : Cursor) (count : ℕ) (join : List Elements → Elements × List Elements) : Type 0 where
   rest : RestOf (each_next g.element) (few (left count)) here.tokens listed (free narrow_listed) start.tokens join
 
-first_listed : {start : List Lexeme} → Rest listed narrow_listed start listed (free narrow_listed) start (λ v. v)
-first_listed = whole_rest
-
-pub narrow_first : {start here : Cursor} {v : Elements} → Took (free g.column) (free g.column) start.tokens v here.tokens → Narrow start here 1
-narrow_first {v = v} t =
-    let l = rest_second (itself g.column) (columns_below most_further_columns) first_listed refl t in record { join = λ more. (v, more); rest = record { remains = l.remains } }
-
-pub counted_as : {start here : Cursor} {count so_far : ℕ} → count ≡ so_far → Narrow start here so_far → Narrow start here count
-counted_as {start = start} {here = here} e l = subst (Narrow start here) (sym e) l
+-- one column was read
+pub narrow_first : {start here : Cursor} {count : ℕ} {join : List Elements → Elements × List Elements} → count ≡ 1 → Rest g.elements narrowly here.tokens listed (free narrow_listed) start.tokens join → Narrow start here count join
+narrow_first {start = start} {here = here} {join = join} e l = subst (λ n. Narrow start here n join) (sym e) (record { rest = record { remains = l.remains } })
 
 few_none : (m : ℕ) → (few m).spells [] []
 few_none zero = refl
@@ -151,10 +147,7 @@ first_of_column here (t ∷ taken) rest v e s = (t, taken ++ rest, e, inl (colum
 abbrev pub ListRefused : Cursor → ReadFault → Cursor → Type 0
 ListRefused start fault after = RefusesCounted limit.Columns listed (free narrow_listed) start fault after
 
-pub first_refused : {start after : Cursor} {fault : ReadFault} → RefusesCounted limit.Columns g.column (free g.column) start fault after → ListRefused start fault after
-first_refused t = held (rest_first (itself g.column) (columns_below most_further_columns) first_listed refl) t
-
-module _ {start here : Cursor} {count : ℕ} (l : Narrow start here count) where
+module _ {start here : Cursor} {count : ℕ} {join : List Elements → Elements × List Elements} (l : Narrow start here count join) where
   -- what was taken up to here begins the list
   list_begins : Began (free narrow_listed) start.tokens here.tokens
   list_begins = l.rest.remains.began here.tokens (nothing_began (few (left count)) (few_within (left count)).fronts here.tokens)
@@ -164,8 +157,8 @@ module _ {start here : Cursor} {count : ℕ} (l : Narrow start here count) where
   listed_counted q =
       subst (λ z. TakesCounted listed (free narrow_listed) start z) (sym q.still)
       (record {
-        read = l.join [];
-        took = r.left_last planned _ _ start.tokens None (next g.element) (free (next g.element)) (below_within (itself (next g.element))) refl (few (left count)) (few_none (left count)) here.tokens l.join l.rest.remains
+        read = join [];
+        took = r.left_last planned _ _ start.tokens None (next g.element) (free (next g.element)) (below_within (itself (next g.element))) refl (few (left count)) (few_none (left count)) here.tokens join l.rest.remains
             (absent_unless (same k.Comma) (ahead planned (next g.element)) refl here.tokens q.not_next);
       })
 
@@ -178,62 +171,60 @@ module _ {start here : Cursor} {count : ℕ} (l : Narrow start here count) where
 
   module _ {room : ℕ} {comma : Lexeme} {mid : Cursor} (q : PassesWithin (same k.Comma) room here comma mid) where
     abbrev Left : Bool → Type 0
-    Left b = RestOf element_and_more (behind b (fewer count) (left count)) mid.tokens listed (free narrow_listed) start.tokens (λ v. l.join (v.0 ∷ v.1))
+    Left b = RestOf element_and_more (behind b (fewer count) (left count)) mid.tokens listed (free narrow_listed) start.tokens (λ v. join (v.0 ∷ v.1))
 
     element_left : Left (fits count)
     element_left = behind_comma element_fronts (comma_at count) comma q.passes.of_kind q.passes.stood l.rest
 
     column_taken : (b : Bool) → Left b → (v : Elements) (after : Cursor) (taken : List Lexeme) → mid.tokens ≡ taken ++ after.tokens → (allowed b (free g.column)).spells taken v
-        → Stops (free g.element) taken after.tokens → Narrow start after (count + 1)
+        → Stops (free g.element) taken after.tokens → Narrow start after (count + 1) (λ more. join (v ∷ more))
     column_taken false e v after taken w s i = absurd s
     column_taken true e v after taken w s i =
         let f = first_of_column mid.tokens taken after.tokens v w s in
         let one = r.left_by_token planned _ _ start.tokens (seq g.column (each_next g.element)) (seq g.constraint (each_next g.element)) _ _ mid.tokens _ e.remains
         (seq_within _ _ _ _ (below_within (itself g.constraint)) (few_within (left count))) refl f.0 f.1 f.2 f.3 in
         record {
-          join = λ more. l.join (v ∷ more);
           rest = record {
             remains = r.left_second planned _ _ start.tokens g.column (each_next g.element) (free g.column) (few (fewer count)) (below_within (itself g.column)) (few_within (fewer count)) refl mid.tokens _ one v after.tokens
                 (record { taken = taken; whole = w; spelled = s; stops = element_stops_column taken after.tokens i });
           };
         }
 
-    rule_taken : (v : Elements) (after : Cursor) (taken : List Lexeme) → mid.tokens ≡ taken ++ after.tokens → (free g.constraint).spells taken v → Stops (free g.element) taken after.tokens → Narrow start after count
+    rule_taken : (v : Elements) (after : Cursor) (taken : List Lexeme) → mid.tokens ≡ taken ++ after.tokens → (free g.constraint).spells taken v → Stops (free g.element) taken after.tokens
+        → Narrow start after count (λ more. join (v ∷ more))
     rule_taken v after taken w s i =
         let one = r.left_other planned _ _ start.tokens (seq g.column (each_next g.element)) (seq g.constraint (each_next g.element)) _ _ mid.tokens _ element_left.remains
         (seq_within _ _ _ _ (allowed_within (fits count)) (few_within (fewer count))) refl (no_column_there mid.tokens taken after.tokens v w s) in
         record {
-          join = λ more. l.join (v ∷ more);
           rest = record {
             remains = r.left_second planned _ _ start.tokens g.constraint (each_next g.element) (free g.constraint) (few (left count)) (below_within (itself g.constraint)) (few_within (left count)) refl mid.tokens _ one v after.tokens
                 (record { taken = taken; whole = w; spelled = s; stops = element_stops_rule taken after.tokens i });
           };
         }
 
-    element_taken : (v : Elements) (after : Cursor) (taken : List Lexeme) → mid.tokens ≡ taken ++ after.tokens → (element_if (fits count)).spells taken v → Stops (free g.element) taken after.tokens
-        → Narrow start after (count + length v.columns)
-    element_taken v after taken w (inl s) i =
+    -- one more element, with its columns
+    pub record More (v : Elements) (after : Cursor) : Type 0 where
+      pub counted : Narrow start after (count + length v.columns) (λ more. join (v ∷ more))
+      pub fits_too : count + length v.columns ≤ most_columns
+
+    more_as : (v : Elements) (after : Cursor) (so_far : ℕ) → count + length v.columns ≡ so_far → so_far ≤ most_columns → Narrow start after so_far (λ more. join (v ∷ more)) → More v after
+    more_as v after so_far e i l = record { counted = subst (λ n. Narrow start after n (λ more. join (v ∷ more))) (sym e) l; fits_too = subst (λ n. n ≤ most_columns) (sym e) i }
+
+    element_taken : count ≤ most_columns → (v : Elements) (after : Cursor) (taken : List Lexeme) → mid.tokens ≡ taken ++ after.tokens → (element_if (fits count)).spells taken v → Stops (free g.element) taken after.tokens → More v after
+    element_taken n v after taken w (inl s) i =
         let one : length v.columns ≡ 1 = in_column taken v ((known_includes None g.column).spells taken v ((allowed_within (fits count)).includes.spells taken v s)) in
-        counted_as (ap (λ n. count + n) one) (column_taken (fits count) element_left v after taken w s i)
-    element_taken v after taken w (inr s) i =
-        let none : length v.columns ≡ 0 = in_rule taken v ((known_includes None g.constraint).spells taken v s) in
-        let same_count : count + length v.columns ≡ count = omega (arith, none) in
-        counted_as same_count (rule_taken v after taken w s i)
-
-    narrow_more : (after : Cursor) (t : TakesCounted g.element (element_behind count) mid after) → Narrow start after (count + length t.read.columns)
-    unfolding element_behind
-    narrow_more after t = element_taken t.read after t.took.taken t.took.whole t.took.spelled t.took.stops
-
-    pub element_counted : (elements : Elements) {after : Cursor} {levels : ℕ} {value : Elements} → count ≡ length elements.columns
-        → GivesWithin columns_too g.element (few_form g.element) levels (λ read. plain (t.with_elements elements read)) mid mid value after
-        → TakesCounted g.element (element_behind count) mid after → Narrow start after (length value.columns)
-    element_counted elements {after = after} {levels = levels} {value = value} e gives taken = counted_as longer (narrow_more after taken)
+        more_as v after (count + 1) (ap (λ n. count + n) one) (has_room (fits count) refl s) (column_taken (fits count) element_left v after taken w s i)
       where
-        one_read : gives.read ≡ taken.read
-        one_read = same_read g.element refl (deep_within levels g.element) (element_within count) gives.takes.took taken.took
+        has_room : (b : Bool) → fits count ≡ b → (allowed b (free g.column)).spells taken v → count + 1 ≤ most_columns
+        has_room true e s = let less : count < 32 = ltb-true count 32 e in omega (arith, less)
+        has_room false e s = absurd s
+    element_taken n v after taken w (inr s) i =
+        let none : length v.columns ≡ 0 = in_rule taken v ((known_includes None g.constraint).spells taken v s) in
+        more_as v after count (omega (arith, none)) n (rule_taken v after taken w s i)
 
-        longer : length value.columns ≡ count + length taken.read.columns
-        longer = omega (arith, e, ap (λ z. length z.columns) (value_built gives.builds), length-append elements.columns gives.read.columns, ap (λ z. length z.columns) one_read)
+    pub element_counted : count ≤ most_columns → (v : Elements) (after : Cursor) → Took (free g.element) (element_behind count) mid.tokens v after.tokens → More v after
+    unfolding element_behind
+    element_counted n v after t = element_taken n v after t.taken t.whole t.spelled t.stops
 
     -- ---- an element that is refused
 
@@ -269,3 +260,63 @@ module _ {start here : Cursor} {count : ℕ} (l : Narrow start here count) where
       begun = λ p. let x = t.begun p in element_left.remains.began after.tokens (record { taken = x.taken; whole = x.whole; begun = begins_behind (fits count) x.taken x.begun });
       passed = λ e. element_left.remains.exceeded after.tokens (exceeded_behind (fits count) after.tokens (t.passed e));
     }
+
+-- ---- a name where no column may follow
+
+name_next : (s : Cursor) → is_next (among name_kinds) s.tokens ≡ true → IsFirst (among name_kinds) s.tokens
+name_next s n = first_there (among name_kinds) s.tokens n
+
+pub column_refused : {levels : ℕ} {s : Cursor} → is_next (among name_kinds) s.tokens ≡ true → RefusesWithin columns_too g.column (few_form g.column) levels s (Limit limit.Columns) s
+column_refused {s = s} n =
+    let first = name_next s n in
+    record {
+      says = record {
+        counts = tt;
+        token = first.first;
+        more = first.others;
+        next = first.stood;
+        goes_on = record { taken = first.first ∷ []; whole = first.stood; begun = inl (inr (first.first, refl, first.of_kind)) };
+        few = λ i. nothing_began (few_form g.column) (entries_within g.column).fronts s.tokens;
+      };
+    }
+
+pub column_too_many : {s : Cursor} → is_next (among name_kinds) s.tokens ≡ true → RefusesCounted limit.Columns g.column no_language s (Limit limit.Columns) s
+column_too_many {s = s} n =
+    let first = name_next s n in
+    record {
+      begun = λ p. nothing_began no_language no_fronts s.tokens;
+      passed = λ e. subst (λ z. Exceeded (free g.column) no_language z z) (sym first.stood) (no_room (free g.column) first.first first.others (inl (inr (first.first, refl, first.of_kind))));
+    }
+
+pub column_missed : {levels : ℕ} {s : Cursor} {fault : ReadFault} → Refuses g.column levels s fault s → RefusesCounted limit.Columns g.column no_language s fault s
+column_missed {s = s} t = record { begun = λ p. nothing_began no_language no_fronts s.tokens; passed = λ e. absurd (no_columns t e) }
+
+-- ---- elements
+
+rule_left : (here : List Lexeme) (b : Bool) → is_next (among constraint_kinds) here ≡ true → RestOf g.constraint (free g.constraint) here g.element (element_if b) here (λ v. v)
+rule_left here b n = record {
+  remains = r.left_other planned _ _ here g.column g.constraint (allowed b (free g.column)) (free g.constraint) here (λ v. v) (r.remains_whole (free g.element) (element_if b) here) (allowed_within b) refl
+      (absent_where (among constraint_kinds) (ahead planned g.column) refl here n);
+}
+
+column_left : (here : List Lexeme) (b : Bool) → is_next (among constraint_kinds) here ≡ false → RestOf g.column (allowed b (free g.column)) here g.element (element_if b) here (λ v. v)
+column_left here b n = record {
+  remains = r.left_first planned _ _ here g.column g.constraint (allowed b (free g.column)) (free g.constraint) here (λ v. v) (r.remains_whole (free g.element) (element_if b) here) (below_within (itself g.constraint)) refl
+      (absent_unless (among constraint_kinds) (ahead planned g.constraint) refl here n);
+}
+
+module _ {X : Type 0} {levels : ℕ} {k : Elements → Built X} {s b : Cursor} {result : Result X ReadFault} where
+  pub element_rule : (count : ℕ) → is_next (among constraint_kinds) s.tokens ≡ true → Reads g.constraint levels k s s result b → Counts limit.Columns g.element (element_behind count) s result b
+  unfolding element_behind
+  element_rule count n t = part_counted (rule_left s.tokens (fits count) n) t
+
+  pub element_column : (count : ℕ) → count < 32 → is_next (among constraint_kinds) s.tokens ≡ false → Reads g.column levels k s s result b → Counts limit.Columns g.element (element_behind count) s result b
+  unfolding element_behind
+  element_column count room n t =
+      subst (λ z. Counts limit.Columns g.element (element_if z) s result b) (sym (lt-ltb count 32 room)) (part_counted (column_left s.tokens true n) t)
+
+pub element_full : (count : ℕ) {s : Cursor} {fault : ReadFault} → count ≡ 32 → is_next (among constraint_kinds) s.tokens ≡ false → RefusesCounted limit.Columns g.column no_language s fault s
+    → RefusesCounted limit.Columns g.element (element_behind count) s fault s
+unfolding element_behind
+element_full count {s = s} {fault = fault} e n t =
+    subst (λ z. RefusesCounted limit.Columns g.element (element_if (fits z)) s fault s) (sym e) (held (holds_of (column_left s.tokens false n)) t)

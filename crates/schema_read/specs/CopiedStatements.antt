@@ -1,6 +1,6 @@
 -- What the functions that read statements and cases tell of what was copied where they refuse a token. As the reader of queries they tell it by
 -- texts that go on from there with tokens that copy nothing.
-use Rattle.std.specs.Prelude.{◌≢◌, ◌≤◌, ◌+◌, None, Result, Ok, Err, IfErr}
+use Rattle.std.specs.Prelude.{◌≤◌, ◌+◌, None, Result, Ok, Err}
 use Rattle.grammar.specs.Completions.{Reaches}
 use Rattle.sql_read.specs.declared.fault.ReadFault.{ReadFault}
 use Rattle.sql_read.specs.declared.fault.ReadFault.TheVariants.{Lex, Unexpected, LeftOut, TooDeep, Limit, NoMemory}
@@ -40,7 +40,3 @@ Answers f h start before (Err fault) after = CopiedToFault f h start before faul
 -- What a form copied that was read from `before` to `after`. What a whole form copies is in what it builds.
 pub record Copied {V A B : Type 0} (f : The V) (h : V → Built A) (start before : Cursor) (result : Result B ReadFault) (after : Cursor) : Type 0 where
   pub answers : Answers f h start before result after
-
--- of what no view is part of
-abbrev pub CopiesNothing : {A : Type 0} → Result A ReadFault → Type 0
-CopiesNothing result = IfErr result (λ fault. fault ≢ Limit limit.Copies)

@@ -5,11 +5,11 @@ use Rattle.grammar.specs.Reading.{Began, Exceeded, Took}
 use Rattle.sql_lex.specs.Lexemes.{Lexeme}
 use Rattle.sql_model.specs.declared.statement.Statement.{Statement}
 use Rattle.sql_read.specs.declared.fault.ReadFault.{ReadFault}
-use Rattle.sql_read.specs.declared.fault.ReadFault.TheVariants.{Lex, Unexpected, LeftOut, TooDeep, Limit, NoMemory}
+use Rattle.sql_read.specs.declared.fault.ReadFault.TheVariants.{Limit}
 use Rattle.sql_read.specs.declared.fault.LimitKind.{LimitKind}
-use Rattle.sql_read.specs.declared.fault.LimitKind.TheVariants as limit
 use Rattle.sql_read.specs.Cursor.{Cursor}
 use Rattle.sql_read.specs.ReadingEntries.{allowed}
+pub use Rattle.sql_read.specs.Reads.{IsPlaced}
 use Rattle.sql_read.specs.Reads.{Told, ReadsWithin, few_form, of_form}
 use Rattle.sql_grammar.specs.Numbering.{Built, each}
 use Rattle.sql_grammar.specs.QueryGrammar.{The}
@@ -20,18 +20,6 @@ use Rattle.schema_read.specs.StatementTrees.{Elements}
 -- a form was read, where so much is told of its limits
 abbrev pub ReadsTelling : {V A : Type 0} → Told → The V → ℕ → (V → Built A) → Cursor → Cursor → Result A ReadFault → Cursor → Type 0
 ReadsTelling told f levels h start before result after = ReadsWithin told f (few_form f) levels h start before result after
-
--- the faults that tell where they come
-abbrev pub IsPlaced : ReadFault → Type 0
-IsPlaced (Lex fault) = Unit {0}
-IsPlaced (Unexpected at) = Unit {0}
-IsPlaced (LeftOut word at) = Unit {0}
-IsPlaced (TooDeep at) = Unit {0}
-IsPlaced (Limit limit.Columns) = Unit {0}
-IsPlaced (Limit limit.Entries) = Unit {0}
-IsPlaced (Limit limit.Relations) = Unit {0}
-IsPlaced (Limit limit.Copies) = Unit {0}
-IsPlaced NoMemory = ⊥
 
 -- In these C is what may be read of the form within the limit.
 

@@ -20,6 +20,7 @@ pub mod Statements
 pub mod StatementLookahead
 pub mod StatementLimits
 pub mod FewEntries
+pub mod StatementReaders
 pub mod CopiedStatements
 pub mod Counting
 pub mod ReadingStatements

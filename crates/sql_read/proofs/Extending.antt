@@ -1,5 +1,5 @@
 -- Reading goes on: each step of it, and one step after another.
-use Rattle.std.proofs.Common.{◌≡◌, ℕ, ◌+◌, ◌<◌, Bool, List, [], ◌∷◌, ◌++◌, length, drop, refl, sym, ◌∙◌, ap, subst, append_assoc, arith}
+use Rattle.std.proofs.Common.{◌≡◌, ℕ, ◌+◌, Bool, List, [], ◌∷◌, ◌++◌, length, drop, refl, sym, ◌∙◌, ap, subst, append_assoc, arith}
 use Rattle.std.proofs.lemmas.List.{append-nil}
 use Rattle.sql_lex.specs.Lexemes.{Lexeme}
 use Rattle.sql_read.specs.declared.fault.ReadFault.{ReadFault}
@@ -64,14 +64,3 @@ extends_misses q = extends_still q.stays.still
 
 pub extends_overflows : {p : Kind → Bool} {room : ℕ} {a b : Cursor} {fault : ReadFault} → Overflows p room a fault b → Extends a b
 extends_overflows q = extends_still q.still
-
--- ---- fewer tokens are left
-
-pub passes_shorter : {p : Kind → Bool} {a b : Cursor} {t : Lexeme} → Passes p a t b → length b.tokens < length a.tokens
-passes_shorter q = omega (arith, ap length q.stood)
-
-pub extends_shorter : (a : Cursor) {b c : Cursor} → length b.tokens < length a.tokens → Extends b c → length c.tokens < length a.tokens
-extends_shorter a n x = omega (arith, n, x.passed, x.counted)
-
-pub shorter : {p : Kind → Bool} {room : ℕ} {a b c : Cursor} {t : Lexeme} → PassesWithin p room a t b → Extends b c → length c.tokens < length a.tokens
-shorter {a = a} q x = extends_shorter a (passes_shorter q.passes) x

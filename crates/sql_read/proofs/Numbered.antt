@@ -12,6 +12,8 @@ use Rattle.sql_model.specs.contracts.symbols.LitPartialEq.TheImpl.{eq-value}
 use Rattle.sql_model.specs.Syntax.{Name}
 use Rattle.sql_read.specs.Cursor.{Cursor}
 use Rattle.sql_read.specs.Eating.{Extends, GoesOn, Numbers}
+use Rattle.sql_read.specs.Reading as reading
+use Rattle.sql_read.specs.Reading.{Gives}
 use Rattle.sql_grammar.specs.Numbering.{Built, place_of, with_member, is_same_literal, literal_number, symbol_number}
 
 -- ---- lists in which each member stands once
@@ -52,6 +54,12 @@ numbered : (b : Built ℕ) (before after : Cursor) (result : Result ℕ AllocErr
     → after ≡ record before { numbers = (b.build before.numbers).1 } → IfOk result (λ number. Numbers b before number after)
 numbered b before after (Ok number) place e i m = record { is = e ∙ i; moved = m }
 numbered b before after (Err none) place e i m = tt
+
+pub numbers_given : (b : Built ℕ) (before after : Cursor) (result : Result ℕ AllocError) → IfOk result (λ number. Numbers b before number after)
+    → IfOk result (λ number. Gives (Ok number) after (reading.numbered b before))
+unfolding reading.numbered
+numbers_given b before after (Ok number) n = rw (n.is, n.moved) refl
+numbers_given b before after (Err none) n = tt
 
 module _ {seen before after : Cursor} (v : seen ≡ before) where
   pub symbol_numbered : (new : Name) (result : Result ℕ AllocError) (place : ℕ) (keys : List Name) → IfOk result (λ number. number ≡ place)

@@ -1,5 +1,5 @@
 -- More steps of a reader, on to what it has copied: loops, counted parts, and what goes by the value of a first part.
-use Rattle.std.proofs.Common.{◌≡◌, ℕ, List, [], ◌∷◌, ◌⊎◌, inr, Option, None, Some, sym, subst}
+use Rattle.std.proofs.Common.{inl, ◌≡◌, ℕ, List, [], ◌∷◌, ◌⊎◌, inr, Option, None, Some, sym, subst}
 use Rattle.grammar.specs.Reading.{Took}
 use Rattle.grammar.specs.Form.{counted, fork, star}
 use Rattle.grammar.proofs.Completing as c
@@ -24,9 +24,6 @@ module _ {A : Type 0} {N : The A} {start : List Lexeme} where
     pub on_next_taken : {fewer : Option ℕ} (d : ℕ) {v : C} {mid : List Lexeme} → Took (of_form None f) (of_form (Some d) f) here v mid → Going (star fewer f) mid N start (λ vs. h (v ∷ vs))
     on_next_taken {fewer = fewer} d {v = v} {mid = mid} t = record { goes = c.left_next planned d copies_nothing (of_form None N) start most fewer f here h l.goes v mid t }
 
-    pub on_next : {fewer : Option ℕ} {d : ℕ} {v : C} {mid : List Lexeme} → Takes f d here v mid → Going (star fewer f) mid N start (λ vs. h (v ∷ vs))
-    on_next {d = d} t = on_next_taken d t.took
-
     -- one begins, and none follows it
     pub on_last : Going f here N start (λ v. h (v ∷ []))
     on_last = record { goes = c.left_last planned 0 copies_nothing (of_form None N) start most None f here h l.goes }
@@ -40,6 +37,10 @@ module _ {A : Type 0} {N : The A} {start : List Lexeme} where
     pub on_either : {k : C → E} {j : D → E} → Filled e k → Filled i j → Going f here N start (λ v. h (either_of planned 0 copies_nothing (of_form None N) start k j v))
     on_either {k = k} {j = j} p q = record { goes = c.left_of_either planned 0 copies_nothing (of_form None N) start f e i here h l.goes k j (plan_filled e k p) (plan_filled i j q) }
 
-    -- what follows a second kind of first part
+    -- what follows a first kind of first part
+    pub on_behind_first : {d : ℕ} {v : C} {mid : List Lexeme} → Takes f d here (inl v) mid → Going e mid N start (λ k. h (k v))
+    on_behind_first {d = d} {v = v} {mid = mid} t = record { goes = c.left_of_first planned d copies_nothing (of_form None N) start f e i here h l.goes v mid t.took }
+
+    -- and a second kind
     pub on_behind_other : {d : ℕ} {v : D} {mid : List Lexeme} → Takes f d here (inr v) mid → Going i mid N start (λ k. h (k v))
     on_behind_other {d = d} {v = v} {mid = mid} t = record { goes = c.left_of_other planned d copies_nothing (of_form None N) start f e i here h l.goes v mid t.took }

@@ -1,7 +1,5 @@
 -- How what a part has copied where it is refused is what the whole has copied there.
-use Rattle.std.proofs.Common.{◌≡◌, ℕ, ◌+◌, Bool, List, ◌∷◌, Some, None, Result, Ok, Err, sym, ◌∙◌, ap, subst}
-use Rattle.std.specs.Result.{IsErrAnd}
-use Rattle.std.proofs.lemmas.Result.{err_from_is_err_and}
+use Rattle.std.proofs.Common.{◌≡◌, ℕ, ◌+◌, Bool, List, ◌∷◌, Some, None, Result, Ok, Err, sym, ◌∙◌, subst}
 use Rattle.grammar.specs.Completions.{Continues}
 use Rattle.grammar.specs.Reading.{Took}
 use Rattle.grammar.specs.Form.{alt, map, nest, ref, seq, token}
@@ -13,17 +11,18 @@ use Rattle.sql_read.specs.declared.fault.ReadFault.TheVariants.{Lex, Unexpected,
 use Rattle.sql_read.specs.Copied.{Copied, CopiedToFault, CopiesSoFar, CopiesTooMuch, Says}
 use Rattle.sql_read.specs.Cursor.{Cursor, next_of}
 use Rattle.sql_grammar.specs.QueryCopies.{copies_nothing, most_copies}
-use Rattle.sql_read.specs.Eating.{Misses, Overflows, Passes, Refusing}
+use Rattle.sql_read.specs.Eating.{Passes}
 use Rattle.sql_grammar.specs.declared.kinds.Kind.{Kind}
 use Rattle.sql_grammar.specs.Numbering.{Built}
 use Rattle.sql_grammar.specs.QueryGrammar.{Production, Read, The}
 use Rattle.sql_grammar.specs.QueryPlan.{plan}
 use Rattle.sql_read.specs.Reads.{of_form, Takes}
+use Rattle.sql_read.specs.Refusals.{refusal}
 use Rattle.sql_grammar.proofs.QueryFillings.{Filled}
 use Rattle.sql_grammar.proofs.CopySteps.{plan_filled}
 use Rattle.sql_grammar.proofs.QueryTable.{planned}
 use Rattle.sql_read.proofs.ReadSteps.{took_token}
-use Rattle.sql_read.proofs.RefusedNext.{no_limit}
+use Rattle.sql_read.proofs.RefusedNext.{by_refusal}
 
 -- f goes on here in a text of N that began at the start: what completes f here completes N from the start
 pub record Going {C A : Type 0} (f : The C) (here : List Lexeme) (N : The A) (start : List Lexeme) (h : C → A) : Type 0 where
@@ -71,21 +70,12 @@ module _ {A : Type 0} {N : The A} {start : List Lexeme} where
 abbrev pub SamePrice : {C X Y : Type 0} → Cursor → (C → Built Y) → Cursor → (C → Built X) → Type 0
 SamePrice {C = C} start whole began part = (v : C) → start.copies + (whole v).copies ≡ began.copies + (part v).copies
 
-module _ {C A X Y : Type 0} {f : The C} {N : The A} {part : C → Built X} {whole : A → Built Y} {h : C → A} {began before start first after : Cursor} where
-  -- the whole has copied what its part has
-  copied_to : {fault : ReadFault} → Going f before.tokens N first.tokens h → SamePrice start (λ v. whole (h v)) began part
-      → CopiedToFault f part began before fault after → CopiedToFault N whole start first fault after
-  copied_to {fault = fault} l e s = record { says = by fault s.says }
+-- what is said of a part, said of the whole
+module _ {C A X Y : Type 0} {f : The C} {N : The A} {part : C → Built X} {whole : A → Built Y} {began before start first after : Cursor} (so_far : CopiesSoFar f part began before after → CopiesSoFar N whole start first after)
+    (too_much : CopiesTooMuch f part began before after → CopiesTooMuch N whole start first after) where
+  pub copied_by : {fault : ReadFault} → CopiedToFault f part began before fault after → CopiedToFault N whole start first fault after
+  copied_by {fault = fault} s = record { says = by fault s.says }
     where
-      so_far : CopiesSoFar f part began before after → CopiesSoFar N whole start first after
-      so_far r = record { value = h r.value; up_to = l.goes.reaches r.value after.tokens r.up_to; count = r.count ∙ sym (e r.value) }
-
-      too_much : CopiesTooMuch f part began before after → CopiesTooMuch N whole start first after
-      too_much r = record {
-        token = r.token;
-        overspends = c.overspends_from copies_nothing (of_form None f) before.tokens (of_form None N) first.tokens h l.goes (λ v. (part v).copies) (λ v. (whole v).copies) most_copies began.copies start.copies e (r.token ∷ after.tokens) r.overspends;
-      }
-
       by : (fault : ReadFault) → Says f part began before fault after → Says N whole start first fault after
       by (Lex fault) s = so_far s
       by (Unexpected at) s = so_far s
@@ -97,87 +87,37 @@ module _ {C A X Y : Type 0} {f : The C} {N : The A} {part : C → Built X} {whol
       by (Limit limit.Relations) s = s
       by NoMemory s = tt
 
+module _ {C A X Y : Type 0} {f : The C} {N : The A} {part : C → Built X} {whole : A → Built Y} {h : C → A} {began before start first after : Cursor} where
+  -- the whole has copied what its part has
+  copied_to : {fault : ReadFault} → Going f before.tokens N first.tokens h → SamePrice start (λ v. whole (h v)) began part
+      → CopiedToFault f part began before fault after → CopiedToFault N whole start first fault after
+  copied_to l e = copied_by
+      (λ r. record { value = h r.value; up_to = l.goes.reaches r.value after.tokens r.up_to; count = r.count ∙ sym (e r.value) })
+      (λ r. record {
+        token = r.token;
+        overspends = c.overspends_from copies_nothing (of_form None f) before.tokens (of_form None N) first.tokens h l.goes (λ v. (part v).copies) (λ v. (whole v).copies) most_copies began.copies start.copies e
+            (r.token ∷ after.tokens) r.overspends;
+      })
+
   pub copied_in : {B : Type 0} {result : Result B ReadFault} → Going f before.tokens N first.tokens h → SamePrice start (λ v. whole (h v)) began part
       → Copied f part began before result after → Copied N whole start first result after
   copied_in {result = Ok value} l e q = record { answers = tt }
   copied_in {result = Err fault} l e q = record { answers = copied_to l e q.answers }
 
-  -- the same, at the exit of a `?`
-  pub copied_exit : {D : Type 0} {fault : ReadFault} {result : Result D ReadFault} → IsErrAnd result (λ y. y ≡ fault) → Going f before.tokens N first.tokens h → SamePrice start (λ v. whole (h v)) began part
-      → CopiedToFault f part began before fault after → Copied N whole start first result after
-  copied_exit {fault = fault} {result = result} i l e q =
-      let p = err_from_is_err_and result i in
-      subst (λ z. Copied N whole start first z after) (sym p.1) (record { answers = subst (λ z. CopiedToFault N whole start first z after) (sym p.2) (copied_to l e q) })
-
--- a refusal that is neither of copies nor of what no query counts
-abbrev pub Other : ReadFault → Type 0
-Other (Lex fault) = Unit {0}
-Other (Unexpected at) = Unit {0}
-Other (LeftOut word at) = Unit {0}
-Other (TooDeep at) = Unit {0}
-Other (Limit limit.Entries) = Unit {0}
-Other (Limit limit.Copies) = ⊥
-Other (Limit limit.Columns) = ⊥
-Other (Limit limit.Relations) = ⊥
-Other NoMemory = Unit {0}
-
-pub record IsOther (fault : ReadFault) : Type 0 where
-  pub other : Other fault
-
-copied_of : {A Y : Type 0} {N : The A} {whole : A → Built Y} {start first after : Cursor} (fault : ReadFault) → IsOther fault → CopiesSoFar N whole start first after → CopiedToFault N whole start first fault after
-copied_of (Lex fault) o s = record { says = s }
-copied_of (Unexpected at) o s = record { says = s }
-copied_of (LeftOut word at) o s = record { says = s }
-copied_of (TooDeep at) o s = record { says = s }
-copied_of (Limit limit.Copies) o s = absurd o.other
-copied_of (Limit limit.Entries) o s = record { says = s }
-copied_of (Limit limit.Columns) o s = absurd o.other
-copied_of (Limit limit.Relations) o s = absurd o.other
-copied_of NoMemory o s = record { says = tt }
-
--- what stands next is refused, and that is no limit
-missed_no_limit : (fault : ReadFault) (b : Cursor) → Refusing b fault → IsOther fault
-missed_no_limit (Limit what) b n = absurd (no_limit b.end what (next_of b) (n (λ z. cc)))
-missed_no_limit (Lex fault) b n = record { other = tt }
-missed_no_limit (Unexpected at) b n = record { other = tt }
-missed_no_limit (LeftOut word at) b n = record { other = tt }
-missed_no_limit (TooDeep at) b n = record { other = tt }
-missed_no_limit NoMemory b n = record { other = tt }
+  -- the same where it is refused
+  pub copied_exit : {D : Type 0} {fault : ReadFault} → Going f before.tokens N first.tokens h → SamePrice start (λ v. whole (h v)) began part
+      → CopiedToFault f part began before fault after → Copied {B = D} N whole start first (Err fault) after
+  copied_exit l e q = record { answers = copied_to l e q }
 
 -- nothing of what remains stands here
-pub copied_before : {C A D Y : Type 0} {f : The C} {N : The A} {whole : A → Built Y} {h : C → A} {start first after : Cursor} {v : C} {fault : ReadFault} {result : Result D ReadFault}
-    → IsErrAnd result (λ y. y ≡ fault) → Going f after.tokens N first.tokens h → Filled f v → after.copies ≡ start.copies + (whole (h v)).copies → IsOther fault → Copied N whole start first result after
-copied_before {f = f} {N = N} {whole = whole} {h = h} {start = start} {first = first} {after = after} {v = v} {fault = fault} {result = result} i l b e o =
-    let p = err_from_is_err_and result i in
-    subst (λ z. Copied N whole start first z after) (sym p.1)
-    (record {
-      answers = subst (λ z. CopiedToFault N whole start first z after) (sym p.2) (copied_of fault o (record {
-        value = h v;
-        up_to = c.left_filled planned 0 copies_nothing (of_form None N) first.tokens f after.tokens h l.goes v (plan_filled f v b);
-        count = e;
-      }));
-    })
+pub copied_before : {C A Y : Type 0} {f : The C} {N : The A} {whole : A → Built Y} {h : C → A} {start first after : Cursor} {v : C} → Going f after.tokens N first.tokens h → Filled f v
+    → after.copies ≡ start.copies + (whole (h v)).copies → CopiesSoFar N whole start first after
+copied_before {f = f} {N = N} {h = h} {first = first} {after = after} {v = v} l b e =
+    record { value = h v; up_to = c.left_filled planned 0 copies_nothing (of_form None N) first.tokens f after.tokens h l.goes v (plan_filled f v b); count = e }
 
--- memory ran out
-pub copied_for_memory : {A D Y : Type 0} {N : The A} {whole : A → Built Y} {start first after : Cursor} {result : Result D ReadFault} → IsErrAnd result (λ y. y ≡ NoMemory) → Copied N whole start first result after
-copied_for_memory {N = N} {whole = whole} {start = start} {first = first} {after = after} {result = result} i =
-    let p = err_from_is_err_and result i in
-    subst (λ z. Copied N whole start first z after) (sym p.1) (record { answers = subst (λ z. CopiedToFault N whole start first z after) (sym p.2) (record { says = tt }) })
-
--- ---- tokens that are missed
-
-module _ {C A D Y : Type 0} {g : The C} {N : The A} {whole : A → Built Y} {h : C → A} {start first a b : Cursor} {v : C} {fault : ReadFault} {result : Result D ReadFault} where
-  -- what stands next is refused, and it is no limit
-  copied_still : IsErrAnd result (λ y. y ≡ fault) → b ≡ a → IsOther fault → Going g a.tokens N first.tokens h → Filled g v → a.copies ≡ start.copies + (whole (h v)).copies → Copied N whole start first result b
-  copied_still i s o l f e = copied_before i (subst (λ z. Going g z.tokens N first.tokens h) (sym s) l) f (ap (λ z. z.copies) s ∙ e) o
-
-  pub copied_missed : {p : Kind → Bool} → IsErrAnd result (λ y. y ≡ fault) → Misses p a fault b → Going g a.tokens N first.tokens h → Filled g v → a.copies ≡ start.copies + (whole (h v)).copies
-      → Copied N whole start first result b
-  copied_missed i m = copied_still i m.stays.still (missed_no_limit fault b m.refusing)
-
-  pub copied_overflow : {p : Kind → Bool} {room : ℕ} → IsErrAnd result (λ y. y ≡ fault) → Overflows p room a fault b → Going g a.tokens N first.tokens h → Filled g v → a.copies ≡ start.copies + (whole (h v)).copies
-      → Copied N whole start first result b
-  copied_overflow i m = copied_still i m.still (subst IsOther (sym m.too_deep) (record { other = tt }))
+-- what stands next is refused
+pub copied_next : {A Y : Type 0} {N : The A} {whole : A → Built Y} {start first : Cursor} (after : Cursor) → CopiesSoFar N whole start first after → CopiedToFault N whole start first (refusal after) after
+copied_next {N = N} {whole = whole} {start = start} {first = first} after s = record { says = by_refusal (λ z. Says N whole start first z after) (λ fault. s) (λ at. s) (λ word at. s) after.end (next_of after) }
 
 -- the text began here
 pub starting_at : {A : Type 0} {N : The A} {a b : Cursor} → b ≡ a → Going N b.tokens N a.tokens (λ v. v)

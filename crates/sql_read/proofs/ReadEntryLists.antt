@@ -17,7 +17,7 @@ use Rattle.grammar.proofs.Steps.{IsWithin, map_within, token_took}
 use Rattle.sql_lex.specs.Lexemes.{Lexeme}
 use Rattle.sql_model.specs.declared.tree.Entry.{Entry}
 use Rattle.sql_grammar.specs.declared.kinds.Kind.TheVariants as k
-use Rattle.sql_grammar.specs.Kinds.{kind_of, same}
+use Rattle.sql_grammar.specs.Kinds.{kind_of, same, among}
 use Rattle.sql_grammar.specs.Numbering.{Built}
 use Rattle.sql_grammar.specs.QueryEntries.{Further, before_entry, further_entries, most_entries, most_further, next_entry}
 use Rattle.sql_grammar.specs.QueryGrammar as grammar
@@ -28,9 +28,22 @@ use Rattle.sql_read.specs.ReadingEntries.{EntryAwaited, FurtherLeft, at_start, b
 use Rattle.sql_read.specs.Reads.{few_form, of_form}
 use Rattle.sql_grammar.proofs.QueryTable.{planned}
 use Rattle.sql_read.proofs.ReadSteps.{Halts, entries_within}
+use Rattle.sql_read.proofs.ReadBegins.{begins_each}
+use Rattle.sql_read.proofs.ReadLoops.{Begins}
+use Rattle.sql_grammar.specs.declared.kinds.Kind.{Kind}
 
 abbrev pub joins : The (Built Entry)
 joins = alt join_on cross_join
+
+abbrev pub join_kinds : Kind → Bool
+join_kinds = among (k.Cross ∷ k.Inner ∷ k.Join ∷ [])
+
+pub join_begins : Begins join_kinds joins
+join_begins = begins_each joins (k.Cross ∷ k.Inner ∷ k.Join ∷ [])
+    ((same k.Cross, λ t i. inr (inl (inl (inr (t, refl, i)))))
+    ∷ (same k.Inner, λ t i. inl (inl (inl (inl (inr (t, refl, i))))))
+    ∷ (same k.Join, λ t i. inl (inl (inr ([], t ∷ [], None, refl, inr (tt, refl, refl), inr (t, refl, i)))))
+    ∷ []) refl
 
 abbrev pub comma_entry : The (Built Listed)
 comma_entry = skip_then (grammar.a k.Comma) (ref entry)
@@ -77,10 +90,6 @@ next_if_within b =
 pub entry_within : (count : ℕ) → IsWithin (of_form None (ref entry)) (entry_behind count)
 unfolding entry_behind
 entry_within count = entry_if_within (fits count)
-
-pub joins_within : (count : ℕ) → IsWithin (of_form None joins) (joins_behind count)
-unfolding joins_behind
-joins_within count = joins_if_within (fits count)
 
 -- ---- further entries are within a repetition
 

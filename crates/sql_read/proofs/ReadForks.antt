@@ -86,31 +86,19 @@ pub record IsFirst (f : The Starred) (d : ℕ) (start before : Cursor) (first : 
   pub takes : Takes f d before.tokens (inr built) after.tokens
   pub builds : Builds built start first after
 
-one_all : (x y : Item) → read_starred.All x ≡ read_starred.All y → x ≡ y
-one_all x y e = cc
-
-one_first : (x y : Expr) → read_starred.First x ≡ read_starred.First y → x ≡ y
-one_first x y e = cc
-
-all_not_first : (x : Item) (y : Expr) → read_starred.All x ≡ read_starred.First y → ⊥
-all_not_first x y e = cc
-
-first_not_all : (x : Expr) (y : Item) → read_starred.First x ≡ read_starred.All y → ⊥
-first_not_all x y e = cc
-
 module _ {f : The Starred} {d : ℕ} {start before after : Cursor} where
   star_of : {item : Item} (read : Starred) → Takes f d before.tokens read after.tokens → Builds (built_starred read) start (read_starred.All item) after
       → IsStar f d start before item after
-  star_of (inl qual) s u = record { qual = qual; takes = s; builds = unmapped {built = t.alias_star_item qual} (λ y. read_starred.All y) one_all u }
-  star_of {item = item} (inr x) s u = absurd (not_both {built = x} (λ y. read_starred.First y) (λ y. read_starred.All y) first_not_all u)
+  star_of (inl qual) s u = record { qual = qual; takes = s; builds = unmapped {built = t.alias_star_item qual} (λ y. read_starred.All y) (λ x y e. cc) u }
+  star_of {item = item} (inr x) s u = absurd (not_both {built = x} (λ y. read_starred.First y) (λ y. read_starred.All y) (λ x y e. cc) u)
 
   pub star_read : {item : Item} → Gives f d built_starred start before (read_starred.All item) after → IsStar f d start before item after
   star_read g = star_of g.read g.takes g.builds
 
   first_of : {first : Expr} (read : Starred) → Takes f d before.tokens read after.tokens → Builds (built_starred read) start (read_starred.First first) after
       → IsFirst f d start before first after
-  first_of (inl qual) s u = absurd (not_both {built = t.alias_star_item qual} (λ y. read_starred.All y) (λ y. read_starred.First y) all_not_first u)
-  first_of (inr x) s u = record { built = x; takes = s; builds = unmapped {built = x} (λ y. read_starred.First y) one_first u }
+  first_of (inl qual) s u = absurd (not_both {built = t.alias_star_item qual} (λ y. read_starred.All y) (λ y. read_starred.First y) (λ x y e. cc) u)
+  first_of (inr x) s u = record { built = x; takes = s; builds = unmapped {built = x} (λ y. read_starred.First y) (λ x y e. cc) u }
 
   pub first_read : {first : Expr} → Gives f d built_starred start before (read_starred.First first) after → IsFirst f d start before first after
   first_read g = first_of g.read g.takes g.builds

@@ -20,8 +20,8 @@ use Rattle.sql_grammar.specs.Kinds.{kind_of}
 use Rattle.sql_grammar.specs.QueryGrammar.{The}
 use Rattle.sql_read.specs.Reads.{Told, TellsEntries, of_form, few_form, TakesWithin, RefusesWithin}
 use Rattle.sql_grammar.proofs.QueryTable.{planned}
-use Rattle.sql_read.proofs.Extending.{extends_misses, extends_overflows}
 pub use Rattle.sql_read.proofs.ReadSteps.{takes}
+use Rattle.sql_read.proofs.Extending.{extends_misses, extends_overflows}
 use Rattle.sql_read.proofs.ReadSteps.{LeftOf, BlocksOf, absent_unless, begins_with, deep_within, entries_within}
 
 -- ---- what stands next
@@ -139,8 +139,7 @@ counted_part {f = f} {here = here} l = record {
   };
 }
 
--- ---- tokens that were to stand next
-
+-- a level that was not opened
 pub extends_unopened : (p : Kind → Bool) (room : ℕ) (a b : Cursor) (fault : ReadFault) → ExpectsWithin p room a (Err fault) b → Extends a b
 extends_unopened p room a b (Lex fault) q = extends_misses q
 extends_unopened p room a b (Unexpected at) q = extends_misses q

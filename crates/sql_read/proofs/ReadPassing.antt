@@ -10,16 +10,16 @@ use Rattle.grammar.proofs.Steps.{IsWithin, Same}
 use Rattle.grammar.specs.Reading.{Failed}
 use Rattle.sql_lex.specs.Lexemes.{Lexeme}
 use Rattle.sql_read.specs.declared.fault.ReadFault.{ReadFault}
-use Rattle.sql_read.specs.declared.fault.ReadFault.TheVariants.{Lex, Unexpected, LeftOut, TooDeep, Limit, NoMemory}
+use Rattle.sql_read.specs.declared.fault.ReadFault.TheVariants.{TooDeep}
 use Rattle.sql_read.specs.Cursor.{Cursor}
-use Rattle.sql_read.specs.Eating.{ExpectsWithin, Extends, is_next, Misses, Numbers, Overflows, Passes, PassesWithin, Stays}
+use Rattle.sql_read.specs.Eating.{Extends, is_next, Misses, Numbers, Overflows, Passes, PassesWithin, Stays}
 use Rattle.sql_grammar.specs.declared.kinds.Kind.{Kind}
 use Rattle.sql_grammar.specs.Kinds.{among, kind_of, same}
 use Rattle.sql_grammar.specs.Numbering.{Built}
 use Rattle.sql_grammar.specs.QueryGrammar.{The}
-use Rattle.sql_read.specs.Reads.{Told, of_form, few_form, Builds, IsBuilt, ReadsWithin, Refuses, RefusesWithin, Takes}
+use Rattle.sql_read.specs.Reads.{Told, of_form, few_form, Builds, IsBuilt, ReadsWithin, RefusesWithin, Takes}
 use Rattle.sql_grammar.proofs.QueryTable.{planned}
-use Rattle.sql_read.proofs.ReadSteps.{absent_unless, begins_with, blocks, by_next, deep_within, eaten, entries_within, ExceededForm, fails, first, gives, LeftOf, LeftWithin, nested, other, refuses}
+use Rattle.sql_read.proofs.ReadSteps.{absent_unless, absent_where, begins_otherwise, begins_with, blocks, by_next, deep_within, entries_within, ExceededForm, fails, first, gives, LeftOf, LeftWithin, other, refuses}
 
 -- ---- sets of one kind
 
@@ -41,7 +41,7 @@ module _ (k : Kind) where
   next_alone (t ∷ ts) e = or_false (same k (kind_of t)) e
 
   pub passes_alone : {a b : Cursor} {t : Lexeme} → Passes (among (k ∷ [])) a t b → Passes (same k) a t b
-  passes_alone {t = t} q = record { stood = q.stood; of_kind = or_false (same k (kind_of t)) q.of_kind; moved = q.moved; place = q.place }
+  passes_alone {t = t} q = record { stood = q.stood; of_kind = or_false (same k (kind_of t)) q.of_kind; moved = q.moved }
 
   pub within_alone : {room : ℕ} {a b : Cursor} {t : Lexeme} → PassesWithin (among (k ∷ [])) room a t b → PassesWithin (same k) room a t b
   within_alone q = record { passes = passes_alone q.passes; room_left = q.room_left }
@@ -49,12 +49,36 @@ module _ (k : Kind) where
   pub stays_alone : {a b : Cursor} → Stays (among (k ∷ [])) a b → Stays (same k) a b
   stays_alone {a = a} q = record { still = q.still; not_next = not_next_alone a.tokens q.not_next }
 
-  pub misses_alone : {a b : Cursor} {fault : ReadFault} → Misses (among (k ∷ [])) a fault b → Misses (same k) a fault b
-  misses_alone m = record { stays = stays_alone m.stays; refusing = m.refusing; memory = m.memory }
-
   pub overflows_alone : {room : ℕ} {a b : Cursor} {fault : ReadFault} → Overflows (among (k ∷ [])) room a fault b → Overflows (same k) room a fault b
   overflows_alone {a = a} q =
       record { still = q.still; full = q.full; next = next_alone a.tokens q.next; at = q.at; place = q.place; too_deep = q.too_deep }
+
+-- ---- two sets of kinds
+
+module _ (p q : Kind → Bool) where
+  pub either_next : (ts : List Lexeme) → is_next p ts ≡ true → is_next (λ x. p x || q x) ts ≡ true
+  either_next [] e = cc
+  either_next (t ∷ ts) e = go (p (kind_of t)) e
+    where
+      go : (b : Bool) → b ≡ true → (b || q (kind_of t)) ≡ true
+      go true i = refl
+      go false i = cc
+
+  pub or_next : (ts : List Lexeme) → is_next q ts ≡ true → is_next (λ x. p x || q x) ts ≡ true
+  or_next [] e = cc
+  or_next (t ∷ ts) e = go (p (kind_of t))
+    where
+      go : (b : Bool) → (b || q (kind_of t)) ≡ true
+      go true = refl
+      go false = e
+
+  pub neither_next : (ts : List Lexeme) → is_next p ts ≡ false → is_next q ts ≡ false → is_next (λ x. p x || q x) ts ≡ false
+  neither_next [] e i = refl
+  neither_next (t ∷ ts) e i = go (p (kind_of t)) e
+    where
+      go : (b : Bool) → b ≡ false → (b || q (kind_of t)) ≡ false
+      go true n = cc
+      go false n = i
 
 -- ---- where what is built begins
 
@@ -105,20 +129,17 @@ module _ {C A X : Type 0} {told : Told} {f : The C} {B : Language Lexeme C} {d :
 -- ---- a form that cannot begin here
 
 module _ {C : Type 0} {told : Told} {f : The C} {p : Kind → Bool} {d : ℕ} {a b : Cursor} {fault : ReadFault} where
-  pub misses : ok planned f ≡ true → begins_with p (ahead planned f) ≡ true → Misses p a fault b → RefusesWithin told f (few_form f) d a fault b
-  misses o w m = record { says = fails told f (few_form f) d a b fault (failed (of_form (Some d) f) (deep_within d f)) (λ n. failed (few_form f) (entries_within f)) m.refusing }
+  pub misses_in : (B : Language Lexeme C) → IsWithin (of_form None f) B → ok planned f ≡ true → begins_with p (ahead planned f) ≡ true → Misses p a fault b → RefusesWithin told f B d a fault b
+  misses_in B i o w m = record { says = fails told f B d a b fault (failed (of_form (Some d) f) (deep_within d f)) (λ n. failed B i) m.refusing }
     where
       failed : (B : Language Lexeme C) → IsWithin (of_form None f) B → Failed (of_form None f) B a.tokens b.tokens
       failed B i = subst (λ z. Failed (of_form None f) B a.tokens z.tokens) (sym m.stays.still)
           (absent_failed kind_of (of_form None f) (ahead planned f) (known planned f o) B i a.tokens (absent_unless p (ahead planned f) w a.tokens m.stays.not_next))
 
-module _ {A : Type 0} {told : Told} {N : The A} {NB : Language Lexeme A} {e : ℕ} {start : List Lexeme} {C : Type 0} {d : ℕ} {f g : The C} {h : C → A} where
-  -- none of the first stands next
-  pub other_stays : {p : Kind → Bool} {a b : Cursor} → LeftOf told (alt f g) d a.tokens N NB e start h → ok planned f ≡ true → begins_with p (ahead planned f) ≡ true
-      → Stays p a b → LeftOf told g d b.tokens N NB e start h
-  other_stays {p = p} {a = a} l o w q =
-      subst (λ z. LeftOf told g d z.tokens N NB e start h) (sym q.still) (other l o (absent_unless p (ahead planned f) w a.tokens q.not_next))
+  pub misses : ok planned f ≡ true → begins_with p (ahead planned f) ≡ true → Misses p a fault b → RefusesWithin told f (few_form f) d a fault b
+  misses o w m = misses_in (few_form f) (entries_within f) o w m
 
+module _ {A : Type 0} {told : Told} {N : The A} {NB : Language Lexeme A} {e : ℕ} {start : List Lexeme} {C : Type 0} {d : ℕ} {f g : The C} {h : C → A} where
   pub other_unless : (p : Kind → Bool) {here : List Lexeme} → LeftOf told (alt f g) d here N NB e start h → ok planned f ≡ true → begins_with p (ahead planned f) ≡ true
       → is_next p here ≡ false → LeftOf told g d here N NB e start h
   other_unless p {here = here} l o w n = other l o (absent_unless p (ahead planned f) w here n)
@@ -126,6 +147,15 @@ module _ {A : Type 0} {told : Told} {N : The A} {NB : Language Lexeme A} {e : �
   pub first_unless : (p : Kind → Bool) {here : List Lexeme} → LeftOf told (alt f g) d here N NB e start h → ok planned g ≡ true → begins_with p (ahead planned g) ≡ true
       → is_next p here ≡ false → LeftOf told f d here N NB e start h
   first_unless p {here = here} l o w n = first l o (absent_unless p (ahead planned g) w here n)
+
+  -- what stands next begins the one, so not the other
+  pub first_where : (p : Kind → Bool) {here : List Lexeme} → LeftOf told (alt f g) d here N NB e start h → ok planned g ≡ true → begins_otherwise p (ahead planned g) ≡ true
+      → is_next p here ≡ true → LeftOf told f d here N NB e start h
+  first_where p {here = here} l o w n = first l o (absent_where p (ahead planned g) w here n)
+
+  pub other_where : (p : Kind → Bool) {here : List Lexeme} → LeftOf told (alt f g) d here N NB e start h → ok planned f ≡ true → begins_otherwise p (ahead planned f) ≡ true
+      → is_next p here ≡ true → LeftOf told g d here N NB e start h
+  other_where p {here = here} l o w n = other l o (absent_where p (ahead planned f) w here n)
 
   -- what stands next begins the first
   pub first_next : (p : Kind → Bool) {here : List Lexeme} → LeftOf told (alt f g) d here N NB e start h → ok planned (alt f g) ≡ true
@@ -178,32 +208,6 @@ module _ {C : Type 0} {g : The C} {p : Kind → Bool} {d : ℕ} where
           place = q.place;
         };
       })))
-
-  -- it was opened
-  pub opened : {A : Type 0} {told : Told} {N : The A} {NB : Language Lexeme A} {e : ℕ} {start : List Lexeme} {a b : Cursor} {t : Lexeme} {h : Lexeme × C → A}
-      → LeftOf told (nest (seq (token p) g)) d a.tokens N NB e start h → ok planned (seq (token p) g) ≡ true → PassesWithin p d a t b → LeftOf told g (d - 1) b.tokens N NB e start (λ w. h (t, w))
-  opened l o q = eaten (nested l q.room_left) o q.passes
-
-  -- it was to be opened
-  pub unopened : {a b : Cursor} {fault : ReadFault} → ok planned (nest (seq (token p) g)) ≡ true → begins_with p (ahead planned (nest (seq (token p) g))) ≡ true
-      → ExpectsWithin p d a (Err fault) b → Refuses (nest (seq (token p) g)) d a fault b
-  unopened {fault = Lex fault} o w q = misses o w q
-  unopened {fault = Unexpected at} o w q = misses o w q
-  unopened {fault = LeftOut word at} o w q = misses o w q
-  unopened {fault = TooDeep at} o w q = overflows q
-  unopened {fault = Limit what} o w q = misses o w q
-  unopened {fault = NoMemory} o w q = misses o w q
-
--- a token of one kind was to open it
-module _ {C : Type 0} {g : The C} (k : Kind) {d : ℕ} {a b : Cursor} where
-  pub unopened_alone : {fault : ReadFault} → ok planned (nest (seq (token (same k)) g)) ≡ true → begins_with (same k) (ahead planned (nest (seq (token (same k)) g))) ≡ true
-      → ExpectsWithin (among (k ∷ [])) d a (Err fault) b → Refuses (nest (seq (token (same k)) g)) d a fault b
-  unopened_alone {fault = Lex fault} o w q = misses o w (misses_alone k q)
-  unopened_alone {fault = Unexpected at} o w q = misses o w (misses_alone k q)
-  unopened_alone {fault = LeftOut word at} o w q = misses o w (misses_alone k q)
-  unopened_alone {fault = TooDeep at} o w q = overflows (overflows_alone k q)
-  unopened_alone {fault = Limit what} o w q = misses o w (misses_alone k q)
-  unopened_alone {fault = NoMemory} o w q = misses o w (misses_alone k q)
 
 -- ---- numbers
 

@@ -323,11 +323,6 @@ exits {told = told} {N = N} {NB = NB} {e = e} {h = h} {start = start} {s = s} {b
     let p = err_from_is_err_and result i in
     subst (λ z. ReadsWithin told N NB e h start s z b) (sym p.1) (record { answers = subst (λ z. RefusesWithin told N NB e s z b) (sym p.2) t })
 
--- the same, where memory ran out
-pub exits_for_memory : {A X : Type 0} {told : Told} {N : The A} {NB : Language Lexeme A} {e : ℕ} {h : A → Built X} {start s b : Cursor} {result : Result X ReadFault}
-    → IsErrAnd result (λ y. y ≡ NoMemory) → ReadsWithin told N NB e h start s result b
-exits_for_memory i = exits i (record { says = tt })
-
 pub gives : {C A X : Type 0} {told : Told} {f : The C} {B : Language Lexeme C} {d : ℕ} {N : The A} {NB : Language Lexeme A} {e : ℕ} {h : C → A} {k : A → Built X} {here : List Lexeme} {start s b : Cursor} {value : X}
     → LeftWithin told f B d here N NB e s.tokens h → (read : C) → TakesWithin told f B d here read b.tokens → Builds (k (h read)) start value b → GivesWithin told N NB e k start s value b
 gives {h = h} l read t builds = record { read = h read; takes = takes l t; builds = builds }
@@ -358,9 +353,6 @@ built_plain value {a = a} {b = b} n m = record { numbers = ap (λ z. (value, z))
 
 pub plain_here : {X : Type 0} {value : X} {a : Cursor} → Builds (plain value) a value a
 plain_here = built_plain _ refl refl
-
-pub plain_still : {X : Type 0} {value : X} {a b : Cursor} → b ≡ a → Builds (plain value) a value b
-plain_still {value = value} {a = a} e = subst (λ z. Builds (plain value) a value z) (sym e) plain_here
 
 pub built_as : {X : Type 0} {built : Built X} {value same : X} {a b : Cursor} → value ≡ same → Builds built a same b → Builds built a value b
 built_as {built = built} {a = a} {b = b} e t = subst (λ z. Builds built a z b) (sym e) t

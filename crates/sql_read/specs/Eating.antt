@@ -1,5 +1,5 @@
 -- How a reader takes single tokens.
-use Rattle.std.specs.Prelude.{ℕ, ◌+◌, ◌≡◌, ◌≢◌, ◌≤◌, ◌<◌, ◌^◌, Bool, true, false, ◌&&◌, ◌||◌, ◌==◌, nat_lt, if◌then◌else◌, List, [], ◌∷◌, ◌++◌, length, Option, Some, None, Result, Ok, Err}
+use Rattle.std.specs.Prelude.{ℕ, ◌+◌, ◌≡◌, ◌≢◌, ◌≤◌, ◌<◌, Bool, true, false, ◌&&◌, ◌||◌, ◌==◌, nat_lt, if◌then◌else◌, List, [], ◌∷◌, ◌++◌, length, Option, Some, None, Result, Ok, Err}
 use Rattle.sql_lex.specs.declared.token.Token.{Token}
 use Rattle.sql_lex.specs.Lexemes.{Lexeme, lexeme_of}
 use Rattle.sql_read.specs.declared.fault.ReadFault.{ReadFault}
@@ -25,7 +25,6 @@ pub record Passes (p : Kind → Bool) (before : Cursor) (token : Lexeme) (after 
   pub stood : before.tokens ≡ token ∷ after.tokens
   pub of_kind : p (kind_of token) ≡ true
   pub moved : after ≡ behind_next before
-  pub place : token.start < 2 ^ 32
 
 -- no token of these kinds stands next, and none was passed
 pub record Stays (p : Kind → Bool) (before after : Cursor) : Type 0 where

@@ -4,6 +4,8 @@ pub mod Unquoting
 pub mod Eating
 pub mod Reads
 pub mod Parts
+pub mod Reading
+pub mod ReadingTexts
 pub mod ReadingQueries
 pub mod ReadingEntries
 pub mod Copied

@@ -1,18 +1,17 @@
 -- What the reading functions do. Each takes the longest list of tokens that begins a form of the plan, and answers what it spells, or
 -- refuses the token at which it stops.
-use Rattle.std.specs.Prelude.{ℕ, ◌+◌, ◌≡◌, ◌<◌, ◌∷◌, Bool, true, length, List, Option, Some, None, Result, Ok, Err, false}
+use Rattle.std.specs.Prelude.{ℕ, ◌+◌, ◌≡◌, ◌<◌, ◌∷◌, Bool, true, length, List, Some, None, Result, Ok, Err, false}
 use Rattle.grammar.specs.Form.{Room, form_language, language}
 use Rattle.grammar.specs.Language.{Language}
 use Rattle.grammar.specs.Lookahead.{lookahead}
 use Rattle.grammar.specs.Reading.{Took, Failed, Exceeded, Began}
-use Rattle.sql_lex.specs.declared.token.Token.{Token}
-use Rattle.sql_lex.specs.Lexemes.{Lexeme, lexeme_of}
+use Rattle.sql_lex.specs.Lexemes.{Lexeme}
 use Rattle.sql_read.specs.declared.fault.ReadFault.{ReadFault}
 use Rattle.sql_read.specs.declared.fault.ReadFault.TheVariants.{Lex, Unexpected, LeftOut, TooDeep, Limit, NoMemory}
 use Rattle.sql_read.specs.declared.fault.LimitKind.{LimitKind}
 use Rattle.sql_read.specs.declared.fault.LimitKind.TheVariants as limit
 use Rattle.sql_read.specs.Cursor.{Cursor}
-use Rattle.sql_read.specs.Eating.{IsNextAt, Overflows, Stays, is_next}
+use Rattle.sql_read.specs.Eating.{IsNextAt, is_next}
 use Rattle.sql_grammar.specs.declared.kinds.Kind.{Kind}
 use Rattle.sql_grammar.specs.Kinds.{kind_of}
 use Rattle.sql_grammar.specs.Numbering.{Built}
@@ -149,6 +148,18 @@ abbrev pub Answers : {V A : Type 0} → Told → The V → Language Lexeme V →
 Answers told f B levels h start before (Ok value) after = GivesWithin told f B levels h start before value after
 Answers told f B levels h start before (Err fault) after = RefusesWithin told f B levels before fault after
 
+-- the faults that tell where they come
+abbrev pub IsPlaced : ReadFault → Type 0
+IsPlaced (Lex fault) = Unit {0}
+IsPlaced (Unexpected at) = Unit {0}
+IsPlaced (LeftOut word at) = Unit {0}
+IsPlaced (TooDeep at) = Unit {0}
+IsPlaced (Limit limit.Columns) = Unit {0}
+IsPlaced (Limit limit.Entries) = Unit {0}
+IsPlaced (Limit limit.Relations) = Unit {0}
+IsPlaced (Limit limit.Copies) = Unit {0}
+IsPlaced NoMemory = ⊥
+
 -- With so many levels left the form was read from `before` to `after`; what it gives is built from the start, which may lie further back.
 pub record ReadsWithin {V A : Type 0} (told : Told) (f : The V) (B : Language Lexeme V) (levels : ℕ) (h : V → Built A) (start before : Cursor) (result : Result A ReadFault) (after : Cursor) : Type 0 where
   pub answers : Answers told f B levels h start before result after
@@ -161,21 +172,6 @@ pub record Lacks {V : Type 0} (f : The V) (before after : Cursor) : Type 0 where
   pub still : after ≡ before
   pub not_next : is_next (lookahead table f).first before.tokens ≡ false
 
-abbrev pub AnswersNextWithin : {V A : Type 0} → The V → Language Lexeme V → ℕ → (V → Built A) → Cursor → Result (Option A) ReadFault → Cursor → Type 0
-AnswersNextWithin f B levels h before (Ok (Some value)) after = GivesWithin entries_too f B levels h before before value after
-AnswersNextWithin f B levels h before (Ok None) after = Lacks f before after
-AnswersNextWithin f B levels h before (Err fault) after = RefusesWithin entries_too f B levels before fault after
-
-abbrev pub AnswersNext : {V A : Type 0} → The V → ℕ → (V → Built A) → Cursor → Result (Option A) ReadFault → Cursor → Type 0
-AnswersNext f levels h before result after = AnswersNextWithin f (few_form f) levels h before result after
-
--- the same, if the form stands next
-pub record ReadsNextWithin {V A : Type 0} (f : The V) (B : Language Lexeme V) (levels : ℕ) (h : V → Built A) (before : Cursor) (result : Result (Option A) ReadFault) (after : Cursor) : Type 0 where
-  pub answers : AnswersNextWithin f B levels h before result after
-
-abbrev pub ReadsNext : {V A : Type 0} → The V → ℕ → (V → Built A) → Cursor → Result (Option A) ReadFault → Cursor → Type 0
-ReadsNext f levels h before result after = ReadsNextWithin f (few_form f) levels h before result after
-
 -- A form that begins with one of these kinds was read, and there was room for it; nothing was numbered or copied in it.
 pub record ReadsWord {V : Type 0} (f : The V) (p : Kind → Bool) (room : ℕ) (before : Cursor) (value : V) (after : Cursor) : Type 0 where
   pub takes : (levels : ℕ) → Takes f levels before.tokens value after.tokens
@@ -184,19 +180,3 @@ pub record ReadsWord {V : Type 0} (f : The V) (p : Kind → Bool) (room : ℕ) (
   pub fewer : length after.tokens < length before.tokens
   pub numbers : after.numbers ≡ before.numbers
   pub copies : after.copies ≡ before.copies
-
--- the same, if it stands next; where there is no room for it, it is too deep
-abbrev pub ReadsWordNext : {V : Type 0} → The V → (Kind → Bool) → ℕ → Cursor → Result (Option V) ReadFault → Cursor → Type 0
-ReadsWordNext f p room before (Ok (Some value)) after = ReadsWord f p room before value after
-ReadsWordNext f p room before (Ok None) after = Stays p before after
-ReadsWordNext f p room before (Err fault) after = Overflows p room before fault after
-
--- ---- tokens that are handed on, as contracts see them
-abbrev pub read_lexeme : Result Token ReadFault → Result Lexeme ReadFault
-read_lexeme (Ok token) = Ok (lexeme_of token)
-read_lexeme (Err fault) = Err fault
-
-abbrev pub read_lexeme_if_any : Result (Option Token) ReadFault → Result (Option Lexeme) ReadFault
-read_lexeme_if_any (Ok None) = Ok None
-read_lexeme_if_any (Ok (Some token)) = Ok (Some (lexeme_of token))
-read_lexeme_if_any (Err fault) = Err fault

@@ -4,6 +4,8 @@ ghost use Rattle.grammar.specs.Form.{ref};
 ghost use Rattle.sql_read.specs.Copied.{Copied};
 ghost use Rattle.sql_read.specs.Eating.{Extends};
 ghost use Rattle.sql_grammar.specs.QueryGrammar as grammar;
+ghost use Rattle.sql_read.specs.Reading as reading;
+ghost use Rattle.sql_read.specs.Reading.{Does};
 ghost use Rattle.sql_read.specs.Reads.{Reads};
 ghost use Rattle.sql_read.specs.ReadingQueries.{IsAtEnd, IsRead, IsRefused, Keeps};
 
@@ -50,6 +52,8 @@ pub fn read_inner_query(
     tokens: &mut Tokens<'_>,
     levels: u8,
 ) -> Result<Query, ReadFault>
+    // In short, and for readers that go on behind it.
+    ensures does { Does reading.query levels tokens.old result tokens.new }
     ensures reads { Reads (ref grammar.query) levels (λ read. read) tokens.old tokens.old result tokens.new }
     ensures copied { Copied (ref grammar.query) (λ read. read) tokens.old tokens.old result tokens.new }
     ensures extends { Extends tokens.old tokens.new }

@@ -1,9 +1,7 @@
 -- A text is refused for one fault alone, want of memory left aside.
 use Rattle.std.proofs.Common.{◌≡◌, ◌≢◌, ℕ, List, [], ◌∷◌, ◌++◌, length, Option, refl, sym, ap, ◌∙◌, subst, inl, inr, arith, append_assoc}
-use Rattle.std.specs.Prelude.{◌⊎◌}
 use Rattle.std.proofs.lemmas.List.{append-nil, length-append}
 use Rattle.std.proofs.lemmas.Option.{same_Some}
-use Rattle.grammar.specs.Language.{HasFronts, Language}
 use Rattle.grammar.specs.Reading.{IsLongestFront}
 use Rattle.grammar.proofs.Cut.{Cut, cut, longer, same, shorter}
 use Rattle.sql_lex.specs.declared.token.LexFault.{LexFault}
@@ -11,8 +9,7 @@ use Rattle.sql_lex.specs.Lexemes.{Lexeme}
 use Rattle.sql_lex.proofs.WholeTexts.{same_tokens}
 use Rattle.sql_model.specs.declared.statement.Statement.{Statement}
 use Rattle.sql_model.specs.Syntax.{Query}
-use Rattle.sql_read.specs.declared.fault.LimitKind.{LimitKind}
-use Rattle.sql_read.specs.declared.fault.LimitKind.TheVariants as limit
+use Rattle.sql_read.specs.ReadingTexts.{Passes, TextLimit, count_limit, depth_limit}
 use Rattle.sql_read.specs.declared.fault.ReadFault.{ReadFault}
 use Rattle.sql_read.specs.declared.fault.ReadFault.TheVariants as read_refusal
 use Rattle.sql_read.specs.Cursor.{next}
@@ -29,11 +26,11 @@ use Rattle.case_core.specs.declared.fault.CaseFault.TheVariants.{Read, Schema, S
 use Rattle.case_core.specs.declared.text.CaseText.{CaseText}
 use Rattle.case_core.specs.Answer.{BreaksRule, HasTwoWidths, IsOutOfScope, IsRefused}
 use Rattle.case_core.specs.CaseGrammar as g
-use Rattle.case_core.specs.Cases.{cases, shallow_cases, within}
-use Rattle.case_core.specs.Refusals.{EndsBehind, GoesOnBehind, HasNotTwoQueries, IsNoCase, IsNotTwo, IsUnfinished, PassesCopies, PassesCount, PassesDepth, Says}
+use Rattle.case_core.specs.Cases.{cases, texts}
+use Rattle.case_core.specs.Refusals.{EndsBehind, GoesOnBehind, HasNotTwoQueries, IsNoCase, IsNotTwo, IsUnfinished, KeepsLimits, Says}
 use Rattle.case_core.proofs.CaseFronts.{ends_there, fronts, nothing_follows, one_case}
-use Rattle.case_core.proofs.LimitsOnce.{Order, before, behind, count_or_copies, depth_or_copies, depth_or_count, one, one_place, order}
-use Rattle.case_core.proofs.OneCount.{one_count}
+use Rattle.case_core.proofs.LimitsOnce.{Order, before, behind, once, one, order}
+use Rattle.case_core.proofs.OneCount.{one_limit}
 use Rattle.udp_run.proofs.Unrefused.{has_tokens, in_scope, no_case_memory, no_rule_broken, same_case, scope_fault_over, width_over}
 
 -- the longest front reaches behind each front
@@ -56,10 +53,8 @@ module _ (ts : List Lexeme) (fault : Option LexFault) (end : ℕ) where
       by (same p q) = sym q
       by (shorter t k p q) = absurd (omega (arith, ap length p ∙ length-append b.taken (t ∷ k), b.leading.longest a.taken a.rest a.parts a.leading.begins))
 
-  unfinished-copies : (r : ReadFault) → IsUnfinished 0 ts fault end r → PassesCopies 0 ts → ⊥
-  unfinished-copies r a b =
-      let more = reaches ts a.taken (b.taken ++ b.token ∷ []) b.rest a.leading (b.parts ∙ sym (append_assoc b.taken (b.token ∷ []) b.rest)) (b.few limit.Copies) in
-      a.few_copies b.taken more.0 b.token (more.1 ∙ append_assoc b.taken (b.token ∷ []) more.0) b.too_many
+  limit_kept : KeepsLimits 0 ts → (which : TextLimit) → Passes texts 0 ts which → ⊥
+  limit_kept k which p = k which p.taken p.rest p.token p.parts p.beyond
 
   -- ---- it has not two queries
   -- statements alone, and with one query, may go on as a case
@@ -125,23 +120,29 @@ module _ (ts : List Lexeme) (fault : Option LexFault) (end : ℕ) where
   not_two-one count other at place (inr (inr (m, a))) (inr (inl (n, b))) = absurd (one-three place at b a)
   not_two-one count other at place (inr (inr (m, a))) (inr (inr (n, b))) = λ i. NotTwoQueries ((m ∙ sym n) i) (three-one at place a b i)
 
+  -- ---- it passes a limit
+  abbrev told : (which : TextLimit) → Passes texts 0 ts which → CaseFault
+  told depth_limit p = Read (read_refusal.TooDeep p.token.start)
+  told (count_limit what) p = Read (read_refusal.Limit what)
+
+  one_told : (which other : TextLimit) (p : Passes texts 0 ts which) (q : Passes texts 0 ts other) → told which p ≡ told other q
+  one_told depth_limit depth_limit p q = ap (λ t. Read (read_refusal.TooDeep t.start)) (once 0 ts depth_limit p q).1
+  one_told depth_limit (count_limit what) p q = let e = one_limit 0 ts depth_limit (count_limit what) p q in cc
+  one_told (count_limit what) depth_limit p q = let e = one_limit 0 ts (count_limit what) depth_limit p q in cc
+  one_told (count_limit what) (count_limit other) p q = let e = one_limit 0 ts (count_limit what) (count_limit other) p q in cc
+
   -- ---- all of these
   data Class (refused : CaseFault) : Type 0 where
     unfinished : (r : ReadFault) → refused ≡ Read r → IsUnfinished 0 ts fault end r → Class refused
-    too_deep : (at : ℕ) → refused ≡ Read (read_refusal.TooDeep at) → PassesDepth 0 ts at → Class refused
-    counted : (what : LimitKind) → refused ≡ Read (read_refusal.Limit what) → PassesCount 0 ts what → Class refused
-    copied : refused ≡ Read (read_refusal.Limit limit.Copies) → PassesCopies 0 ts → Class refused
+    passed : (which : TextLimit) (p : Passes texts 0 ts which) → refused ≡ told which p → Class refused
     not_two : (count at : ℕ) → refused ≡ NotTwoQueries count at → IsNotTwo 0 ts fault end count at → Class refused
 
   class_of : (refused : CaseFault) → refused ≢ NoMemory → Says 0 ts fault end refused → Class refused
   class_of (Read (read_refusal.Lex lexical)) m u = unfinished (read_refusal.Lex lexical) refl u
   class_of (Read (read_refusal.Unexpected at)) m u = unfinished (read_refusal.Unexpected at) refl u
   class_of (Read (read_refusal.LeftOut word at)) m u = unfinished (read_refusal.LeftOut word at) refl u
-  class_of (Read (read_refusal.TooDeep at)) m u = too_deep at refl u
-  class_of (Read (read_refusal.Limit limit.Columns)) m u = counted limit.Columns refl u
-  class_of (Read (read_refusal.Limit limit.Entries)) m u = counted limit.Entries refl u
-  class_of (Read (read_refusal.Limit limit.Relations)) m u = counted limit.Relations refl u
-  class_of (Read (read_refusal.Limit limit.Copies)) m u = copied refl u
+  class_of (Read (read_refusal.TooDeep at)) m u = passed depth_limit u.passes (ap (λ z. Read (read_refusal.TooDeep z)) (sym u.place))
+  class_of (Read (read_refusal.Limit what)) m u = passed (count_limit what) u refl
   class_of (Read read_refusal.NoMemory) m u = absurd u
   class_of (Schema refused) m u = absurd u
   class_of (Scope refused) m u = absurd u
@@ -151,29 +152,13 @@ module _ (ts : List Lexeme) (fault : Option LexFault) (end : ℕ) where
 
   one_class : (f g : CaseFault) → Class f → Class g → f ≡ g
   one_class f g (unfinished r e a) (unfinished s i b) = e ∙ (ap Read (unfinished-one r s a b) ∙ sym i)
-  one_class f g (unfinished r e a) (too_deep at i b) = absurd (a.shallow b.taken b.rest b.token b.parts b.too_deep)
-  one_class f g (unfinished r e a) (counted what i b) = absurd (a.few what b.taken b.rest b.token b.parts b.too_many)
-  one_class f g (unfinished r e a) (copied i b) = absurd (unfinished-copies r a b)
+  one_class f g (unfinished r e a) (passed which p i) = absurd (limit_kept a.kept which p)
   one_class f g (unfinished r e a) (not_two count at i b) = absurd (a.not_counted count at b.counted)
-  one_class f g (too_deep at e a) (unfinished r i b) = absurd (b.shallow a.taken a.rest a.token a.parts a.too_deep)
-  one_class f g (too_deep at e a) (too_deep other i b) = e ∙ (ap (λ z. Read (read_refusal.TooDeep z)) (one_place 0 ts at other a b) ∙ sym i)
-  one_class f g (too_deep at e a) (counted what i b) = absurd (depth_or_count 0 ts at what a b)
-  one_class f g (too_deep at e a) (copied i b) = absurd (depth_or_copies 0 ts at a b)
-  one_class f g (too_deep at e a) (not_two count place i b) = absurd (b.shallow a.taken a.rest a.token a.parts a.too_deep)
-  one_class f g (counted what e a) (unfinished r i b) = absurd (b.few what a.taken a.rest a.token a.parts a.too_many)
-  one_class f g (counted what e a) (too_deep at i b) = absurd (depth_or_count 0 ts at what b a)
-  one_class f g (counted what e a) (counted other i b) = e ∙ (ap (λ z. Read (read_refusal.Limit z)) (one_count 0 ts what other a b) ∙ sym i)
-  one_class f g (counted what e a) (copied i b) = absurd (count_or_copies 0 ts what a b)
-  one_class f g (counted what e a) (not_two count at i b) = absurd (b.few what a.taken a.rest a.token a.parts a.too_many)
-  one_class f g (copied e a) (unfinished r i b) = absurd (unfinished-copies r b a)
-  one_class f g (copied e a) (too_deep at i b) = absurd (depth_or_copies 0 ts at b a)
-  one_class f g (copied e a) (counted what i b) = absurd (count_or_copies 0 ts what b a)
-  one_class f g (copied e a) (copied i b) = e ∙ sym i
-  one_class f g (copied e a) (not_two count at i b) = absurd (b.few_copies a.taken a.rest a.token a.parts a.too_many)
+  one_class f g (passed which p e) (unfinished r i b) = absurd (limit_kept b.kept which p)
+  one_class f g (passed which p e) (passed other q i) = e ∙ (one_told which other p q ∙ sym i)
+  one_class f g (passed which p e) (not_two count at i b) = absurd (limit_kept b.kept which p)
   one_class f g (not_two count at e a) (unfinished r i b) = absurd (b.not_counted count at a.counted)
-  one_class f g (not_two count at e a) (too_deep place i b) = absurd (a.shallow b.taken b.rest b.token b.parts b.too_deep)
-  one_class f g (not_two count at e a) (counted what i b) = absurd (a.few what b.taken b.rest b.token b.parts b.too_many)
-  one_class f g (not_two count at e a) (copied i b) = absurd (a.few_copies b.taken b.rest b.token b.parts b.too_many)
+  one_class f g (not_two count at e a) (passed which p i) = absurd (limit_kept a.kept which p)
   one_class f g (not_two count at e a) (not_two other place i b) = e ∙ (not_two-one count other at place a.counted b.counted ∙ sym i)
 
 -- ---- of whole texts

@@ -1,5 +1,5 @@
 -- A text that spells a case within the limits, well formed and of one width, is refused with want of memory alone.
-use Rattle.std.proofs.Common.{◌≡◌, ℕ, true, false, List, [], ◌∷◌, ◌++◌, length, Option, Some, None, refl, sym, ap, ◌∙◌, subst, inl, inr, arith, append_assoc}
+use Rattle.std.proofs.Common.{◌≡◌, ℕ, true, false, List, [], ◌∷◌, ◌++◌, length, Option, Some, None, refl, sym, ap, ◌∙◌, subst, inl, inr, append_assoc}
 use Rattle.std.specs.Prelude.{map as map_list}
 use Rattle.std.specs.Option.{option_or}
 use Rattle.grammar.proofs.Known.{Known}
@@ -14,8 +14,7 @@ use Rattle.sql_model.specs.declared.schema.Schema.{Schema as TheSchema}
 use Rattle.sql_grammar.specs.Kinds.{kind_of}
 use Rattle.sql_grammar.specs.Numbering.{Built, Numbers}
 use Rattle.sql_grammar.specs.QueryLookahead.{table}
-use Rattle.sql_read.specs.declared.fault.LimitKind.{LimitKind}
-use Rattle.sql_read.specs.declared.fault.LimitKind.TheVariants as limit
+use Rattle.sql_read.specs.ReadingTexts.{Passes, TextLimit, count_limit, depth_limit, keeping}
 use Rattle.sql_read.specs.declared.fault.ReadFault.TheVariants as read_refusal
 use Rattle.schema_read.specs.declared.fault.SchemaFault.{SchemaFault}
 use Rattle.schema_read.specs.declared.fault.SchemaFault.TheVariants as schema_refusal
@@ -33,10 +32,9 @@ use Rattle.case_core.specs.declared.fault.CaseFault.TheVariants.{Read, Schema, S
 use Rattle.case_core.specs.declared.text.CaseText.{CaseText}
 use Rattle.case_core.specs.Answer.{BreaksRule, HasSchema, HasTwoWidths, IsOutOfScope, IsRefused, IsSchemaFault, IsWellFormed, width_of}
 use Rattle.case_core.specs.CaseGrammar as g
-use Rattle.case_core.specs.Cases.{IsRead, cases, within}
-use Rattle.case_core.specs.Refusals.{HasNotTwoQueries, IsNoCase, PassesCopies, PassesCount, Says}
-use Rattle.case_core.proofs.CaseCounts.{within_fronts}
-use Rattle.case_core.proofs.CaseCopies.{few_copies, whole_few}
+use Rattle.case_core.specs.Cases.{IsRead, cases, texts}
+use Rattle.case_core.specs.Refusals.{HasNotTwoQueries, IsNoCase, Says}
+use Rattle.case_core.proofs.CaseCopies.{closed, spelled_front}
 use Rattle.case_core.proofs.CaseFronts.{ends_there, fronts, nothing_follows, one_case}
 use Rattle.udp_run.specs.Cases.{AreComparable}
 
@@ -68,20 +66,9 @@ module _ (text : List ℕ) (written : CaseText) (numbers : Numbers) (read : IsRe
       of : cases.spells tokens read.spells.read → Parts
       of (u, (before, both, e, s, (first, second, i, l, r)), same) = record { first = first; second = second; left = u.1.0; right = u.1.1; left_there = l; right_there = r }
 
-  -- no count passes its limit
-  none_passed : (what : LimitKind) → PassesCount 0 tokens what → ⊥
-  none_passed what u =
-      kept cases (within what) (within_fronts what).shorter tokens ((within_fronts what).spelled tokens read.spells.read (read.few what)) u.taken u.rest u.token u.parts u.too_many
-
-  few_copied : PassesCopies 0 tokens → ⊥
-  few_copied u =
-      few_copies 0 tokens (whole_few 0 tokens read.spells.read read.spells.spelled (omega (arith, read.few_copies))) u.taken u.rest u.token u.parts u.too_many
-
-  not_limited : (what : LimitKind) → Says 0 tokens None (length text) (Read (read_refusal.Limit what)) → ⊥
-  not_limited limit.Columns u = none_passed limit.Columns u
-  not_limited limit.Entries u = none_passed limit.Entries u
-  not_limited limit.Relations u = none_passed limit.Relations u
-  not_limited limit.Copies u = few_copied u
+  -- no limit is passed
+  not_limited : (which : TextLimit) → Passes texts 0 tokens which → ⊥
+  not_limited which u = kept cases (keeping texts 0 which) (closed 0 which) tokens (spelled_front 0 which tokens read.spells.read (read.kept which)) u.taken u.rest u.token u.parts u.beyond
 
   -- there are two queries
   two_there : (count at : ℕ) → HasNotTwoQueries tokens None (length text) count at → ⊥
@@ -116,8 +103,8 @@ module _ (text : List ℕ) (written : CaseText) (numbers : Numbers) (read : IsRe
   says_memory (Read (read_refusal.Lex lexical)) u = absurd (u.unspelled refl read.spells.read read.spells.spelled)
   says_memory (Read (read_refusal.Unexpected at)) u = absurd (u.unspelled refl read.spells.read read.spells.spelled)
   says_memory (Read (read_refusal.LeftOut word at)) u = absurd (u.unspelled refl read.spells.read read.spells.spelled)
-  says_memory (Read (read_refusal.TooDeep at)) u = absurd (read.shallow u.taken u.rest u.token u.parts u.too_deep)
-  says_memory (Read (read_refusal.Limit what)) u = absurd (not_limited what u)
+  says_memory (Read (read_refusal.TooDeep at)) u = absurd (not_limited depth_limit u.passes)
+  says_memory (Read (read_refusal.Limit what)) u = absurd (not_limited (count_limit what) u)
   says_memory (Read read_refusal.NoMemory) u = absurd u
   says_memory (Schema refused) u = absurd u
   says_memory (Scope refused) u = absurd u

@@ -1,13 +1,8 @@
 //! The rules behind a column.
-ghost use Rattle.std.specs.Prelude.{◌≡◌, ◌++◌, ◌∷◌, [], ℕ, suc, IfOk, None};
-ghost use Rattle.grammar.specs.Form.{star};
-ghost use Rattle.grammar.specs.Productions.{optional};
+ghost use Rattle.std.specs.Prelude.{◌≡◌, ◌∷◌, [], IfOk};
 ghost use Rattle.sql_read.specs.Eating.{Extends};
-ghost use Rattle.sql_grammar.specs.Numbering.{plain};
-ghost use Rattle.sql_read.specs.Reads.{Reads};
-ghost use Rattle.schema_read.specs.CopiedStatements.{CopiesNothing};
-ghost use Rattle.schema_read.specs.StatementGrammar as g;
-ghost use Rattle.schema_read.specs.StatementTrees as t;
+ghost use Rattle.sql_read.specs.Reading.{Gives};
+ghost use Rattle.schema_read.specs.StatementReaders as reader;
 
 use super::names::{name, names, names_behind};
 use plain_data::List;
@@ -32,9 +27,9 @@ fn alone(alloc: Global, column: &NameAt) -> Result<List<NameAt>, NoMemory>
 }
 
 /// `[( name {, name} )]`
+#[tactic(auto, unfolding(crate::specs::StatementReaders::names_if_any))]
 fn names_if_any(alloc: Global, tokens: &mut Tokens<'_>) -> Result<Option<List<NameAt>>, ReadFault>
-    ensures reads { (levels : ℕ) → Reads (optional g.names) (suc levels) (λ names. plain names) tokens.old tokens.old result tokens.new }
-    ensures free { CopiesNothing result }
+    ensures does { Gives result tokens.new (reader.names_if_any tokens.old) }
     ensures extends { Extends tokens.old tokens.new }
 {
     match tokens.eat(Kind::Open) {
@@ -47,13 +42,13 @@ fn names_if_any(alloc: Global, tokens: &mut Tokens<'_>) -> Result<Option<List<Na
 }
 
 /// `REFERENCES name [names]`: a foreign key of these columns.
+#[tactic(auto, unfolding(crate::specs::StatementReaders::references))]
 pub fn references(
     alloc: Global,
     tokens: &mut Tokens<'_>,
     columns: List<NameAt>,
 ) -> Result<TableRule, ReadFault>
-    ensures reads { (levels : ℕ) → Reads g.references (suc levels) (λ target. plain (t.foreign_key columns target)) tokens.old tokens.old result tokens.new }
-    ensures free { CopiesNothing result }
+    ensures does { Gives result tokens.new (reader.references columns tokens.old) }
     ensures extends { Extends tokens.old tokens.new }
 {
     tokens.expect(alloc, Kind::References)?;
@@ -67,14 +62,14 @@ pub fn references(
 }
 
 /// `{colrule}`: the rules of the column, behind those before it.
+#[tactic(auto, unfolding(crate::specs::StatementReaders::column_rules))]
 pub fn column_rules(
     alloc: Global,
     tokens: &mut Tokens<'_>,
     column: &NameAt,
     before: List<TableRule>,
 ) -> Result<List<TableRule>, ReadFault>
-    ensures reads { (levels : ℕ) → Reads (star None g.column_rule) (suc levels) (λ read. plain (before ++ t.rules_of column.now read)) tokens.old tokens.old result tokens.new }
-    ensures free { CopiesNothing result }
+    ensures does { Gives result tokens.new (reader.column_rules column.now before tokens.old) }
     ensures extends { Extends tokens.old tokens.new }
 {
     let mut rules = before;
@@ -87,13 +82,13 @@ pub fn column_rules(
 }
 
 /// What stands next behind a column: a rule of it, or `NOT NULL`, which is none.
+#[tactic(auto, unfolding(crate::specs::StatementReaders::column_rule))]
 fn column_rule(
     alloc: Global,
     tokens: &mut Tokens<'_>,
     column: &NameAt,
 ) -> Result<Option<TableRule>, ReadFault>
-    ensures reads { (levels : ℕ) → Reads g.column_rule (suc levels) (λ rule_of. plain (rule_of column.now)) tokens.old tokens.old result tokens.new }
-    ensures free { CopiesNothing result }
+    ensures does { Gives result tokens.new (reader.column_rule column.now tokens.old) }
     ensures extends { Extends tokens.old tokens.new }
 {
     if let Some(_) = tokens.eat(Kind::Not) {

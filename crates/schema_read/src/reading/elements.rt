@@ -1,16 +1,8 @@
 //! What stands in the parentheses of a table: columns and rules.
-ghost use Rattle.std.specs.Prelude.{◌≡◌, ◌≢◌, ◌≤◌, ◌+◌, ℕ, suc, length, IfOk, None};
-ghost use Rattle.grammar.specs.Form.{seq};
-ghost use Rattle.grammar.specs.Language.{no_language};
-ghost use Rattle.sql_read.specs.declared.fault.LimitKind.TheVariants as limit;
+ghost use Rattle.std.specs.Prelude.{Result};
 ghost use Rattle.sql_read.specs.Eating.{Extends};
-ghost use Rattle.sql_grammar.specs.Numbering.{plain};
-ghost use Rattle.sql_grammar.specs.QueryGrammar.{parens};
-ghost use Rattle.sql_read.specs.Reads.{Reads, RefusesWithin, columns_too, few_form, of_form};
-ghost use Rattle.schema_read.specs.CopiedStatements.{CopiesNothing};
-ghost use Rattle.schema_read.specs.Counting.{Counts, ReadsTelling, RefusesCounted, element_behind, narrowly};
-ghost use Rattle.schema_read.specs.StatementGrammar as g;
-ghost use Rattle.schema_read.specs.StatementTrees as t;
+ghost use Rattle.sql_read.specs.Reading.{Gives};
+ghost use Rattle.schema_read.specs.StatementReaders as reader;
 
 use super::MOST_COLUMNS;
 use super::columns::column_rules;
@@ -33,12 +25,9 @@ pub struct Elements {
 }
 
 /// `( column {, element} )`
+#[tactic(auto, unfolding(crate::specs::StatementReaders::table_elements))]
 pub fn table_elements(alloc: Global, tokens: &mut Tokens<'_>) -> Result<Elements, ReadFault>
-    ensures reads { (levels : ℕ) → ReadsTelling columns_too (parens (seq g.column g.elements)) (suc (suc levels)) (λ read. plain (t.with_elements read.0 (t.all_elements read.1)))
-        tokens.old tokens.old result tokens.new }
-    ensures columns { Counts limit.Columns (parens (seq g.column g.elements)) (of_form None (parens (seq g.column narrowly))) tokens.old result tokens.new }
-    ensures narrow { IfOk result (λ elements. length elements.columns ≤ 32) }
-    ensures free { CopiesNothing result }
+    ensures does { Gives result tokens.new (reader.table_elements tokens.old) }
     ensures extends { Extends tokens.old tokens.new }
 {
     tokens.expect(alloc, Kind::Open)?;
@@ -48,11 +37,9 @@ pub fn table_elements(alloc: Global, tokens: &mut Tokens<'_>) -> Result<Elements
 }
 
 /// `column {, element}`
+#[tactic(auto, unfolding(crate::specs::StatementReaders::listed_elements))]
 fn listed_elements(alloc: Global, tokens: &mut Tokens<'_>) -> Result<Elements, ReadFault>
-    ensures reads { (levels : ℕ) → ReadsTelling columns_too (seq g.column g.elements) (suc levels) (λ read. plain (t.with_elements read.0 (t.all_elements read.1))) tokens.old tokens.old result tokens.new }
-    ensures columns { Counts limit.Columns (seq g.column g.elements) (of_form None (seq g.column narrowly)) tokens.old result tokens.new }
-    ensures narrow { IfOk result (λ elements. length elements.columns ≤ 32) }
-    ensures free { CopiesNothing result }
+    ensures does { Gives result tokens.new (reader.listed_elements tokens.old) }
     ensures extends { Extends tokens.old tokens.new }
 {
     let none = Elements {
@@ -69,12 +56,9 @@ fn listed_elements(alloc: Global, tokens: &mut Tokens<'_>) -> Result<Elements, R
 }
 
 /// `column | [CONSTRAINT name] tablerule`, behind the elements before it.
+#[tactic(auto, unfolding(crate::specs::StatementReaders::element))]
 fn element(alloc: Global, tokens: &mut Tokens<'_>, before: Elements) -> Result<Elements, ReadFault>
-    requires { length before.columns ≤ 32 }
-    ensures reads { (levels : ℕ) → ReadsTelling columns_too g.element (suc levels) (λ read. plain (t.with_elements before read)) tokens.old tokens.old result tokens.new }
-    ensures columns { Counts limit.Columns g.element (element_behind (length before.columns)) tokens.old result tokens.new }
-    ensures narrow { IfOk result (λ elements. length elements.columns ≤ 32) }
-    ensures free { CopiesNothing result }
+    ensures does { Gives result tokens.new (reader.element before tokens.old) }
     ensures extends { Extends tokens.old tokens.new }
 {
     if tokens.sees_any(&CONSTRAINT_KINDS) {
@@ -87,10 +71,9 @@ fn element(alloc: Global, tokens: &mut Tokens<'_>, before: Elements) -> Result<E
 }
 
 /// The refusal of what stands next where no column may follow: of a column, or of what is none.
+#[tactic(auto, unfolding(crate::specs::StatementReaders::no_column))]
 fn no_column(alloc: Global, tokens: &Tokens<'_>) -> ReadFault
-    ensures refuses { (levels : ℕ) → RefusesWithin columns_too g.column (few_form g.column) (suc levels) tokens.now result tokens.now }
-    ensures columns { RefusesCounted limit.Columns g.column no_language tokens.now result tokens.now }
-    ensures free { result ≢ ReadFault.Limit LimitKind.Copies }
+    ensures does { Gives (Result.Err result) tokens.now (reader.no_column tokens.now) }
 {
     if tokens.sees_any(&NAME_KINDS) {
         return ReadFault::Limit {
@@ -101,14 +84,13 @@ fn no_column(alloc: Global, tokens: &Tokens<'_>) -> ReadFault
 }
 
 /// `[CONSTRAINT name] tablerule`, behind the elements before it.
+#[tactic(auto, unfolding(crate::specs::StatementReaders::rule_element))]
 fn rule_element(
     alloc: Global,
     tokens: &mut Tokens<'_>,
     before: Elements,
 ) -> Result<Elements, ReadFault>
-    ensures reads { (levels : ℕ) → Reads g.constraint (suc levels) (λ read. plain (t.with_elements before read)) tokens.old tokens.old result tokens.new }
-    ensures same { IfOk result (λ elements. elements.columns ≡ before.columns) }
-    ensures free { CopiesNothing result }
+    ensures does { Gives result tokens.new (reader.rule_element before tokens.old) }
     ensures extends { Extends tokens.old tokens.new }
 {
     let Elements { columns, mut rules } = before;
@@ -118,10 +100,9 @@ fn rule_element(
 }
 
 /// `name type {colrule}`, behind the elements before it.
+#[tactic(auto, unfolding(crate::specs::StatementReaders::column))]
 fn column(alloc: Global, tokens: &mut Tokens<'_>, before: Elements) -> Result<Elements, ReadFault>
-    ensures reads { (levels : ℕ) → Reads g.column (suc levels) (λ read. plain (t.with_elements before read)) tokens.old tokens.old result tokens.new }
-    ensures one { IfOk result (λ elements. length elements.columns ≡ length before.columns + 1) }
-    ensures free { CopiesNothing result }
+    ensures does { Gives result tokens.new (reader.column before tokens.old) }
     ensures extends { Extends tokens.old tokens.new }
 {
     let Elements { mut columns, rules } = before;

@@ -1,15 +1,8 @@
 //! Indexes.
-ghost use Rattle.std.specs.Prelude.{◌≤◌, ℕ, suc, IfOk};
-ghost use Rattle.grammar.specs.Productions.{optional};
-ghost use Rattle.sql_grammar.specs.declared.kinds.Kind.TheVariants as k;
+ghost use Rattle.std.specs.Prelude.{Result};
 ghost use Rattle.sql_read.specs.Eating.{Extends};
-ghost use Rattle.sql_grammar.specs.Numbering.{plain};
-ghost use Rattle.sql_grammar.specs.QueryGrammar as query;
-ghost use Rattle.sql_grammar.specs.QueryTrees.{is_given};
-ghost use Rattle.sql_read.specs.Reads.{Gives, Reads};
-ghost use Rattle.schema_read.specs.CopiedStatements.{CopiesNothing};
-ghost use Rattle.schema_read.specs.StatementGrammar as g;
-ghost use Rattle.schema_read.specs.StatementLimits.{column_count};
+ghost use Rattle.sql_read.specs.Reading.{Gives};
+ghost use Rattle.schema_read.specs.StatementReaders as reader;
 
 use super::names::{name, names};
 use sql_grammar::Kind;
@@ -18,8 +11,9 @@ use sql_read::{ReadFault, Tokens};
 use std::alloc::Global;
 
 /// `[UNIQUE]`
+#[tactic(auto, unfolding(crate::specs::StatementReaders::unique_word))]
 fn unique_word(tokens: &mut Tokens<'_>) -> bool
-    ensures reads { (levels : ℕ) → Gives (optional (query.a k.Unique)) levels (λ word. plain (is_given word)) tokens.old tokens.old result tokens.new }
+    ensures does { Gives (Result.Ok result) tokens.new (reader.unique_word tokens.old) }
     ensures extends { Extends tokens.old tokens.new }
 {
     match tokens.eat(Kind::Unique) {
@@ -29,10 +23,9 @@ fn unique_word(tokens: &mut Tokens<'_>) -> bool
 }
 
 /// `[UNIQUE] INDEX name ON name names`
+#[tactic(auto, unfolding(crate::specs::StatementReaders::index))]
 pub fn index(alloc: Global, tokens: &mut Tokens<'_>) -> Result<Statement, ReadFault>
-    ensures reads { (levels : ℕ) → Reads g.index (suc levels) (λ read. read) tokens.old tokens.old result tokens.new }
-    ensures narrow { IfOk result (λ statement. column_count statement ≤ 32) }
-    ensures free { CopiesNothing result }
+    ensures does { Gives result tokens.new (reader.index tokens.old) }
     ensures extends { Extends tokens.old tokens.new }
 {
     let unique = unique_word(tokens);

@@ -1,14 +1,9 @@
 //! Names, lists of them, and types.
-ghost use Rattle.std.specs.Prelude.{◌≡◌, ◌<◌, ◌^◌, ℕ, suc, IfOk};
+ghost use Rattle.std.specs.Prelude.{◌≡◌, ◌<◌, ◌^◌, IfOk, Result};
 ghost use Rattle.sql_lex.specs.Lexemes.{lexeme_of};
-ghost use Rattle.grammar.specs.Productions.{then_skip};
-ghost use Rattle.sql_grammar.specs.declared.kinds.Kind.TheVariants as k;
 ghost use Rattle.sql_read.specs.Eating.{Extends};
-ghost use Rattle.sql_grammar.specs.Numbering.{plain};
-ghost use Rattle.sql_grammar.specs.QueryGrammar as query;
-ghost use Rattle.sql_read.specs.Reads.{Gives, Reads};
-ghost use Rattle.schema_read.specs.CopiedStatements.{CopiesNothing};
-ghost use Rattle.schema_read.specs.StatementGrammar as g;
+ghost use Rattle.sql_read.specs.Reading.{Gives};
+ghost use Rattle.schema_read.specs.StatementReaders as reader;
 ghost use Rattle.schema_read.specs.StatementTrees as t;
 
 use plain_data::List;
@@ -43,9 +38,9 @@ fn named(alloc: Global, token: &Token<'_>) -> Result<NameAt, NoMemory>
 }
 
 /// A name, with its place.
+#[tactic(auto, unfolding(crate::specs::StatementReaders::name))]
 pub fn name(alloc: Global, tokens: &mut Tokens<'_>) -> Result<NameAt, ReadFault>
-    ensures reads { (levels : ℕ) → Reads query.name levels (λ token. plain (t.named token)) tokens.old tokens.old result tokens.new }
-    ensures free { CopiesNothing result }
+    ensures does { Gives result tokens.new (reader.name tokens.old) }
     ensures extends { Extends tokens.old tokens.new }
 {
     let token = tokens.expect_any(alloc, &NAME_KINDS)?;
@@ -53,9 +48,9 @@ pub fn name(alloc: Global, tokens: &mut Tokens<'_>) -> Result<NameAt, ReadFault>
 }
 
 /// `( name {, name} )`
+#[tactic(auto, unfolding(crate::specs::StatementReaders::names))]
 pub fn names(alloc: Global, tokens: &mut Tokens<'_>) -> Result<List<NameAt>, ReadFault>
-    ensures reads { (levels : ℕ) → Reads g.names (suc levels) (λ names. plain names) tokens.old tokens.old result tokens.new }
-    ensures free { CopiesNothing result }
+    ensures does { Gives result tokens.new (reader.names tokens.old) }
     ensures extends { Extends tokens.old tokens.new }
 {
     tokens.expect(alloc, Kind::Open)?;
@@ -63,9 +58,9 @@ pub fn names(alloc: Global, tokens: &mut Tokens<'_>) -> Result<List<NameAt>, Rea
 }
 
 /// `name {, name} )`: names behind their parenthesis.
+#[tactic(auto, unfolding(crate::specs::StatementReaders::names_behind))]
 pub fn names_behind(alloc: Global, tokens: &mut Tokens<'_>) -> Result<List<NameAt>, ReadFault>
-    ensures reads { (levels : ℕ) → Reads (then_skip (query.listed query.name) (query.a k.Close)) levels (λ names. plain (t.names names)) tokens.old tokens.old result tokens.new }
-    ensures free { CopiesNothing result }
+    ensures does { Gives result tokens.new (reader.names_behind tokens.old) }
     ensures extends { Extends tokens.old tokens.new }
 {
     let names = listed_names(alloc, tokens)?;
@@ -74,9 +69,9 @@ pub fn names_behind(alloc: Global, tokens: &mut Tokens<'_>) -> Result<List<NameA
 }
 
 /// `name {, name}`
+#[tactic(auto, unfolding(crate::specs::StatementReaders::listed_names))]
 fn listed_names(alloc: Global, tokens: &mut Tokens<'_>) -> Result<List<NameAt>, ReadFault>
-    ensures reads { (levels : ℕ) → Reads (query.listed query.name) levels (λ names. plain (t.names names)) tokens.old tokens.old result tokens.new }
-    ensures free { CopiesNothing result }
+    ensures does { Gives result tokens.new (reader.listed_names tokens.old) }
     ensures extends { Extends tokens.old tokens.new }
 {
     let first = name(alloc, tokens)?;
@@ -92,9 +87,9 @@ fn listed_names(alloc: Global, tokens: &mut Tokens<'_>) -> Result<List<NameAt>, 
 }
 
 /// A type, of which nothing is kept.
+#[tactic(auto, unfolding(crate::specs::StatementReaders::type_name))]
 pub fn type_name(alloc: Global, tokens: &mut Tokens<'_>) -> Result<(), ReadFault>
-    ensures reads { (levels : ℕ) → Reads g.type (suc levels) (λ nothing. plain (tt {0})) tokens.old tokens.old result tokens.new }
-    ensures free { CopiesNothing result }
+    ensures does { Gives result tokens.new (reader.type_name tokens.old) }
     ensures extends { Extends tokens.old tokens.new }
 {
     tokens.expect_any(alloc, &WORD_KINDS)?;
@@ -103,8 +98,9 @@ pub fn type_name(alloc: Global, tokens: &mut Tokens<'_>) -> Result<(), ReadFault
 }
 
 /// `[word [word]]`
+#[tactic(auto, unfolding(crate::specs::StatementReaders::more_words))]
 fn more_words(tokens: &mut Tokens<'_>)
-    ensures reads { (levels : ℕ) → Gives g.more_words (suc levels) (λ words. plain (tt {0})) tokens.old tokens.old (tt {0}) tokens.new }
+    ensures does { Gives (Result.Ok tt) tokens.new (reader.more_words tokens.old) }
     ensures extends { Extends tokens.old tokens.new }
 {
     if let Some(_) = tokens.eat_any(&WORD_KINDS) {
@@ -113,9 +109,9 @@ fn more_words(tokens: &mut Tokens<'_>)
 }
 
 /// `[( number [, number] )]`
+#[tactic(auto, unfolding(crate::specs::StatementReaders::sizes))]
 fn sizes(alloc: Global, tokens: &mut Tokens<'_>) -> Result<(), ReadFault>
-    ensures reads { (levels : ℕ) → Reads g.sizes (suc levels) (λ nothing. plain (tt {0})) tokens.old tokens.old result tokens.new }
-    ensures free { CopiesNothing result }
+    ensures does { Gives result tokens.new (reader.sizes tokens.old) }
     ensures extends { Extends tokens.old tokens.new }
 {
     match tokens.eat(Kind::Open) {
@@ -129,9 +125,9 @@ fn sizes(alloc: Global, tokens: &mut Tokens<'_>) -> Result<(), ReadFault>
 }
 
 /// `number [, number]`
+#[tactic(auto, unfolding(crate::specs::StatementReaders::sizes_inside))]
 fn sizes_inside(alloc: Global, tokens: &mut Tokens<'_>) -> Result<(), ReadFault>
-    ensures reads { (levels : ℕ) → Reads g.sizes_inside levels (λ nothing. plain (tt {0})) tokens.old tokens.old result tokens.new }
-    ensures free { CopiesNothing result }
+    ensures does { Gives result tokens.new (reader.sizes_inside tokens.old) }
     ensures extends { Extends tokens.old tokens.new }
 {
     tokens.expect(alloc, Kind::Number)?;

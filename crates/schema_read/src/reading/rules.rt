@@ -1,11 +1,7 @@
 //! The rules of a table that stand beside its columns.
-ghost use Rattle.std.specs.Prelude.{ℕ, suc};
-ghost use Rattle.grammar.specs.Productions.{skip_then};
 ghost use Rattle.sql_read.specs.Eating.{Extends};
-ghost use Rattle.sql_grammar.specs.Numbering.{plain};
-ghost use Rattle.sql_read.specs.Reads.{Reads};
-ghost use Rattle.schema_read.specs.CopiedStatements.{CopiesNothing};
-ghost use Rattle.schema_read.specs.StatementGrammar as g;
+ghost use Rattle.sql_read.specs.Reading.{Gives};
+ghost use Rattle.schema_read.specs.StatementReaders as reader;
 
 use super::columns::{key, references};
 use super::names::{name, names};
@@ -15,9 +11,9 @@ use sql_read::{ReadFault, Tokens, place};
 use std::alloc::Global;
 
 /// `[CONSTRAINT name] tablerule`
+#[tactic(auto, unfolding(crate::specs::StatementReaders::constraint))]
 pub fn constraint(alloc: Global, tokens: &mut Tokens<'_>) -> Result<TableRule, ReadFault>
-    ensures reads { (levels : ℕ) → Reads (skip_then g.constraint_name g.table_rule) (suc levels) (λ rule. plain rule) tokens.old tokens.old result tokens.new }
-    ensures free { CopiesNothing result }
+    ensures does { Gives result tokens.new (reader.constraint tokens.old) }
     ensures extends { Extends tokens.old tokens.new }
 {
     constraint_name(alloc, tokens)?;
@@ -25,9 +21,9 @@ pub fn constraint(alloc: Global, tokens: &mut Tokens<'_>) -> Result<TableRule, R
 }
 
 /// `[CONSTRAINT name]`, of which nothing is kept.
+#[tactic(auto, unfolding(crate::specs::StatementReaders::constraint_name))]
 fn constraint_name(alloc: Global, tokens: &mut Tokens<'_>) -> Result<(), ReadFault>
-    ensures reads { (levels : ℕ) → Reads g.constraint_name levels (λ words. plain (tt {0})) tokens.old tokens.old result tokens.new }
-    ensures free { CopiesNothing result }
+    ensures does { Gives result tokens.new (reader.constraint_name tokens.old) }
     ensures extends { Extends tokens.old tokens.new }
 {
     match tokens.eat(Kind::Constraint) {
@@ -39,9 +35,9 @@ fn constraint_name(alloc: Global, tokens: &mut Tokens<'_>) -> Result<(), ReadFau
     }
 }
 
+#[tactic(auto, unfolding(crate::specs::StatementReaders::table_rule))]
 fn table_rule(alloc: Global, tokens: &mut Tokens<'_>) -> Result<TableRule, ReadFault>
-    ensures reads { (levels : ℕ) → Reads g.table_rule (suc levels) (λ rule. plain rule) tokens.old tokens.old result tokens.new }
-    ensures free { CopiesNothing result }
+    ensures does { Gives result tokens.new (reader.table_rule tokens.old) }
     ensures extends { Extends tokens.old tokens.new }
 {
     if let Some(word) = tokens.eat(Kind::Primary) {
@@ -57,9 +53,9 @@ fn table_rule(alloc: Global, tokens: &mut Tokens<'_>) -> Result<TableRule, ReadF
 }
 
 /// `FOREIGN KEY names REFERENCES name [names]`
+#[tactic(auto, unfolding(crate::specs::StatementReaders::foreign_key))]
 fn foreign_key(alloc: Global, tokens: &mut Tokens<'_>) -> Result<TableRule, ReadFault>
-    ensures reads { (levels : ℕ) → Reads g.foreign_key (suc levels) (λ rule. plain rule) tokens.old tokens.old result tokens.new }
-    ensures free { CopiesNothing result }
+    ensures does { Gives result tokens.new (reader.foreign_key tokens.old) }
     ensures extends { Extends tokens.old tokens.new }
 {
     tokens.expect(alloc, Kind::Foreign)?;

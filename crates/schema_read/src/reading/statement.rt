@@ -1,14 +1,7 @@
 //! Statements.
-ghost use Rattle.std.specs.Prelude.{◌≤◌, ℕ, suc, length, IfOk, None};
-ghost use Rattle.data_model.specs.Lists.{Each};
-ghost use Rattle.sql_read.specs.declared.fault.LimitKind.TheVariants as limit;
 ghost use Rattle.sql_read.specs.Eating.{Extends};
-ghost use Rattle.sql_grammar.specs.Queries.{most_levels};
-ghost use Rattle.sql_read.specs.Reads.{Reads, columns_too, of_form, relations_too};
-ghost use Rattle.schema_read.specs.CopiedStatements.{Copied, CopiesNothing};
-ghost use Rattle.schema_read.specs.Counting.{Counts, ReadsTelling, few_planned, narrowly};
-ghost use Rattle.schema_read.specs.StatementGrammar as g;
-ghost use Rattle.schema_read.specs.StatementLimits.{column_count};
+ghost use Rattle.sql_read.specs.Reading.{Gives};
+ghost use Rattle.schema_read.specs.StatementReaders as reader;
 
 use super::MOST_RELATIONS;
 use super::elements::{Elements, table_elements};
@@ -21,13 +14,9 @@ use sql_read::{LimitKind, MOST_LEVELS, ReadFault, Tokens, read_inner_query};
 use std::alloc::Global;
 
 /// `{statement ;}`
+#[tactic(auto, unfolding(crate::specs::StatementReaders::statements))]
 pub fn statements(alloc: Global, tokens: &mut Tokens<'_>) -> Result<List<Statement>, ReadFault>
-    ensures reads { ReadsTelling relations_too g.statements most_levels (λ read. read) tokens.old tokens.old result tokens.new }
-    ensures columns { Counts limit.Columns g.statements (of_form None (g.statements_with narrowly)) tokens.old result tokens.new }
-    ensures relations { Counts limit.Relations g.statements few_planned tokens.old result tokens.new }
-    ensures copied { Copied g.statements (λ read. read) tokens.old tokens.old result tokens.new }
-    ensures few { IfOk result (λ statements. length statements ≤ 256) }
-    ensures narrow { IfOk result (λ statements. Each (λ statement. column_count statement ≤ 32) statements) }
+    ensures does { Gives result tokens.new (reader.statements tokens.old) }
     ensures extends { Extends tokens.old tokens.new }
 {
     let mut statements = List::new(alloc);
@@ -44,11 +33,9 @@ pub fn statements(alloc: Global, tokens: &mut Tokens<'_>) -> Result<List<Stateme
 }
 
 /// `statement ;`
+#[tactic(auto, unfolding(crate::specs::StatementReaders::ended_statement))]
 fn ended_statement(alloc: Global, tokens: &mut Tokens<'_>) -> Result<Statement, ReadFault>
-    ensures reads { ReadsTelling columns_too (g.ended_with g.elements) most_levels (λ read. read) tokens.old tokens.old result tokens.new }
-    ensures columns { Counts limit.Columns (g.ended_with g.elements) (of_form None (g.ended_with narrowly)) tokens.old result tokens.new }
-    ensures copied { Copied (g.ended_with g.elements) (λ read. read) tokens.old tokens.old result tokens.new }
-    ensures narrow { IfOk result (λ statement. column_count statement ≤ 32) }
+    ensures does { Gives result tokens.new (reader.ended_statement tokens.old) }
     ensures extends { Extends tokens.old tokens.new }
 {
     let statement = statement(alloc, tokens)?;
@@ -57,11 +44,9 @@ fn ended_statement(alloc: Global, tokens: &mut Tokens<'_>) -> Result<Statement, 
 }
 
 /// `CREATE`, and what is created.
+#[tactic(auto, unfolding(crate::specs::StatementReaders::one_statement))]
 fn statement(alloc: Global, tokens: &mut Tokens<'_>) -> Result<Statement, ReadFault>
-    ensures reads { ReadsTelling columns_too g.statement most_levels (λ read. read) tokens.old tokens.old result tokens.new }
-    ensures columns { Counts limit.Columns g.statement (of_form None (g.statement_with narrowly)) tokens.old result tokens.new }
-    ensures copied { Copied g.statement (λ read. read) tokens.old tokens.old result tokens.new }
-    ensures narrow { IfOk result (λ statement. column_count statement ≤ 32) }
+    ensures does { Gives result tokens.new (reader.one_statement tokens.old) }
     ensures extends { Extends tokens.old tokens.new }
 {
     tokens.expect(alloc, Kind::Create)?;
@@ -75,11 +60,9 @@ fn statement(alloc: Global, tokens: &mut Tokens<'_>) -> Result<Statement, ReadFa
 }
 
 /// `TABLE name ( column {, element} )`
+#[tactic(auto, unfolding(crate::specs::StatementReaders::table))]
 fn table(alloc: Global, tokens: &mut Tokens<'_>) -> Result<Statement, ReadFault>
-    ensures reads { (levels : ℕ) → ReadsTelling columns_too (g.table_with g.elements) (suc (suc levels)) (λ read. read) tokens.old tokens.old result tokens.new }
-    ensures columns { Counts limit.Columns (g.table_with g.elements) (of_form None (g.table_with narrowly)) tokens.old result tokens.new }
-    ensures narrow { IfOk result (λ statement. column_count statement ≤ 32) }
-    ensures free { CopiesNothing result }
+    ensures does { Gives result tokens.new (reader.table tokens.old) }
     ensures extends { Extends tokens.old tokens.new }
 {
     tokens.expect(alloc, Kind::Table)?;
@@ -93,10 +76,9 @@ fn table(alloc: Global, tokens: &mut Tokens<'_>) -> Result<Statement, ReadFault>
 }
 
 /// `VIEW name AS query`
+#[tactic(auto, unfolding(crate::specs::StatementReaders::view))]
 fn view(alloc: Global, tokens: &mut Tokens<'_>) -> Result<Statement, ReadFault>
-    ensures reads { Reads g.view most_levels (λ read. read) tokens.old tokens.old result tokens.new }
-    ensures copied { Copied g.view (λ read. read) tokens.old tokens.old result tokens.new }
-    ensures narrow { IfOk result (λ statement. column_count statement ≤ 32) }
+    ensures does { Gives result tokens.new (reader.view tokens.old) }
     ensures extends { Extends tokens.old tokens.new }
 {
     tokens.expect(alloc, Kind::View)?;

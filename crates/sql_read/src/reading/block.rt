@@ -1,15 +1,7 @@
 //! Blocks: `SELECT .. FROM .. WHERE .. GROUP BY .. HAVING ..`.
-ghost use Rattle.std.specs.Prelude.{IfOk, List, Option, length, ℕ, ◌≡◌};
-ghost use Rattle.grammar.specs.Form.{ref};
-ghost use Rattle.grammar.specs.Productions.{optional, skip_then};
-ghost use Rattle.sql_read.specs.Copied.{Copied};
 ghost use Rattle.sql_read.specs.Eating.{Extends};
-ghost use Rattle.sql_grammar.specs.Kinds.{same};
-ghost use Rattle.sql_grammar.specs.Numbering.{each, perhaps, plain};
-ghost use Rattle.sql_grammar.specs.QueryGrammar as grammar;
-ghost use Rattle.sql_grammar.specs.QueryGrammar.{a, group_by, listed};
-ghost use Rattle.sql_grammar.specs.QueryTrees.{all_of, columns_of};
-ghost use Rattle.sql_read.specs.Reads.{Reads};
+ghost use Rattle.sql_read.specs.Reading as reading;
+ghost use Rattle.sql_read.specs.Reading.{Does, Gives};
 
 use super::MOST_SEPARATORS;
 use super::entry::entries;
@@ -25,10 +17,10 @@ use sql_model::{Block, Expr, Item, Query};
 use std::alloc::Global;
 
 /// `SELECT [DISTINCT] items FROM entries [WHERE expr] [GROUP BY columns] [HAVING expr]`
+#[tactic(auto, unfolding(crate::specs::Reading::block))]
 #[cycle(read)]
 pub fn block(alloc: Global, tokens: &mut Tokens<'_>, levels: u8) -> Result<Query, ReadFault>
-    ensures reads { Reads (ref grammar.block) levels (λ read. read) tokens.old tokens.old result tokens.new }
-    ensures copied { Copied (ref grammar.block) (λ read. read) tokens.old tokens.old result tokens.new }
+    ensures does { Does reading.block levels tokens.old result tokens.new }
     ensures extends { Extends tokens.old tokens.new }
 {
     tokens.expect(alloc, Kind::Select)?;
@@ -53,10 +45,10 @@ pub fn block(alloc: Global, tokens: &mut Tokens<'_>, levels: u8) -> Result<Query
 }
 
 /// `item {, item}`
+#[tactic(auto, unfolding(crate::specs::Reading::items))]
 #[cycle(read)]
 fn items(alloc: Global, tokens: &mut Tokens<'_>, levels: u8) -> Result<List<Item>, ReadFault>
-    ensures reads { Reads (listed (ref grammar.item)) levels (λ items. each (all_of items)) tokens.old tokens.old result tokens.new }
-    ensures copied { Copied (listed (ref grammar.item)) (λ items. each (all_of items)) tokens.old tokens.old result tokens.new }
+    ensures does { Does reading.items levels tokens.old result tokens.new }
     ensures extends { Extends tokens.old tokens.new }
 {
     let mut items = List::new(alloc);
@@ -72,10 +64,10 @@ fn items(alloc: Global, tokens: &mut Tokens<'_>, levels: u8) -> Result<List<Item
 }
 
 /// The condition of WHERE, if it stands next.
+#[tactic(auto, unfolding(crate::specs::Reading::filter))]
 #[cycle(read)]
 fn filter(alloc: Global, tokens: &mut Tokens<'_>, levels: u8) -> Result<Option<Expr>, ReadFault>
-    ensures reads { Reads (optional (skip_then (a Kind.Where) (ref grammar.expr))) levels perhaps tokens.old tokens.old result tokens.new }
-    ensures copied { Copied (optional (skip_then (a Kind.Where) (ref grammar.expr))) perhaps tokens.old tokens.old result tokens.new }
+    ensures does { Does reading.filter levels tokens.old result tokens.new }
     ensures extends { Extends tokens.old tokens.new }
 {
     match tokens.eat(Kind::Where) {
@@ -85,10 +77,10 @@ fn filter(alloc: Global, tokens: &mut Tokens<'_>, levels: u8) -> Result<Option<E
 }
 
 /// The condition of HAVING, if it stands next.
+#[tactic(auto, unfolding(crate::specs::Reading::having))]
 #[cycle(read)]
 fn having(alloc: Global, tokens: &mut Tokens<'_>, levels: u8) -> Result<Option<Expr>, ReadFault>
-    ensures reads { Reads (optional (skip_then (a Kind.Having) (ref grammar.expr))) levels perhaps tokens.old tokens.old result tokens.new }
-    ensures copied { Copied (optional (skip_then (a Kind.Having) (ref grammar.expr))) perhaps tokens.old tokens.old result tokens.new }
+    ensures does { Does reading.having levels tokens.old result tokens.new }
     ensures extends { Extends tokens.old tokens.new }
 {
     match tokens.eat(Kind::Having) {
@@ -97,9 +89,9 @@ fn having(alloc: Global, tokens: &mut Tokens<'_>, levels: u8) -> Result<Option<E
     }
 }
 
+#[tactic(auto, unfolding(crate::specs::Reading::group_by))]
 fn group_by(alloc: Global, tokens: &mut Tokens<'_>) -> Result<Option<List<Expr>>, ReadFault>
-    ensures reads { (levels : ℕ) → Reads group_by levels (λ columns. plain (columns_of columns)) tokens.old tokens.old result tokens.new }
-    ensures copied { Copied group_by (λ columns. plain (columns_of columns)) tokens.old tokens.old result tokens.new }
+    ensures does { Gives result tokens.new (reading.group_by tokens.old) }
     ensures extends { Extends tokens.old tokens.new }
 {
     let Some(_) = tokens.eat(Kind::Group) else {

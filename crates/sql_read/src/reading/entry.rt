@@ -1,20 +1,9 @@
 //! The entries of FROM.
-ghost use Rattle.std.specs.Prelude.{IfErr, IfOk, IfSome, List, length, true, ℕ, ◌<◌, ◌≡◌, [], ◌∷◌};
-ghost use Rattle.grammar.specs.Form.{ref, alt, seq};
-ghost use Rattle.grammar.specs.Productions.{optional};
-ghost use Rattle.sql_model.specs.declared.tree.Entry.{Entry};
-ghost use Rattle.sql_read.specs.Copied.{Copied};
-ghost use Rattle.sql_read.specs.Cursor.{Cursor};
-ghost use Rattle.sql_read.specs.Eating.{Extends, allowed_entry, is_next};
-ghost use Rattle.sql_grammar.specs.Kinds.{among};
-ghost use Rattle.sql_grammar.specs.Numbering.{Built};
-ghost use Rattle.sql_lex.specs.Lexemes.{Lexeme};
-ghost use Rattle.sql_grammar.specs.QueryEntries.{few_froms, most_further};
-ghost use Rattle.sql_grammar.specs.QueryGrammar as grammar;
-ghost use Rattle.sql_grammar.specs.QueryGrammar.{cross_join, join_on, listed, name};
-ghost use Rattle.sql_grammar.specs.QueryTrees.{all_entries, appended, table_entry};
-ghost use Rattle.sql_read.specs.ReadingEntries.{EntryAwaited, ReadsList, entry_behind, joins_behind};
-ghost use Rattle.sql_read.specs.Reads.{Builds, Reads, ReadsNextWithin, ReadsWithin, depth_alone, entries_too, few_form};
+ghost use Rattle.std.specs.Prelude.{IfOk, IfSome, OnOk, ◌<◌, ◌≡◌};
+ghost use Rattle.sql_grammar.specs.QueryEntries.{most_entries};
+ghost use Rattle.sql_read.specs.Eating.{Extends, allowed_entry};
+ghost use Rattle.sql_read.specs.Reading as reading;
+ghost use Rattle.sql_read.specs.Reading.{Does, Gives};
 
 use super::MOST_SEPARATORS;
 use super::expr::expr;
@@ -33,10 +22,10 @@ use std::alloc::Global;
 const MOST_ENTRIES: usize = 32;
 
 /// All entries of FROM, in the order of the text.
+#[tactic(auto, unfolding(crate::specs::Reading::entries))]
 #[cycle(read)]
 pub fn entries(alloc: Global, tokens: &mut Tokens<'_>, levels: u8) -> Result<List<Entry>, ReadFault>
-    ensures reads { ReadsWithin entries_too (listed (ref grammar.from)) (few_form (few_froms most_further)) levels all_entries tokens.old tokens.old result tokens.new }
-    ensures copied { Copied (listed (ref grammar.from)) all_entries tokens.old tokens.old result tokens.new }
+    ensures does { Does reading.entries levels tokens.old result tokens.new }
     ensures extends { Extends tokens.old tokens.new }
 {
     let first = from(alloc, tokens, levels, List::new(alloc))?;
@@ -51,6 +40,7 @@ pub fn entries(alloc: Global, tokens: &mut Tokens<'_>, levels: u8) -> Result<Lis
 }
 
 /// An item of FROM: its entries, behind those before them.
+#[tactic(auto, unfolding(crate::specs::Reading::from))]
 #[cycle(read)]
 fn from(
     alloc: Global,
@@ -58,11 +48,7 @@ fn from(
     levels: u8,
     before: List<Entry>,
 ) -> Result<List<Entry>, ReadFault>
-    ensures reads { (built : Built (List Entry)) (start : Cursor) → Builds built start before tokens.old
-        → ReadsWithin depth_alone (ref grammar.from) (few_form (ref grammar.from)) levels (λ read. appended built read) start tokens.old result tokens.new }
-    ensures few { (start : List Lexeme) → EntryAwaited (length before) start tokens.old.tokens → ReadsList start result tokens.new.tokens }
-    ensures copied { (built : Built (List Entry)) (start : Cursor) → Builds built start before tokens.old
-        → Copied (ref grammar.from) (λ read. appended built read) start tokens.old result tokens.new }
+    ensures does { Does (λ levels deeper. reading.from levels deeper before) levels tokens.old result tokens.new }
     ensures extends { Extends tokens.old tokens.new }
 {
     let mut entries = before;
@@ -75,6 +61,7 @@ fn from(
 }
 
 /// An entry behind a JOIN, if one stands next, behind so many others.
+#[tactic(auto, unfolding(crate::specs::Reading::joined_entry))]
 #[cycle(read)]
 fn joined_entry(
     alloc: Global,
@@ -82,10 +69,8 @@ fn joined_entry(
     levels: u8,
     count: usize,
 ) -> Result<Option<Entry>, ReadFault>
-    ensures reads { ReadsNextWithin (alt join_on cross_join) (joins_behind count) levels (λ read. read) tokens.old result tokens.new }
-    ensures copied { Copied (alt join_on cross_join) (λ read. read) tokens.old tokens.old result tokens.new }
-    ensures fewer { IfOk result (λ found. IfSome found (λ entry. length tokens.new.tokens < length tokens.old.tokens)) }
-    ensures begins { IfErr result (λ fault. is_next (among (Kind.Cross ∷ Kind.Inner ∷ Kind.Join ∷ [])) tokens.old.tokens ≡ true) }
+    ensures does { Does (λ levels deeper. reading.joined_entry levels deeper count) levels tokens.old result tokens.new }
+    ensures fits { IfOk result (λ found. IfSome found (λ entry. count < most_entries)) }
     ensures extends { Extends tokens.old tokens.new }
 {
     if let Some(_) = tokens.eat(Kind::Cross) {
@@ -105,6 +90,7 @@ fn joined_entry(
 }
 
 /// An entry behind so many others.
+#[tactic(auto, unfolding(crate::specs::Reading::entry))]
 #[cycle(read)]
 fn entry(
     alloc: Global,
@@ -112,8 +98,8 @@ fn entry(
     levels: u8,
     count: usize,
 ) -> Result<Listed, ReadFault>
-    ensures reads { ReadsWithin entries_too (ref grammar.entry) (entry_behind count) levels (λ read. read) tokens.old tokens.old result tokens.new }
-    ensures copied { Copied (ref grammar.entry) (λ read. read) tokens.old tokens.old result tokens.new }
+    ensures does { Does (λ levels deeper. reading.entry levels deeper count) levels tokens.old result tokens.new }
+    ensures fits { OnOk result (count < most_entries) }
     ensures extends { Extends tokens.old tokens.new }
 {
     allow_entry(tokens, levels, count)?;
@@ -127,9 +113,9 @@ fn entry(
 }
 
 /// A table, and its alias where one is written.
+#[tactic(auto, unfolding(crate::specs::Reading::table_entry))]
 fn table_entry(alloc: Global, tokens: &mut Tokens<'_>) -> Result<Listed, ReadFault>
-    ensures reads { (levels : ℕ) → Reads (seq name (optional grammar.alias)) levels (λ read. table_entry read.0 read.1) tokens.old tokens.old result tokens.new }
-    ensures copied { Copied (seq name (optional grammar.alias)) (λ read. table_entry read.0 read.1) tokens.old tokens.old result tokens.new }
+    ensures does { Gives result tokens.new (reading.table_entry tokens.old) }
     ensures extends { Extends tokens.old tokens.new }
 {
     let table = tokens.expect_any(alloc, &NAME_KINDS)?;

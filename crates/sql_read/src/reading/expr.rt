@@ -1,14 +1,7 @@
 //! Expressions: chains of OR and AND, and operators.
-ghost use Rattle.std.specs.Prelude.{List, ℕ, ◌+◌, ◌≡◌};
-ghost use Rattle.grammar.specs.Form.{ref};
-ghost use Rattle.sql_read.specs.Copied.{Copied};
-ghost use Rattle.sql_read.specs.Cursor.{Cursor};
-ghost use Rattle.sql_read.specs.Eating.{Extends, IsBehind, IsMark};
-ghost use Rattle.sql_grammar.specs.Numbering.{Built};
-ghost use Rattle.sql_grammar.specs.QueryGrammar as grammar;
-ghost use Rattle.sql_grammar.specs.QueryGrammar.{ands, minus, ors, products, sums};
-ghost use Rattle.sql_grammar.specs.QueryTrees.{and_node, chained, operated, or_node};
-ghost use Rattle.sql_read.specs.Reads.{Builds, IsBuilt, Reads};
+ghost use Rattle.sql_read.specs.Eating.{Extends, IsBehind};
+ghost use Rattle.sql_read.specs.Reading as reading;
+ghost use Rattle.sql_read.specs.Reading.{Does};
 
 use super::primary::primary;
 use super::test::{test, tested};
@@ -22,10 +15,10 @@ use sql_model::Expr;
 use std::alloc::Global;
 
 /// `conj {OR conj}`
+#[tactic(auto, unfolding(crate::specs::Reading::expr))]
 #[cycle(read)]
 pub fn expr(alloc: Global, tokens: &mut Tokens<'_>, levels: u8) -> Result<Expr, ReadFault>
-    ensures reads { Reads (ref grammar.expr) levels (λ read. read) tokens.old tokens.old result tokens.new }
-    ensures copied { Copied (ref grammar.expr) (λ read. read) tokens.old tokens.old result tokens.new }
+    ensures does { Does reading.expr levels tokens.old result tokens.new }
     ensures extends { Extends tokens.old tokens.new }
 {
     let first = conj(alloc, tokens, levels)?;
@@ -33,10 +26,10 @@ pub fn expr(alloc: Global, tokens: &mut Tokens<'_>, levels: u8) -> Result<Expr, 
 }
 
 /// `neg {AND neg}`
+#[tactic(auto, unfolding(crate::specs::Reading::conj))]
 #[cycle(read)]
 fn conj(alloc: Global, tokens: &mut Tokens<'_>, levels: u8) -> Result<Expr, ReadFault>
-    ensures reads { Reads (ref grammar.conj) levels (λ read. read) tokens.old tokens.old result tokens.new }
-    ensures copied { Copied (ref grammar.conj) (λ read. read) tokens.old tokens.old result tokens.new }
+    ensures does { Does reading.conj levels tokens.old result tokens.new }
     ensures extends { Extends tokens.old tokens.new }
 {
     let first = neg(alloc, tokens, levels)?;
@@ -44,10 +37,10 @@ fn conj(alloc: Global, tokens: &mut Tokens<'_>, levels: u8) -> Result<Expr, Read
 }
 
 /// `NOT neg`, or a test.
+#[tactic(auto, unfolding(crate::specs::Reading::neg))]
 #[cycle(read)]
-pub fn neg(alloc: Global, tokens: &mut Tokens<'_>, levels: u8) -> Result<Expr, ReadFault>
-    ensures reads { Reads (ref grammar.neg) levels (λ read. read) tokens.old tokens.old result tokens.new }
-    ensures copied { Copied (ref grammar.neg) (λ read. read) tokens.old tokens.old result tokens.new }
+fn neg(alloc: Global, tokens: &mut Tokens<'_>, levels: u8) -> Result<Expr, ReadFault>
+    ensures does { Does reading.neg levels tokens.old result tokens.new }
     ensures extends { Extends tokens.old tokens.new }
 {
     match tokens.eat_within(&[Kind::Not], levels)? {
@@ -60,10 +53,10 @@ pub fn neg(alloc: Global, tokens: &mut Tokens<'_>, levels: u8) -> Result<Expr, R
 }
 
 /// `term {(+ | - | ||) term}`
+#[tactic(auto, unfolding(crate::specs::Reading::value))]
 #[cycle(read)]
 pub fn value(alloc: Global, tokens: &mut Tokens<'_>, levels: u8) -> Result<Expr, ReadFault>
-    ensures reads { Reads (ref grammar.value) levels (λ read. read) tokens.old tokens.old result tokens.new }
-    ensures copied { Copied (ref grammar.value) (λ read. read) tokens.old tokens.old result tokens.new }
+    ensures does { Does reading.value levels tokens.old result tokens.new }
     ensures extends { Extends tokens.old tokens.new }
 {
     let first = term(alloc, tokens, levels)?;
@@ -71,10 +64,10 @@ pub fn value(alloc: Global, tokens: &mut Tokens<'_>, levels: u8) -> Result<Expr,
 }
 
 /// `unary {(* | /) unary}`
+#[tactic(auto, unfolding(crate::specs::Reading::term))]
 #[cycle(read)]
 fn term(alloc: Global, tokens: &mut Tokens<'_>, levels: u8) -> Result<Expr, ReadFault>
-    ensures reads { Reads (ref grammar.term) levels (λ read. read) tokens.old tokens.old result tokens.new }
-    ensures copied { Copied (ref grammar.term) (λ read. read) tokens.old tokens.old result tokens.new }
+    ensures does { Does reading.term levels tokens.old result tokens.new }
     ensures extends { Extends tokens.old tokens.new }
 {
     let first = unary(alloc, tokens, levels)?;
@@ -82,10 +75,10 @@ fn term(alloc: Global, tokens: &mut Tokens<'_>, levels: u8) -> Result<Expr, Read
 }
 
 /// `- unary`, or a primary expression.
+#[tactic(auto, unfolding(crate::specs::Reading::unary))]
 #[cycle(read)]
 fn unary(alloc: Global, tokens: &mut Tokens<'_>, levels: u8) -> Result<Expr, ReadFault>
-    ensures reads { Reads (ref grammar.unary) levels (λ read. read) tokens.old tokens.old result tokens.new }
-    ensures copied { Copied (ref grammar.unary) (λ read. read) tokens.old tokens.old result tokens.new }
+    ensures does { Does reading.unary levels tokens.old result tokens.new }
     ensures extends { Extends tokens.old tokens.new }
 {
     if tokens.sees(Kind::Minus) {
@@ -95,10 +88,10 @@ fn unary(alloc: Global, tokens: &mut Tokens<'_>, levels: u8) -> Result<Expr, Rea
 }
 
 /// A prefix minus with its operand.
+#[tactic(auto, unfolding(crate::specs::Reading::negative))]
 #[cycle(read)]
-pub fn negative(alloc: Global, tokens: &mut Tokens<'_>, levels: u8) -> Result<Expr, ReadFault>
-    ensures reads { Reads minus levels (λ read. read) tokens.old tokens.old result tokens.new }
-    ensures copied { Copied minus (λ read. read) tokens.old tokens.old result tokens.new }
+fn negative(alloc: Global, tokens: &mut Tokens<'_>, levels: u8) -> Result<Expr, ReadFault>
+    ensures does { Does reading.negative levels tokens.old result tokens.new }
     ensures extends { Extends tokens.old tokens.new }
 {
     let sign = tokens.expect_within(alloc, &[Kind::Minus], levels)?;
@@ -106,25 +99,8 @@ pub fn negative(alloc: Global, tokens: &mut Tokens<'_>, levels: u8) -> Result<Ex
     Ok(minus(alloc, part, place(&sign))?)
 }
 
-/// What may follow the first part of a chain of AND.
-#[cycle(read)]
-pub fn and_tail(
-    alloc: Global,
-    tokens: &mut Tokens<'_>,
-    levels: u8,
-    first: Expr,
-) -> Result<Expr, ReadFault>
-    ensures reads { (before : Built Expr) (start : Cursor) → Builds before start first tokens.old
-        → Reads (ref grammar.and_tail) levels (λ tail. tail before) start tokens.old result tokens.new }
-    ensures copied { (before : Built Expr) (start : Cursor) → Builds before start first tokens.old
-        → Copied (ref grammar.and_tail) (λ tail. tail before) start tokens.old result tokens.new }
-    ensures extends { Extends tokens.old tokens.new }
-{
-    let left = ands(alloc, tokens, levels, first)?;
-    ors(alloc, tokens, levels, left)
-}
-
 /// What may follow the first part of an expression, which began at the mark.
+#[tactic(auto, unfolding(crate::specs::Reading::expr_tail))]
 #[cycle(read)]
 pub fn expr_tail(
     alloc: Global,
@@ -134,10 +110,7 @@ pub fn expr_tail(
     first: Expr,
 ) -> Result<Expr, ReadFault>
     requires { IsBehind start tokens.old }
-    ensures reads { (before : Built Expr) (count : ℕ) (began : Cursor) → IsMark start began → IsBuilt before count began first tokens.old
-        → Reads (ref grammar.expr_tail) levels (λ tail. tail (before, count)) began tokens.old result tokens.new }
-    ensures copied { (before : Built Expr) (count : ℕ) (began : Cursor) → IsMark start began → IsBuilt before count began first tokens.old
-        → Copied (ref grammar.expr_tail) (λ tail. tail (before, count)) began tokens.old result tokens.new }
+    ensures does { Does (λ levels deeper. reading.expr_tail levels deeper start first) levels tokens.old result tokens.new }
     ensures extends { Extends tokens.old tokens.new }
 {
     let left = products(alloc, tokens, levels, first)?;
@@ -148,12 +121,10 @@ pub fn expr_tail(
 }
 
 /// The parts behind `OR`.
+#[tactic(auto, unfolding(crate::specs::Reading::ors))]
 #[cycle(read)]
 fn ors(alloc: Global, tokens: &mut Tokens<'_>, levels: u8, first: Expr) -> Result<Expr, ReadFault>
-    ensures reads { (before : Built Expr) (start : Cursor) → Builds before start first tokens.old
-        → Reads ors levels (λ more. chained or_node (before, more)) start tokens.old result tokens.new }
-    ensures copied { (before : Built Expr) (start : Cursor) → Builds before start first tokens.old
-        → Copied ors (λ more. chained or_node (before, more)) start tokens.old result tokens.new }
+    ensures does { Does (λ levels deeper. reading.ors levels deeper first) levels tokens.old result tokens.new }
     ensures extends { Extends tokens.old tokens.new }
 {
     if !tokens.sees(Kind::Or) {
@@ -172,12 +143,10 @@ fn ors(alloc: Global, tokens: &mut Tokens<'_>, levels: u8, first: Expr) -> Resul
 }
 
 /// The parts behind `AND`.
+#[tactic(auto, unfolding(crate::specs::Reading::ands))]
 #[cycle(read)]
 fn ands(alloc: Global, tokens: &mut Tokens<'_>, levels: u8, first: Expr) -> Result<Expr, ReadFault>
-    ensures reads { (before : Built Expr) (start : Cursor) → Builds before start first tokens.old
-        → Reads ands levels (λ more. chained and_node (before, more)) start tokens.old result tokens.new }
-    ensures copied { (before : Built Expr) (start : Cursor) → Builds before start first tokens.old
-        → Copied ands (λ more. chained and_node (before, more)) start tokens.old result tokens.new }
+    ensures does { Does (λ levels deeper. reading.ands levels deeper first) levels tokens.old result tokens.new }
     ensures extends { Extends tokens.old tokens.new }
 {
     if !tokens.sees(Kind::And) {
@@ -196,6 +165,7 @@ fn ands(alloc: Global, tokens: &mut Tokens<'_>, levels: u8, first: Expr) -> Resu
 }
 
 /// The operands behind `*` and `/`.
+#[tactic(auto, unfolding(crate::specs::Reading::products))]
 #[cycle(read)]
 fn products(
     alloc: Global,
@@ -203,10 +173,7 @@ fn products(
     levels: u8,
     first: Expr,
 ) -> Result<Expr, ReadFault>
-    ensures reads { (before : Built Expr) (start : Cursor) → Builds before start first tokens.old
-        → Reads products levels (λ more. operated before more) start tokens.old result tokens.new }
-    ensures copied { (before : Built Expr) (start : Cursor) → Builds before start first tokens.old
-        → Copied products (λ more. operated before more) start tokens.old result tokens.new }
+    ensures does { Does (λ levels deeper. reading.products levels deeper first) levels tokens.old result tokens.new }
     ensures extends { Extends tokens.old tokens.new }
 {
     let mut left = first;
@@ -220,12 +187,10 @@ fn products(
 }
 
 /// The operands behind `+`, `-` and `||`.
+#[tactic(auto, unfolding(crate::specs::Reading::sums))]
 #[cycle(read)]
 fn sums(alloc: Global, tokens: &mut Tokens<'_>, levels: u8, first: Expr) -> Result<Expr, ReadFault>
-    ensures reads { (before : Built Expr) (start : Cursor) → Builds before start first tokens.old
-        → Reads sums levels (λ more. operated before more) start tokens.old result tokens.new }
-    ensures copied { (before : Built Expr) (start : Cursor) → Builds before start first tokens.old
-        → Copied sums (λ more. operated before more) start tokens.old result tokens.new }
+    ensures does { Does (λ levels deeper. reading.sums levels deeper first) levels tokens.old result tokens.new }
     ensures extends { Extends tokens.old tokens.new }
 {
     let mut left = first;

@@ -1,23 +1,12 @@
 //! What stands in parentheses: a query or an expression, which only what follows may tell apart.
-ghost use Rattle.std.specs.Prelude.{List, ℕ, ◌≡◌};
-ghost use Rattle.grammar.specs.Form.{empty, ref};
-ghost use Rattle.sql_lex.specs.Lexemes.{Lexeme};
-ghost use Rattle.sql_model.specs.declared.tree.Expr.{Expr};
-ghost use Rattle.sql_model.specs.declared.tree.Query.{Query};
-ghost use Rattle.sql_read.specs.Copied.{Copied};
-ghost use Rattle.sql_read.specs.Cursor.{Cursor};
-ghost use Rattle.sql_read.specs.Eating.{Extends, IsBehind, IsMark};
-ghost use Rattle.sql_grammar.specs.Numbering.{Built};
-ghost use Rattle.sql_grammar.specs.QueryGrammar as grammar;
-ghost use Rattle.sql_grammar.specs.QueryGrammar.{commas, in_parentheses};
-ghost use Rattle.sql_grammar.specs.QueryPlan.{after_query, enclosed_first, no_parenthesis};
-ghost use Rattle.sql_grammar.specs.QueryTrees as trees;
-ghost use Rattle.sql_read.specs.Parts.{built_grouped, built_inside, grouped_of};
-ghost use Rattle.sql_read.specs.Reads.{Builds, IsBuilt, Reads};
+ghost use Rattle.std.specs.Prelude.{◌≡◌};
+ghost use Rattle.sql_read.specs.Eating.{Extends, IsBehind};
+ghost use Rattle.sql_read.specs.Parts.{grouped_of};
+ghost use Rattle.sql_read.specs.Reading as reading;
+ghost use Rattle.sql_read.specs.Reading.{Does};
 
 use super::block::block;
-use super::expr::{and_tail, expr_tail, negative};
-use super::primary::{literal, named_first, not_or_exists};
+use super::expr::{expr, expr_tail};
 use super::query::set_tail;
 use super::test::{Sought, members};
 use crate::fault::ReadFault;
@@ -70,10 +59,10 @@ const TAIL_KINDS: [Kind; 17] = [
 ];
 
 /// A subquery or an expression in parentheses, as the first part of an expression.
+#[tactic(auto, unfolding(crate::specs::Reading::enclosed))]
 #[cycle(read)]
 pub fn enclosed(alloc: Global, tokens: &mut Tokens<'_>, levels: u8) -> Result<Expr, ReadFault>
-    ensures reads { Reads enclosed_first levels (λ read. read) tokens.old tokens.old result tokens.new }
-    ensures copied { Copied enclosed_first (λ read. read) tokens.old tokens.old result tokens.new }
+    ensures does { Does reading.enclosed levels tokens.old result tokens.new }
     ensures extends { Extends tokens.old tokens.new }
 {
     match in_parentheses(alloc, tokens, levels)? {
@@ -82,10 +71,10 @@ pub fn enclosed(alloc: Global, tokens: &mut Tokens<'_>, levels: u8) -> Result<Ex
     }
 }
 
+#[tactic(auto, unfolding(crate::specs::Reading::in_parentheses))]
 #[cycle(read)]
 fn in_parentheses(alloc: Global, tokens: &mut Tokens<'_>, levels: u8) -> Result<Grouped, ReadFault>
-    ensures reads { Reads (in_parentheses (ref grammar.inner)) levels built_grouped tokens.old tokens.old result tokens.new }
-    ensures copied { Copied (in_parentheses (ref grammar.inner)) built_grouped tokens.old tokens.old result tokens.new }
+    ensures does { Does reading.in_parentheses levels tokens.old result tokens.new }
     ensures extends { Extends tokens.old tokens.new }
 {
     let open = tokens.expect_within(alloc, &[Kind::Open], levels)?;
@@ -104,10 +93,10 @@ fn with_parentheses(inside: Inside, at: u32) -> Grouped
     }
 }
 
+#[tactic(auto, unfolding(crate::specs::Reading::inner))]
 #[cycle(read)]
 fn inner(alloc: Global, tokens: &mut Tokens<'_>, levels: u8) -> Result<Inside, ReadFault>
-    ensures reads { Reads (ref grammar.inner) levels built_inside tokens.old tokens.old result tokens.new }
-    ensures copied { Copied (ref grammar.inner) built_inside tokens.old tokens.old result tokens.new }
+    ensures does { Does reading.inner levels tokens.old result tokens.new }
     ensures extends { Extends tokens.old tokens.new }
 {
     if tokens.sees(Kind::Select) {
@@ -115,7 +104,7 @@ fn inner(alloc: Global, tokens: &mut Tokens<'_>, levels: u8) -> Result<Inside, R
         return Ok(Inside::Query(set_tail(alloc, tokens, levels, first)?));
     }
     if !tokens.sees(Kind::Open) {
-        return Ok(Inside::Expr(no_parenthesis(alloc, tokens, levels)?));
+        return Ok(Inside::Expr(expr(alloc, tokens, levels)?));
     }
     let start = tokens.mark();
     match in_parentheses(alloc, tokens, levels)? {
@@ -128,6 +117,7 @@ fn inner(alloc: Global, tokens: &mut Tokens<'_>, levels: u8) -> Result<Inside, R
 }
 
 /// What follows a query in parentheses, which began at the mark: it may go on as a query or as an expression.
+#[tactic(auto, unfolding(crate::specs::Reading::after_query))]
 #[cycle(read)]
 fn after_query(
     alloc: Global,
@@ -138,10 +128,7 @@ fn after_query(
     at: u32,
 ) -> Result<Inside, ReadFault>
     requires { IsBehind start tokens.old }
-    ensures reads { (opening : Lexeme) (before : Built Query) (count : ℕ) (began : Cursor) → opening.start ≡ at → IsMark start began → IsBuilt before count began query tokens.old
-        → Reads (after_query empty) levels (λ read. built_inside (read ((opening, before), count))) began tokens.old result tokens.new }
-    ensures copied { (opening : Lexeme) (before : Built Query) (count : ℕ) (began : Cursor) → opening.start ≡ at → IsMark start began → IsBuilt before count began query tokens.old
-        → Copied (after_query empty) (λ read. built_inside (read ((opening, before), count))) began tokens.old result tokens.new }
+    ensures does { Does (λ levels deeper. reading.after_query levels deeper start query at) levels tokens.old result tokens.new }
     ensures extends { Extends tokens.old tokens.new }
 {
     if tokens.sees_any(&SET_KINDS) {
@@ -156,6 +143,7 @@ fn after_query(
 }
 
 /// What stands in the parentheses of IN, and the test that it makes.
+#[tactic(auto, unfolding(crate::specs::Reading::in_inner))]
 #[cycle(read)]
 pub fn in_inner(
     alloc: Global,
@@ -163,12 +151,7 @@ pub fn in_inner(
     levels: u8,
     sought: Sought,
 ) -> Result<Expr, ReadFault>
-    ensures reads { (word : Lexeme) (before : Built Expr) (count : ℕ) (began : Cursor) → word.start ≡ sought.in_at → sought.weight ≡ trees.weight (before, count)
-        → Builds before began sought.value tokens.old
-        → Reads (ref grammar.in_inner) levels (λ read. trees.in_inside None word read (before, count)) began tokens.old result tokens.new }
-    ensures copied { (word : Lexeme) (before : Built Expr) (count : ℕ) (began : Cursor) → word.start ≡ sought.in_at → sought.weight ≡ trees.weight (before, count)
-        → Builds before began sought.value tokens.old
-        → Copied (ref grammar.in_inner) (λ read. trees.in_inside None word read (before, count)) began tokens.old result tokens.new }
+    ensures does { Does (λ levels deeper. reading.in_inner levels deeper sought) levels tokens.old result tokens.new }
     ensures extends { Extends tokens.old tokens.new }
 {
     if tokens.sees(Kind::Select) {
@@ -177,7 +160,7 @@ pub fn in_inner(
         return Ok(in_query(alloc, sought.value, query, sought.in_at)?);
     }
     if !tokens.sees(Kind::Open) {
-        let first = no_parenthesis(alloc, tokens, levels)?;
+        let first = expr(alloc, tokens, levels)?;
         return members(alloc, tokens, levels, sought, first);
     }
     let start = tokens.mark();
@@ -193,6 +176,7 @@ pub fn in_inner(
 }
 
 /// The same, behind a query in parentheses that began at the mark.
+#[tactic(auto, unfolding(crate::specs::Reading::in_after_query))]
 #[cycle(read)]
 fn in_after_query(
     alloc: Global,
@@ -204,14 +188,7 @@ fn in_after_query(
     at: u32,
 ) -> Result<Expr, ReadFault>
     requires { IsBehind start tokens.old }
-    ensures reads { (word opening : Lexeme) (before : Built Expr) (inside : Built Query) (count tokens_inside : ℕ) (began middle : Cursor) → word.start ≡ sought.in_at
-        → sought.weight ≡ trees.weight (before, count) → Builds before began sought.value middle → opening.start ≡ at → IsMark start middle
-        → IsBuilt inside tokens_inside middle query tokens.old
-        → Reads (after_query commas) levels (λ read. trees.in_inside None word (read ((opening, inside), tokens_inside)) (before, count)) began tokens.old result tokens.new }
-    ensures copied { (word opening : Lexeme) (before : Built Expr) (inside : Built Query) (count tokens_inside : ℕ) (began middle : Cursor) → word.start ≡ sought.in_at
-        → sought.weight ≡ trees.weight (before, count) → Builds before began sought.value middle → opening.start ≡ at → IsMark start middle
-        → IsBuilt inside tokens_inside middle query tokens.old
-        → Copied (after_query commas) (λ read. trees.in_inside None word (read ((opening, inside), tokens_inside)) (before, count)) began tokens.old result tokens.new }
+    ensures does { Does (λ levels deeper. reading.in_after_query levels deeper sought start query at) levels tokens.old result tokens.new }
     ensures extends { Extends tokens.old tokens.new }
 {
     if tokens.sees_any(&SET_KINDS) {
@@ -228,27 +205,4 @@ fn in_after_query(
         return members(alloc, tokens, levels, sought, first);
     }
     Ok(in_query(alloc, sought.value, query, sought.in_at)?)
-}
-
-/// An expression that begins with no parenthesis.
-#[cycle(read)]
-fn no_parenthesis(alloc: Global, tokens: &mut Tokens<'_>, levels: u8) -> Result<Expr, ReadFault>
-    ensures reads { Reads no_parenthesis levels (λ read. read) tokens.old tokens.old result tokens.new }
-    ensures copied { Copied no_parenthesis (λ read. read) tokens.old tokens.old result tokens.new }
-    ensures extends { Extends tokens.old tokens.new }
-{
-    if tokens.sees_any(&[Kind::Not, Kind::Exists]) {
-        let first = not_or_exists(alloc, tokens, levels)?;
-        return and_tail(alloc, tokens, levels, first);
-    }
-    let start = tokens.mark();
-    if tokens.sees(Kind::Minus) {
-        let first = negative(alloc, tokens, levels)?;
-        return expr_tail(alloc, tokens, levels, start, first);
-    }
-    if let Some(first) = literal(alloc, tokens)? {
-        return expr_tail(alloc, tokens, levels, start, first);
-    }
-    let first = named_first(alloc, tokens, levels)?;
-    expr_tail(alloc, tokens, levels, start, first)
 }

@@ -1,20 +1,12 @@
 //! Items, and the names behind them.
-ghost use Rattle.std.specs.Prelude.{IfOk, IfSome, ℕ, ◌<◌, ◌^◌, ◌≡◌};
-ghost use Rattle.grammar.specs.Form.{ref};
-ghost use Rattle.grammar.specs.Productions.{optional};
-ghost use Rattle.sql_read.specs.Copied.{Copied};
-ghost use Rattle.sql_read.specs.Eating.{Extends};
-ghost use Rattle.sql_grammar.specs.Numbering.{plain};
-ghost use Rattle.sql_grammar.specs.QueryGrammar as grammar;
+ghost use Rattle.std.specs.Prelude.{IfOk, IfSome, Result, ◌<◌, ◌^◌};
 ghost use Rattle.sql_lex.specs.Lexemes.{lexeme_of};
-ghost use Rattle.sql_grammar.specs.QueryPlan.{dot_star_or_name, item_value, named_item, star_or_column, starred};
-ghost use Rattle.sql_grammar.specs.QueryTrees.{name_of_alias};
-ghost use Rattle.sql_read.specs.Reads.{Reads, read_lexeme, read_lexeme_if_any};
-ghost use Rattle.sql_read.specs.Parts.{built_starred};
+ghost use Rattle.sql_read.specs.Eating.{Extends};
+ghost use Rattle.sql_read.specs.Reading as reading;
+ghost use Rattle.sql_read.specs.Reading.{Does, Gives, lexeme, lexeme_if_any};
 
-use super::expr::{and_tail, expr_tail, negative};
-use super::inside::enclosed;
-use super::primary::{aggregate, arguments, count_arguments, literal, not_or_exists};
+use super::expr::{expr, expr_tail};
+use super::primary::{aggregate, arguments, count_arguments};
 use crate::fault::ReadFault;
 use crate::tokens::{Tokens, place};
 use crate::trees::{bare_column, qualified_column};
@@ -54,10 +46,10 @@ pub enum Starred {
 }
 
 /// `*`, `name.*`, or an expression with or without an alias.
+#[tactic(auto, unfolding(crate::specs::Reading::item))]
 #[cycle(read)]
 pub fn item(alloc: Global, tokens: &mut Tokens<'_>, levels: u8) -> Result<Item, ReadFault>
-    ensures reads { Reads (ref grammar.item) levels (λ read. read) tokens.old tokens.old result tokens.new }
-    ensures copied { Copied (ref grammar.item) (λ read. read) tokens.old tokens.old result tokens.new }
+    ensures does { Does reading.item levels tokens.old result tokens.new }
     ensures extends { Extends tokens.old tokens.new }
 {
     if let Some(star) = tokens.eat(Kind::Star) {
@@ -66,16 +58,16 @@ pub fn item(alloc: Global, tokens: &mut Tokens<'_>, levels: u8) -> Result<Item, 
     if tokens.sees_any(&NAME_KINDS) {
         return named_item(alloc, tokens, levels);
     }
-    let expr = item_value(alloc, tokens, levels)?;
+    let expr = expr(alloc, tokens, levels)?;
     let name = item_name(alloc, tokens)?;
     Ok(Item::Value { expr, name })
 }
 
 /// An item that begins with a name.
+#[tactic(auto, unfolding(crate::specs::Reading::named_item))]
 #[cycle(read)]
 fn named_item(alloc: Global, tokens: &mut Tokens<'_>, levels: u8) -> Result<Item, ReadFault>
-    ensures reads { Reads named_item levels (λ read. read) tokens.old tokens.old result tokens.new }
-    ensures copied { Copied named_item (λ read. read) tokens.old tokens.old result tokens.new }
+    ensures does { Does reading.named_item levels tokens.old result tokens.new }
     ensures extends { Extends tokens.old tokens.new }
 {
     let start = tokens.mark();
@@ -89,10 +81,10 @@ fn named_item(alloc: Global, tokens: &mut Tokens<'_>, levels: u8) -> Result<Item
 }
 
 /// `name.*`, or what begins with a name otherwise.
+#[tactic(auto, unfolding(crate::specs::Reading::name_or_star))]
 #[cycle(read)]
 fn name_or_star(alloc: Global, tokens: &mut Tokens<'_>, levels: u8) -> Result<Starred, ReadFault>
-    ensures reads { Reads starred levels built_starred tokens.old tokens.old result tokens.new }
-    ensures copied { Copied starred built_starred tokens.old tokens.old result tokens.new }
+    ensures does { Does reading.name_or_star levels tokens.old result tokens.new }
     ensures extends { Extends tokens.old tokens.new }
 {
     if let Some(word) = tokens.eat(Kind::Quoted) {
@@ -119,14 +111,14 @@ fn name_or_star(alloc: Global, tokens: &mut Tokens<'_>, levels: u8) -> Result<St
 }
 
 /// What may follow this name: a column, `.*`, or nothing.
+#[tactic(auto, unfolding(crate::specs::Reading::column_or_star))]
 fn column_or_star(
     alloc: Global,
     tokens: &mut Tokens<'_>,
     word: &Token<'_>,
 ) -> Result<Starred, ReadFault>
     requires { word.now.start < 2 ^ 32 }
-    ensures reads { (levels : ℕ) → Reads dot_star_or_name levels (λ dot. built_starred (star_or_column (lexeme_of word.now) dot)) tokens.old tokens.old result tokens.new }
-    ensures copied { Copied dot_star_or_name (λ dot. built_starred (star_or_column (lexeme_of word.now) dot)) tokens.old tokens.old result tokens.new }
+    ensures does { Gives result tokens.new (reading.column_or_star (lexeme_of word.now) tokens.old) }
     ensures extends { Extends tokens.old tokens.new }
 {
     let Some(_) = tokens.eat(Kind::Dot) else {
@@ -142,33 +134,10 @@ fn column_or_star(
     Ok(Starred::First(qualified_column(alloc, word, &name)?))
 }
 
-/// The value of an item that begins with no name.
-#[cycle(read)]
-fn item_value(alloc: Global, tokens: &mut Tokens<'_>, levels: u8) -> Result<Expr, ReadFault>
-    ensures reads { Reads item_value levels (λ read. read) tokens.old tokens.old result tokens.new }
-    ensures copied { Copied item_value (λ read. read) tokens.old tokens.old result tokens.new }
-    ensures extends { Extends tokens.old tokens.new }
-{
-    if tokens.sees_any(&[Kind::Not, Kind::Exists]) {
-        let first = not_or_exists(alloc, tokens, levels)?;
-        return and_tail(alloc, tokens, levels, first);
-    }
-    let start = tokens.mark();
-    if tokens.sees(Kind::Minus) {
-        let first = negative(alloc, tokens, levels)?;
-        return expr_tail(alloc, tokens, levels, start, first);
-    }
-    if let Some(first) = literal(alloc, tokens)? {
-        return expr_tail(alloc, tokens, levels, start, first);
-    }
-    let first = enclosed(alloc, tokens, levels)?;
-    expr_tail(alloc, tokens, levels, start, first)
-}
-
 /// The name of an item, where one is written.
+#[tactic(auto, unfolding(crate::specs::Reading::item_name))]
 fn item_name(alloc: Global, tokens: &mut Tokens<'_>) -> Result<Option<Name>, ReadFault>
-    ensures reads { (levels : ℕ) → Reads (optional grammar.alias) levels (λ alias. plain (name_of_alias alias)) tokens.old tokens.old result tokens.new }
-    ensures copied { Copied (optional grammar.alias) (λ alias. plain (name_of_alias alias)) tokens.old tokens.old result tokens.new }
+    ensures does { Gives result tokens.new (reading.item_name tokens.old) }
     ensures extends { Extends tokens.old tokens.new }
 {
     match optional_alias(alloc, tokens)? {
@@ -178,25 +147,25 @@ fn item_name(alloc: Global, tokens: &mut Tokens<'_>) -> Result<Option<Name>, Rea
 }
 
 /// `[AS] name`
+#[tactic(auto, unfolding(crate::specs::Reading::alias))]
 pub fn alias<'a>(alloc: Global, tokens: &mut Tokens<'a>) -> Result<Token<'a>, ReadFault>
-    ensures reads { (levels : ℕ) → Reads grammar.alias levels plain tokens.old tokens.old (read_lexeme result) tokens.new }
-    ensures copied { Copied grammar.alias plain tokens.old tokens.old result tokens.new }
-    ensures extends { Extends tokens.old tokens.new }
+    ensures does { Gives (lexeme result) tokens.new (reading.alias tokens.old) }
     ensures place { IfOk result (λ token. token.start < 2 ^ 32) }
+    ensures extends { Extends tokens.old tokens.new }
 {
     let _word = tokens.eat(Kind::As);
     tokens.expect_any(alloc, &NAME_KINDS)
 }
 
 /// The same, where it is written.
+#[tactic(auto, unfolding(crate::specs::Reading::optional_alias))]
 pub fn optional_alias<'a>(
     alloc: Global,
     tokens: &mut Tokens<'a>,
 ) -> Result<Option<Token<'a>>, ReadFault>
-    ensures reads { (levels : ℕ) → Reads (optional grammar.alias) levels plain tokens.old tokens.old (read_lexeme_if_any result) tokens.new }
-    ensures copied { Copied (optional grammar.alias) plain tokens.old tokens.old result tokens.new }
-    ensures extends { Extends tokens.old tokens.new }
+    ensures does { Gives (lexeme_if_any result) tokens.new (reading.optional_alias tokens.old) }
     ensures place { IfOk result (λ found. IfSome found (λ token. token.start < 2 ^ 32)) }
+    ensures extends { Extends tokens.old tokens.new }
 {
     if let Some(_) = tokens.eat(Kind::As) {
         return Ok(Some(tokens.expect_any(alloc, &NAME_KINDS)?));

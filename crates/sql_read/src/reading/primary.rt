@@ -1,26 +1,18 @@
 //! Literals, columns and calls.
-ghost use Rattle.std.specs.Prelude.{IfOk, List, Result, ℕ, ◌<◌, ◌^◌, ◌≡◌};
-ghost use Rattle.grammar.specs.Form.{alt, ref};
-ghost use Rattle.grammar.specs.Productions.{optional};
+ghost use Rattle.std.specs.Prelude.{IfOk, Result, ◌<◌, ◌^◌, ◌≡◌};
 ghost use Rattle.sql_lex.specs.Lexemes.{lexeme_of};
-ghost use Rattle.sql_read.specs.Copied.{Copied};
-ghost use Rattle.sql_read.specs.Eating.{Extends};
-ghost use Rattle.sql_grammar.specs.Numbering.{each, plain};
-ghost use Rattle.sql_grammar.specs.QueryGrammar as grammar;
-ghost use Rattle.sql_grammar.specs.QueryGrammar.{exists, listed, not_neg, parens};
-ghost use Rattle.sql_grammar.specs.QueryPlan.{arguments, column_of, count_arguments, dot_name, literal, named_first, one_argument};
-ghost use Rattle.sql_grammar.specs.QueryTrees.{listed_or_none};
 ghost use Rattle.sql_grammar.specs.QueryTrees as trees;
-ghost use Rattle.sql_read.specs.Reads.{AnswersNext, Reads};
+ghost use Rattle.sql_read.specs.Eating.{Extends};
+ghost use Rattle.sql_read.specs.Reading as reading;
+ghost use Rattle.sql_read.specs.Reading.{Does, Gives};
 
 use super::MOST_SEPARATORS;
-use super::expr::{expr, neg};
+use super::expr::expr;
 use super::inside::enclosed;
 use super::item::{CALLED_KINDS, NAME_KINDS, OTHER_AGGREGATES};
-use super::query::query;
 use crate::fault::ReadFault;
 use crate::tokens::{Tokens, place};
-use crate::trees::{bare_column, not_at, qualified_column};
+use crate::trees::{bare_column, qualified_column};
 use crate::values::{name_in, number_in, text_in};
 use plain_data::{Boxed, List};
 use sql_grammar::kinds::{Kind, kind_of};
@@ -49,10 +41,10 @@ const EXPR_KINDS: [Kind; 16] = [
 ];
 
 /// A literal, a column, a call, or what stands in parentheses.
+#[tactic(auto, unfolding(crate::specs::Reading::primary))]
 #[cycle(read)]
 pub fn primary(alloc: Global, tokens: &mut Tokens<'_>, levels: u8) -> Result<Expr, ReadFault>
-    ensures reads { Reads (ref grammar.primary) levels (λ read. read) tokens.old tokens.old result tokens.new }
-    ensures copied { Copied (ref grammar.primary) (λ read. read) tokens.old tokens.old result tokens.new }
+    ensures does { Does reading.primary levels tokens.old result tokens.new }
     ensures extends { Extends tokens.old tokens.new }
 {
     if let Some(literal) = literal(alloc, tokens)? {
@@ -65,8 +57,9 @@ pub fn primary(alloc: Global, tokens: &mut Tokens<'_>, levels: u8) -> Result<Exp
 }
 
 /// A number or a text, if one stands next.
-pub fn literal(alloc: Global, tokens: &mut Tokens<'_>) -> Result<Option<Expr>, NoMemory>
-    ensures reads { (levels : ℕ) → IfOk result (λ found. AnswersNext literal levels (λ read. read) tokens.old (Result.Ok found) tokens.new) }
+#[tactic(auto, unfolding(crate::specs::Reading::literal))]
+fn literal(alloc: Global, tokens: &mut Tokens<'_>) -> Result<Option<Expr>, NoMemory>
+    ensures does { IfOk result (λ found. Gives (Result.Ok found) tokens.new (reading.literal tokens.old)) }
     ensures extends { Extends tokens.old tokens.new }
 {
     if let Some(token) = tokens.eat(Kind::Number) {
@@ -87,10 +80,10 @@ pub fn literal(alloc: Global, tokens: &mut Tokens<'_>) -> Result<Option<Expr>, N
 }
 
 /// What begins with a name: a column or a call.
+#[tactic(auto, unfolding(crate::specs::Reading::named_first))]
 #[cycle(read)]
-pub fn named_first(alloc: Global, tokens: &mut Tokens<'_>, levels: u8) -> Result<Expr, ReadFault>
-    ensures reads { Reads named_first levels (λ read. read) tokens.old tokens.old result tokens.new }
-    ensures copied { Copied named_first (λ read. read) tokens.old tokens.old result tokens.new }
+fn named_first(alloc: Global, tokens: &mut Tokens<'_>, levels: u8) -> Result<Expr, ReadFault>
+    ensures does { Does reading.named_first levels tokens.old result tokens.new }
     ensures extends { Extends tokens.old tokens.new }
 {
     if let Some(word) = tokens.eat(Kind::Quoted) {
@@ -116,9 +109,9 @@ pub fn named_first(alloc: Global, tokens: &mut Tokens<'_>, levels: u8) -> Result
 }
 
 /// A column with or without a qualifier.
+#[tactic(auto, unfolding(crate::specs::Reading::reference))]
 pub fn reference(alloc: Global, tokens: &mut Tokens<'_>) -> Result<Expr, ReadFault>
-    ensures reads { (levels : ℕ) → Reads (ref grammar.reference) levels plain tokens.old tokens.old result tokens.new }
-    ensures copied { Copied (ref grammar.reference) plain tokens.old tokens.old result tokens.new }
+    ensures does { Gives result tokens.new (reading.reference tokens.old) }
     ensures extends { Extends tokens.old tokens.new }
 {
     let word = tokens.expect_any(alloc, &NAME_KINDS)?;
@@ -126,10 +119,10 @@ pub fn reference(alloc: Global, tokens: &mut Tokens<'_>) -> Result<Expr, ReadFau
 }
 
 /// The column that begins with this word.
+#[tactic(auto, unfolding(crate::specs::Reading::column))]
 fn column(alloc: Global, tokens: &mut Tokens<'_>, word: &Token<'_>) -> Result<Expr, ReadFault>
     requires { word.now.start < 2 ^ 32 }
-    ensures reads { (levels : ℕ) → Reads dot_name levels (column_of (lexeme_of word.now)) tokens.old tokens.old result tokens.new }
-    ensures copied { Copied dot_name (column_of (lexeme_of word.now)) tokens.old tokens.old result tokens.new }
+    ensures does { Gives result tokens.new (reading.column (lexeme_of word.now) tokens.old) }
     ensures extends { Extends tokens.old tokens.new }
 {
     let Some(_) = tokens.eat(Kind::Dot) else {
@@ -140,6 +133,7 @@ fn column(alloc: Global, tokens: &mut Tokens<'_>, word: &Token<'_>) -> Result<Ex
 }
 
 /// The arguments of a called name.
+#[tactic(auto, unfolding(crate::specs::Reading::arguments))]
 #[cycle(read)]
 pub fn arguments(
     alloc: Global,
@@ -148,8 +142,7 @@ pub fn arguments(
     word: &Token<'_>,
 ) -> Result<Expr, ReadFault>
     requires { word.now.start < 2 ^ 32 }
-    ensures reads { Reads arguments levels (λ read. read (lexeme_of word.now)) tokens.old tokens.old result tokens.new }
-    ensures copied { Copied arguments (λ read. read (lexeme_of word.now)) tokens.old tokens.old result tokens.new }
+    ensures does { Does (λ levels deeper. reading.arguments levels deeper (lexeme_of word.now)) levels tokens.old result tokens.new }
     ensures extends { Extends tokens.old tokens.new }
 {
     tokens.expect_within(alloc, &[Kind::Open], levels)?;
@@ -164,10 +157,10 @@ pub fn arguments(
 }
 
 /// Expressions with commas between them, or none.
+#[tactic(auto, unfolding(crate::specs::Reading::exprs))]
 #[cycle(read)]
 fn exprs(alloc: Global, tokens: &mut Tokens<'_>, levels: u8) -> Result<List<Expr>, ReadFault>
-    ensures reads { Reads (optional (listed (ref grammar.expr))) levels (λ exprs. each (listed_or_none exprs)) tokens.old tokens.old result tokens.new }
-    ensures copied { Copied (optional (listed (ref grammar.expr))) (λ exprs. each (listed_or_none exprs)) tokens.old tokens.old result tokens.new }
+    ensures does { Does reading.exprs levels tokens.old result tokens.new }
     ensures extends { Extends tokens.old tokens.new }
 {
     let mut exprs = List::new(alloc);
@@ -184,6 +177,7 @@ fn exprs(alloc: Global, tokens: &mut Tokens<'_>, levels: u8) -> Result<List<Expr
 }
 
 /// The arguments of COUNT.
+#[tactic(auto, unfolding(crate::specs::Reading::count_arguments))]
 #[cycle(read)]
 pub fn count_arguments(
     alloc: Global,
@@ -192,8 +186,7 @@ pub fn count_arguments(
     word: &Token<'_>,
 ) -> Result<Expr, ReadFault>
     requires { word.now.start < 2 ^ 32 }
-    ensures reads { Reads count_arguments levels (λ read. read (lexeme_of word.now)) tokens.old tokens.old result tokens.new }
-    ensures copied { Copied count_arguments (λ read. read (lexeme_of word.now)) tokens.old tokens.old result tokens.new }
+    ensures does { Does (λ levels deeper. reading.count_arguments levels deeper (lexeme_of word.now)) levels tokens.old result tokens.new }
     ensures extends { Extends tokens.old tokens.new }
 {
     tokens.expect_within(alloc, &[Kind::Open], levels)?;
@@ -212,6 +205,7 @@ pub fn count_arguments(
 }
 
 /// The argument of another aggregate.
+#[tactic(auto, unfolding(crate::specs::Reading::aggregate))]
 #[cycle(read)]
 pub fn aggregate(
     alloc: Global,
@@ -220,8 +214,7 @@ pub fn aggregate(
     word: &Token<'_>,
 ) -> Result<Expr, ReadFault>
     requires { word.now.start < 2 ^ 32 }
-    ensures reads { Reads (parens one_argument) levels (λ read. read (lexeme_of word.now)) tokens.old tokens.old result tokens.new }
-    ensures copied { Copied (parens one_argument) (λ read. read (lexeme_of word.now)) tokens.old tokens.old result tokens.new }
+    ensures does { Does (λ levels deeper. reading.aggregate levels deeper (lexeme_of word.now)) levels tokens.old result tokens.new }
     ensures extends { Extends tokens.old tokens.new }
 {
     tokens.expect_within(alloc, &[Kind::Open], levels)?;
@@ -231,6 +224,7 @@ pub fn aggregate(
 }
 
 /// The aggregate of an argument, with or without DISTINCT.
+#[tactic(auto, unfolding(crate::specs::Reading::argument))]
 #[cycle(read)]
 fn argument(
     alloc: Global,
@@ -239,8 +233,7 @@ fn argument(
     word: &Token<'_>,
 ) -> Result<Expr, ReadFault>
     requires { word.now.start < 2 ^ 32 }
-    ensures reads { Reads one_argument levels (λ read. read (lexeme_of word.now)) tokens.old tokens.old result tokens.new }
-    ensures copied { Copied one_argument (λ read. read (lexeme_of word.now)) tokens.old tokens.old result tokens.new }
+    ensures does { Does (λ levels deeper. reading.argument levels deeper (lexeme_of word.now)) levels tokens.old result tokens.new }
     ensures extends { Extends tokens.old tokens.new }
 {
     let distinct = tokens.eat(Kind::Distinct).is_some();
@@ -263,25 +256,4 @@ fn aggregate_function(word: Kind) -> AggFun
         Kind::Min => AggFun::Min,
         _ => AggFun::Max,
     }
-}
-
-/// `NOT` or `EXISTS` with what it stands before.
-#[cycle(read)]
-pub fn not_or_exists(alloc: Global, tokens: &mut Tokens<'_>, levels: u8) -> Result<Expr, ReadFault>
-    ensures reads { Reads (alt not_neg exists) levels (λ read. read) tokens.old tokens.old result tokens.new }
-    ensures copied { Copied (alt not_neg exists) (λ read. read) tokens.old tokens.old result tokens.new }
-    ensures extends { Extends tokens.old tokens.new }
-{
-    if let Some(word) = tokens.eat_within(&[Kind::Not], levels)? {
-        let part = neg(alloc, tokens, levels - 1)?;
-        return Ok(not_at(alloc, part, place(&word))?);
-    }
-    let word = tokens.expect(alloc, Kind::Exists)?;
-    tokens.expect_within(alloc, &[Kind::Open], levels)?;
-    let query = query(alloc, tokens, levels - 1)?;
-    tokens.expect(alloc, Kind::Close)?;
-    Ok(Expr::Exists {
-        query: Boxed::new(alloc, query)?,
-        at: place(&word),
-    })
 }

@@ -1,16 +1,8 @@
 //! Queries, and the set operators between them.
-ghost use Rattle.std.specs.Prelude.{◌≡◌, [], ◌∷◌};
-ghost use Rattle.grammar.specs.Form.{ref};
-ghost use Rattle.sql_model.specs.declared.tree.Query.{Query};
-ghost use Rattle.sql_read.specs.Copied.{Copied};
-ghost use Rattle.sql_read.specs.Cursor.{Cursor};
+ghost use Rattle.std.specs.Prelude.{IfOk, IfSome, ◌<◌};
 ghost use Rattle.sql_read.specs.Eating.{Extends};
-ghost use Rattle.sql_grammar.specs.Numbering.{Built};
-ghost use Rattle.sql_grammar.specs.QueryGrammar as grammar;
-ghost use Rattle.sql_grammar.specs.Kinds.{among};
-ghost use Rattle.sql_grammar.specs.QueryGrammar.{intersects, union_or_except, unions};
-ghost use Rattle.sql_grammar.specs.QueryTrees.{combined, sets};
-ghost use Rattle.sql_read.specs.Reads.{Builds, Reads, ReadsWordNext};
+ghost use Rattle.sql_read.specs.Reading as reading;
+ghost use Rattle.sql_read.specs.Reading.{Does, Gives};
 
 use super::MOST_OPERATORS;
 use super::block::block;
@@ -22,10 +14,10 @@ use sql_model::{Query, SetOp};
 use std::alloc::Global;
 
 /// `part {(UNION [ALL] | EXCEPT) part}`
+#[tactic(auto, unfolding(crate::specs::Reading::query))]
 #[cycle(read)]
 pub fn query(alloc: Global, tokens: &mut Tokens<'_>, levels: u8) -> Result<Query, ReadFault>
-    ensures reads { Reads (ref grammar.query) levels (λ read. read) tokens.old tokens.old result tokens.new }
-    ensures copied { Copied (ref grammar.query) (λ read. read) tokens.old tokens.old result tokens.new }
+    ensures does { Does reading.query levels tokens.old result tokens.new }
     ensures extends { Extends tokens.old tokens.new }
 {
     let first = part(alloc, tokens, levels)?;
@@ -33,10 +25,10 @@ pub fn query(alloc: Global, tokens: &mut Tokens<'_>, levels: u8) -> Result<Query
 }
 
 /// `operand {INTERSECT operand}`
+#[tactic(auto, unfolding(crate::specs::Reading::part))]
 #[cycle(read)]
 fn part(alloc: Global, tokens: &mut Tokens<'_>, levels: u8) -> Result<Query, ReadFault>
-    ensures reads { Reads (ref grammar.part) levels (λ read. read) tokens.old tokens.old result tokens.new }
-    ensures copied { Copied (ref grammar.part) (λ read. read) tokens.old tokens.old result tokens.new }
+    ensures does { Does reading.part levels tokens.old result tokens.new }
     ensures extends { Extends tokens.old tokens.new }
 {
     let first = operand(alloc, tokens, levels)?;
@@ -44,10 +36,10 @@ fn part(alloc: Global, tokens: &mut Tokens<'_>, levels: u8) -> Result<Query, Rea
 }
 
 /// `( query )`, or a block.
+#[tactic(auto, unfolding(crate::specs::Reading::operand))]
 #[cycle(read)]
 fn operand(alloc: Global, tokens: &mut Tokens<'_>, levels: u8) -> Result<Query, ReadFault>
-    ensures reads { Reads (ref grammar.operand) levels (λ read. read) tokens.old tokens.old result tokens.new }
-    ensures copied { Copied (ref grammar.operand) (λ read. read) tokens.old tokens.old result tokens.new }
+    ensures does { Does reading.operand levels tokens.old result tokens.new }
     ensures extends { Extends tokens.old tokens.new }
 {
     match tokens.eat_within(&[Kind::Open], levels)? {
@@ -61,6 +53,7 @@ fn operand(alloc: Global, tokens: &mut Tokens<'_>, levels: u8) -> Result<Query, 
 }
 
 /// What follows the first operand of a query.
+#[tactic(auto, unfolding(crate::specs::Reading::set_tail))]
 #[cycle(read)]
 pub fn set_tail(
     alloc: Global,
@@ -68,10 +61,7 @@ pub fn set_tail(
     levels: u8,
     first: Query,
 ) -> Result<Query, ReadFault>
-    ensures reads { (before : Built Query) (start : Cursor) → Builds before start first tokens.old
-        → Reads (ref grammar.set_tail) levels (λ tail. tail before) start tokens.old result tokens.new }
-    ensures copied { (before : Built Query) (start : Cursor) → Builds before start first tokens.old
-        → Copied (ref grammar.set_tail) (λ tail. tail before) start tokens.old result tokens.new }
+    ensures does { Does (λ levels deeper. reading.set_tail levels deeper first) levels tokens.old result tokens.new }
     ensures extends { Extends tokens.old tokens.new }
 {
     let left = intersects(alloc, tokens, levels, first)?;
@@ -79,6 +69,7 @@ pub fn set_tail(
 }
 
 /// The operands behind `INTERSECT`.
+#[tactic(auto, unfolding(crate::specs::Reading::intersects))]
 #[cycle(read)]
 fn intersects(
     alloc: Global,
@@ -86,10 +77,7 @@ fn intersects(
     levels: u8,
     first: Query,
 ) -> Result<Query, ReadFault>
-    ensures reads { (before : Built Query) (start : Cursor) → Builds before start first tokens.old
-        → Reads intersects levels (λ more. sets before more) start tokens.old result tokens.new }
-    ensures copied { (before : Built Query) (start : Cursor) → Builds before start first tokens.old
-        → Copied intersects (λ more. sets before more) start tokens.old result tokens.new }
+    ensures does { Does (λ levels deeper. reading.intersects levels deeper first) levels tokens.old result tokens.new }
     ensures extends { Extends tokens.old tokens.new }
 {
     let mut left = first;
@@ -103,6 +91,7 @@ fn intersects(
 }
 
 /// The parts behind `UNION` and `EXCEPT`.
+#[tactic(auto, unfolding(crate::specs::Reading::unions))]
 #[cycle(read)]
 fn unions(
     alloc: Global,
@@ -110,10 +99,7 @@ fn unions(
     levels: u8,
     first: Query,
 ) -> Result<Query, ReadFault>
-    ensures reads { (before : Built Query) (start : Cursor) → Builds before start first tokens.old
-        → Reads unions levels (λ more. sets before more) start tokens.old result tokens.new }
-    ensures copied { (before : Built Query) (start : Cursor) → Builds before start first tokens.old
-        → Copied unions (λ more. sets before more) start tokens.old result tokens.new }
+    ensures does { Does (λ levels deeper. reading.unions levels deeper first) levels tokens.old result tokens.new }
     ensures extends { Extends tokens.old tokens.new }
 {
     let mut left = first;
@@ -127,8 +113,10 @@ fn unions(
 }
 
 /// `UNION`, `UNION ALL` or `EXCEPT`, if one stands next, and the place of its first word.
+#[tactic(auto, unfolding(crate::specs::Reading::set_word))]
 fn union_or_except(tokens: &mut Tokens<'_>, room: u8) -> Result<Option<(SetOp, u32)>, ReadFault>
-    ensures word { ReadsWordNext union_or_except (among (Kind.Union ∷ Kind.Except ∷ [])) room tokens.old result tokens.new }
+    ensures does { Gives result tokens.new (reading.set_word room tokens.old) }
+    ensures room { IfOk result (λ found. IfSome found (λ word. 0 < room)) }
     ensures extends { Extends tokens.old tokens.new }
 {
     if let Some(word) = tokens.eat_within(&[Kind::Union], room)? {

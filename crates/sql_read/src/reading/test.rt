@@ -1,22 +1,7 @@
 //! Tests of values: comparisons, IN, BETWEEN and LIKE.
-ghost use Rattle.std.specs.Prelude.{Err, IfErr, IfOk, List, None, Ok, OnOk, Option, ℕ, ◌+◌, ◌<◌, ◌^◌, ◌≡◌, ◌≢◌};
-ghost use Rattle.grammar.specs.Form.{ref};
-ghost use Rattle.grammar.specs.Productions.{optional};
-ghost use Rattle.sql_lex.specs.Lexemes.{Lexeme};
-ghost use Rattle.sql_read.specs.declared.fault.ReadFault.TheVariants.{NoMemory};
-ghost use Rattle.sql_read.specs.Copied.{Copied};
-ghost use Rattle.sql_read.specs.Cursor.{Cursor};
-ghost use Rattle.sql_read.specs.Eating.{Copies, Extends, IsBehind, IsMark, Passes};
-ghost use Rattle.sql_grammar.specs.declared.kinds.Kind.TheVariants as k;
-ghost use Rattle.sql_grammar.specs.Kinds.{same};
-ghost use Rattle.sql_grammar.specs.Numbering.{Built};
-ghost use Rattle.sql_grammar.specs.QueryGrammar as grammar;
-ghost use Rattle.sql_grammar.specs.QueryPlan.{between_values, by_word};
-ghost use Rattle.sql_grammar.specs.QueryTrees as trees;
-ghost use Rattle.sql_grammar.specs.QueryTrees.{tested};
-ghost use Rattle.sql_read.specs.Reads.{Builds, IsBuilt, Reads};
-ghost use Rattle.sql_model.specs.declared.tree.Expr.{Expr};
-ghost use Rattle.sql_model.specs.declared.tree.Expr.TheVariants as an_expr;
+ghost use Rattle.sql_read.specs.Eating.{Extends, IsBehind};
+ghost use Rattle.sql_read.specs.Reading as reading;
+ghost use Rattle.sql_read.specs.Reading.{Does, Gives};
 
 use super::MOST_SEPARATORS;
 use super::expr::{expr, value};
@@ -63,10 +48,10 @@ pub struct Sought {
 }
 
 /// `EXISTS ( query )`, or a value, with or without a test of it.
+#[tactic(auto, unfolding(crate::specs::Reading::tested_value))]
 #[cycle(read)]
 pub fn test(alloc: Global, tokens: &mut Tokens<'_>, levels: u8) -> Result<Expr, ReadFault>
-    ensures reads { Reads (ref grammar.test) levels (λ read. read) tokens.old tokens.old result tokens.new }
-    ensures copied { Copied (ref grammar.test) (λ read. read) tokens.old tokens.old result tokens.new }
+    ensures does { Does reading.tested_value levels tokens.old result tokens.new }
     ensures extends { Extends tokens.old tokens.new }
 {
     if let Some(word) = tokens.eat(Kind::Exists) {
@@ -84,6 +69,7 @@ pub fn test(alloc: Global, tokens: &mut Tokens<'_>, levels: u8) -> Result<Expr, 
 }
 
 /// The test of the value that began at the mark, if one follows.
+#[tactic(auto, unfolding(crate::specs::Reading::tested))]
 #[cycle(read)]
 pub fn tested(
     alloc: Global,
@@ -93,10 +79,7 @@ pub fn tested(
     left: Expr,
 ) -> Result<Expr, ReadFault>
     requires { IsBehind start tokens.old }
-    ensures reads { (before : Built Expr) (count : ℕ) (began : Cursor) → IsMark start began → IsBuilt before count began left tokens.old
-        → Reads (optional (ref grammar.rest)) levels (λ rest. tested (before, count) rest) began tokens.old result tokens.new }
-    ensures copied { (before : Built Expr) (count : ℕ) (began : Cursor) → IsMark start began → IsBuilt before count began left tokens.old
-        → Copied (optional (ref grammar.rest)) (λ rest. tested (before, count) rest) began tokens.old result tokens.new }
+    ensures does { Does (λ levels deeper. reading.tested levels deeper start left) levels tokens.old result tokens.new }
     ensures extends { Extends tokens.old tokens.new }
 {
     if !tokens.sees_any(&TEST_KINDS) {
@@ -107,6 +90,7 @@ pub fn tested(
 }
 
 /// The test of the value, a copy of which has this weight.
+#[tactic(auto, unfolding(crate::specs::Reading::rest))]
 #[cycle(read)]
 fn rest(
     alloc: Global,
@@ -115,10 +99,7 @@ fn rest(
     weight: u32,
     left: Expr,
 ) -> Result<Expr, ReadFault>
-    ensures reads { (before : Built Expr) (count : ℕ) (began : Cursor) → weight ≡ trees.weight (before, count) → Builds before began left tokens.old
-        → Reads (ref grammar.rest) levels (λ rest. rest (before, count)) began tokens.old result tokens.new }
-    ensures copied { (before : Built Expr) (count : ℕ) (began : Cursor) → weight ≡ trees.weight (before, count) → Builds before began left tokens.old
-        → Copied (ref grammar.rest) (λ rest. rest (before, count)) began tokens.old result tokens.new }
+    ensures does { Does (λ levels deeper. reading.rest levels deeper weight left) levels tokens.old result tokens.new }
     ensures extends { Extends tokens.old tokens.new }
 {
     if let Some(sign) = tokens.eat_any(&COMPARISONS) {
@@ -133,6 +114,7 @@ fn rest(
 }
 
 /// IN, BETWEEN or LIKE.
+#[tactic(auto, unfolding(crate::specs::Reading::by_word))]
 #[cycle(read)]
 fn by_word(
     alloc: Global,
@@ -141,10 +123,7 @@ fn by_word(
     weight: u32,
     left: Expr,
 ) -> Result<Expr, ReadFault>
-    ensures reads { (before : Built Expr) (count : ℕ) (began : Cursor) → weight ≡ trees.weight (before, count) → Builds before began left tokens.old
-        → Reads by_word levels (λ read. read None (before, count)) began tokens.old result tokens.new }
-    ensures copied { (word : Option Lexeme) (before : Built Expr) (count : ℕ) (began : Cursor) → weight ≡ trees.weight (before, count) → Builds before began left tokens.old
-        → Copied by_word (λ read. read word (before, count)) began tokens.old result tokens.new }
+    ensures does { Does (λ levels deeper. reading.by_word levels deeper weight left) levels tokens.old result tokens.new }
     ensures extends { Extends tokens.old tokens.new }
 {
     if let Some(word) = tokens.eat(Kind::In) {
@@ -167,6 +146,7 @@ fn by_word(
 }
 
 /// What follows BETWEEN; the value before it is copied.
+#[tactic(auto, unfolding(crate::specs::Reading::bounds))]
 #[cycle(read)]
 fn bounds(
     alloc: Global,
@@ -175,11 +155,7 @@ fn bounds(
     weight: u32,
     left: Expr,
 ) -> Result<Expr, ReadFault>
-    ensures reads { (before : Built Expr) (count : ℕ) (began : Cursor) → weight ≡ trees.weight (before, count) → Builds before began left tokens.old
-        → Reads between_values levels (λ read. trees.between None read.0 read.1 (before, count)) began tokens.old result tokens.new }
-    ensures copied { (word : Option Lexeme) (before : Built Expr) (count : ℕ) (began at : Cursor) (between : Lexeme) → weight ≡ trees.weight (before, count)
-        → Builds before began left tokens.old → Passes (same k.Between) at between tokens.old
-        → Copied by_word (λ read. read word (before, count)) began at result tokens.new }
+    ensures does { Does (λ levels deeper. reading.bounds levels deeper weight left) levels tokens.old result tokens.new }
     ensures extends { Extends tokens.old tokens.new }
 {
     tokens.add_copy(weight)?;
@@ -191,15 +167,14 @@ fn bounds(
 }
 
 /// The value compared with a member: a copy of the value, which is counted.
+#[tactic(auto, unfolding(crate::specs::Reading::compared_copy))]
 fn compared_copy(
     alloc: Global,
     tokens: &mut Tokens<'_>,
     sought: &Sought,
     member: Expr,
 ) -> Result<Expr, ReadFault>
-    ensures compared { IfOk result (λ equal. equal ≡ an_expr.Eq sought.now.value member (trees.place sought.now.value)) }
-    ensures counted { OnOk result (Copies sought.now.weight tokens.old (Ok tt) tokens.new) }
-    ensures refused { IfErr result (λ fault. (fault ≢ NoMemory) → Copies sought.now.weight tokens.old (Err fault) tokens.new) }
+    ensures does { Gives result tokens.new (reading.compared_copy sought.now member tokens.old) }
     ensures extends { Extends tokens.old tokens.new }
 {
     tokens.add_copy(sought.weight)?;
@@ -208,6 +183,7 @@ fn compared_copy(
 }
 
 /// The members of a list of IN behind the first; the value before the list is copied at each comma.
+#[tactic(auto, unfolding(crate::specs::Reading::members))]
 #[cycle(read)]
 pub fn members(
     alloc: Global,
@@ -216,12 +192,7 @@ pub fn members(
     sought: Sought,
     first: Expr,
 ) -> Result<Expr, ReadFault>
-    ensures reads { (before member : Built Expr) (count : ℕ) (began middle : Cursor) → sought.weight ≡ trees.weight (before, count)
-        → Builds before began sought.value middle → Builds member middle first tokens.old
-        → Reads grammar.commas levels (λ others. trees.in_list None (member, others) (before, count)) began tokens.old result tokens.new }
-    ensures copied { (before member : Built Expr) (count : ℕ) (began middle : Cursor) → sought.weight ≡ trees.weight (before, count)
-        → Builds before began sought.value middle → Builds member middle first tokens.old
-        → Copied grammar.commas (λ others. trees.in_list None (member, others) (before, count)) began tokens.old result tokens.new }
+    ensures does { Does (λ levels deeper. reading.members levels deeper sought first) levels tokens.old result tokens.new }
     ensures extends { Extends tokens.old tokens.new }
 {
     let at = place_of(&sought.value);

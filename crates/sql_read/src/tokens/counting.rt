@@ -1,5 +1,6 @@
 //! The numbers of literals and called names, and the weight of what is copied.
-ghost use Rattle.std.specs.Prelude.{◌≡◌, ◌+◌, ◌≤◌, IfOk};
+ghost use Rattle.std.specs.Prelude.{◌≡◌, ◌+◌, ◌≤◌, IfOk, Result};
+ghost use Rattle.sql_read.specs.Reading.{Gives, copied, numbered};
 ghost use Rattle.sql_read.specs.Eating.{Copies, Extends, Numbers};
 ghost use Rattle.sql_grammar.specs.Numbering.{literal_number, symbol_number};
 
@@ -46,8 +47,10 @@ impl<'a> Tokens<'a> {
     }
 
     /// Counts a copy of this weight.
+    #[tactic(auto, unfolding(crate::specs::Reading::copied))]
     pub(crate) fn add_copy(&mut self, weight: u32) -> Result<(), ReadFault>
-        ensures { Copies weight self.old result self.new }
+        ensures copies { Copies weight self.old result self.new }
+        ensures gives { Gives result self.new (copied weight self.old) }
     {
         match self.copies.checked_add(weight) {
             Some(copies) if copies <= MOST_COPIES => {
@@ -61,8 +64,10 @@ impl<'a> Tokens<'a> {
     }
 
     /// The number of a literal: its own, or the next one.
+    #[tactic(auto, unfolding(crate::specs::Reading::numbered))]
     pub(crate) fn literal_number(&mut self, literal: Lit) -> Result<u32, NoMemory>
         ensures number { IfOk result (λ number. Numbers (literal_number literal) self.old number self.new) }
+        ensures gives { IfOk result (λ number. Gives (Result.Ok number) self.new (numbered (literal_number literal) self.old)) }
         ensures extends { Extends self.old self.new }
     {
         let (place, _) = self.symbols.lits.insert_full(literal)?;
@@ -70,8 +75,10 @@ impl<'a> Tokens<'a> {
     }
 
     /// The number of a called name: its own, or the next one.
+    #[tactic(auto, unfolding(crate::specs::Reading::numbered))]
     pub(crate) fn symbol_number(&mut self, name: Name) -> Result<u32, NoMemory>
         ensures number { IfOk result (λ number. Numbers (symbol_number name) self.old number self.new) }
+        ensures gives { IfOk result (λ number. Gives (Result.Ok number) self.new (numbered (symbol_number name) self.old)) }
         ensures extends { Extends self.old self.new }
     {
         let (place, _) = self.symbols.syms.insert_full(name)?;

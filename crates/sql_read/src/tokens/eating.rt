@@ -1,5 +1,6 @@
 //! Single tokens, taken by their kinds.
-ghost use Rattle.std.specs.Prelude.{◌≡◌, ◌<◌, ◌^◌};
+ghost use Rattle.sql_read.specs.Reading.{Gives, eaten, eaten_within, expected, expected_within, lexeme, lexeme_if_any};
+ghost use Rattle.std.specs.Prelude.{IfOk, IfSome, Result, ◌≡◌, ◌<◌, ◌^◌};
 ghost use Rattle.sql_read.specs.Eating.{Eats, EatsWithin, Expects, ExpectsWithin, is_next};
 ghost use Rattle.sql_grammar.specs.Kinds.{among, same};
 
@@ -39,8 +40,11 @@ impl<'a> Tokens<'a> {
     }
 
     /// Passes the next token, if it is of this kind.
+    #[tactic(auto, unfolding(crate::specs::Reading::eaten))]
     pub fn eat(&mut self, kind: Kind) -> Option<Token<'a>>
-        ensures { Eats (same kind) self.old result self.new }
+        ensures eats { Eats (same kind) self.old result self.new }
+        ensures gives { Gives (lexeme_if_any (Result.Ok result)) self.new (eaten (same kind) self.old) }
+        ensures place { IfSome result (λ token. token.start < 2 ^ 32) }
     {
         match self.ahead() {
             Some((token, ahead)) if is_same(kind, ahead) => {
@@ -52,8 +56,11 @@ impl<'a> Tokens<'a> {
     }
 
     /// Passes the next token, if it is of one of these kinds.
+    #[tactic(auto, unfolding(crate::specs::Reading::eaten))]
     pub fn eat_any(&mut self, kinds: &[Kind]) -> Option<Token<'a>>
-        ensures { Eats (among kinds.now) self.old result self.new }
+        ensures eats { Eats (among kinds.now) self.old result self.new }
+        ensures gives { Gives (lexeme_if_any (Result.Ok result)) self.new (eaten (among kinds.now) self.old) }
+        ensures place { IfSome result (λ token. token.start < 2 ^ 32) }
     {
         match self.ahead() {
             Some((token, ahead)) if is_among(kinds, ahead) => {
@@ -65,8 +72,11 @@ impl<'a> Tokens<'a> {
     }
 
     /// Passes the next token, which is to be of this kind.
+    #[tactic(auto, unfolding(crate::specs::Reading::expected))]
     pub fn expect(&mut self, alloc: Global, kind: Kind) -> Result<Token<'a>, ReadFault>
-        ensures { Expects (same kind) self.old result self.new }
+        ensures eats { Expects (same kind) self.old result self.new }
+        ensures gives { Gives (lexeme result) self.new (expected (same kind) self.old) }
+        ensures place { IfOk result (λ token. token.start < 2 ^ 32) }
     {
         match self.eat(kind) {
             Some(token) => Ok(token),
@@ -75,8 +85,11 @@ impl<'a> Tokens<'a> {
     }
 
     /// Passes the next token, which is to be of one of these kinds.
+    #[tactic(auto, unfolding(crate::specs::Reading::expected))]
     pub fn expect_any(&mut self, alloc: Global, kinds: &[Kind]) -> Result<Token<'a>, ReadFault>
-        ensures { Expects (among kinds.now) self.old result self.new }
+        ensures eats { Expects (among kinds.now) self.old result self.new }
+        ensures gives { Gives (lexeme result) self.new (expected (among kinds.now) self.old) }
+        ensures place { IfOk result (λ token. token.start < 2 ^ 32) }
     {
         match self.eat_any(kinds) {
             Some(token) => Ok(token),
@@ -85,8 +98,11 @@ impl<'a> Tokens<'a> {
     }
 
     /// Passes the next token, if it is of one of these kinds; that is too deep where there is no room.
+    #[tactic(auto, unfolding(crate::specs::Reading::eaten_within))]
     pub fn eat_within(&mut self, kinds: &[Kind], room: u8) -> Result<Option<Token<'a>>, ReadFault>
-        ensures { EatsWithin (among kinds.now) room self.old result self.new }
+        ensures eats { EatsWithin (among kinds.now) room self.old result self.new }
+        ensures gives { Gives (lexeme_if_any result) self.new (eaten_within (among kinds.now) room self.old) }
+        ensures place { IfOk result (λ found. IfSome found (λ token. token.start < 2 ^ 32)) }
     {
         match self.ahead() {
             Some((token, ahead)) if is_among(kinds, ahead) => {
@@ -101,13 +117,16 @@ impl<'a> Tokens<'a> {
     }
 
     /// Passes the next token, which is to be of one of these kinds; that is too deep where there is no room.
+    #[tactic(auto, unfolding(crate::specs::Reading::expected_within))]
     pub fn expect_within(
         &mut self,
         alloc: Global,
         kinds: &[Kind],
         room: u8,
     ) -> Result<Token<'a>, ReadFault>
-        ensures { ExpectsWithin (among kinds.now) room self.old result self.new }
+        ensures eats { ExpectsWithin (among kinds.now) room self.old result self.new }
+        ensures gives { Gives (lexeme result) self.new (expected_within (among kinds.now) room self.old) }
+        ensures place { IfOk result (λ token. token.start < 2 ^ 32) }
     {
         match self.eat_within(kinds, room)? {
             Some(token) => Ok(token),

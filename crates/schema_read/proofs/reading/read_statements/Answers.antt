@@ -1,12 +1,13 @@
+use Rattle.schema_read.proofs.StatementsAgree.{all_given}
 use Rattle.schema_read.proofs.WholeStatements.{statements_read, statements_refused}
 use Rattle.schema_read.proofs.reading.read_statements.Goals as goal
 
 pub returns-clause-read : goal.returns-clause-read
 returns-clause-read c =
     let read = c.statements-read.ensures in let handed = c.stop_on_fault.ensures in
-    statements_read handed.same read.reads read.columns read.relations read.extends handed.within handed.counted _ handed.still read.few read.narrow
+    statements_read handed.same (all_given c.statements-read.result read.extends read.does) handed.within handed.counted _ handed.still
 
 pub returns-clause-refused : goal.returns-clause-refused
 returns-clause-refused c =
     let read = c.statements-read.ensures in let handed = c.stop_on_fault.ensures in
-    statements_refused handed.same read.reads read.columns read.relations read.extends handed.within read.copied
+    statements_refused handed.same (all_given c.statements-read.result read.extends read.does) handed.within

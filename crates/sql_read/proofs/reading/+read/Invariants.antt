@@ -1,24 +1,13 @@
--- The reading functions end: the levels left fall, or with so many levels left the function does, by the order of the grammar.
-use Rattle.std.proofs.Common.{◌+◌, ◌*◌, List, length}
-use Rattle.grammar.specs.Form.{ref}
-use Rattle.sql_model.specs.declared.tree.Entry.{Entry}
-use Rattle.sql_model.specs.declared.tree.Query.{Query}
-use Rattle.sql_read.specs.Cursor.{Cursor}
+-- The reading functions end: the levels left fall, or with so many levels left the function does, by the order of the grammar. Loops end by the
+-- room that is left; what is read behind the parts so far is what is read behind the first.
+use Rattle.std.proofs.Common.{◌≡◌, ◌+◌, ◌-◌, ◌*◌, ◌≤◌, length}
+use Rattle.sql_grammar.specs.QueryEntries.{most_entries}
+use Rattle.sql_grammar.specs.QueryTrees as t
+use Rattle.sql_model.specs.declared.tree.Expr.TheVariants as an_expr
 use Rattle.sql_read.specs.Eating.{Extends}
-use Rattle.sql_grammar.specs.Numbering.{Built}
-use Rattle.sql_grammar.specs.declared.kinds.Kind.TheVariants as k
-use Rattle.sql_grammar.specs.Kinds.{same}
-use Rattle.sql_grammar.specs.QueryGrammar.{item, next_intersect, next_union, next_and, next_or, next_product, next_sum, next_comma}
-use Rattle.sql_read.specs.Reads.{Builds}
-use Rattle.sql_read.proofs.ReadEntries.{Joining, ListingItems}
-use Rattle.sql_read.proofs.ReadSets.{Collecting, Combining}
-use Rattle.sql_model.specs.declared.tree.Expr.{Expr}
-use Rattle.sql_read.proofs.ReadChains.{Chaining, Operating}
-use Rattle.sql_grammar.specs.QueryGrammar as grammar
-use Rattle.sql_read.proofs.ReadLists.{Listing}
+use Rattle.sql_read.specs.Reading as r
+use Rattle.sql_read.specs.Reading.{◌>>=◌, any_of, at, comma, done, one_more, repeated}
 use Rattle.sql_read.proofs.reading.+read.Given as goal
-use Rattle.sql_lex.specs.Lexemes.{Lexeme}
-use Rattle.sql_read.specs.ReadingEntries.{EntryAwaited, FurtherLeft, ListRead}
 
 abbrev pub decreases-entry::entry : goal.decreases-entry::entry
 decreases-entry::entry l = 32 * l.levels + 1
@@ -37,9 +26,6 @@ decreases-primary::count_arguments l = 32 * l.levels + 1
 
 abbrev pub decreases-primary::aggregate : goal.decreases-primary::aggregate
 decreases-primary::aggregate l = 32 * l.levels + 1
-
-abbrev pub decreases-primary::not_or_exists : goal.decreases-primary::not_or_exists
-decreases-primary::not_or_exists l = 32 * l.levels + 1
 
 abbrev pub decreases-inside::enclosed : goal.decreases-inside::enclosed
 decreases-inside::enclosed l = 32 * l.levels + 2
@@ -98,9 +84,6 @@ decreases-expr::ors l = 32 * l.levels + 17
 abbrev pub decreases-expr::expr : goal.decreases-expr::expr
 decreases-expr::expr l = 32 * l.levels + 18
 
-abbrev pub decreases-expr::and_tail : goal.decreases-expr::and_tail
-decreases-expr::and_tail l = 32 * l.levels + 18
-
 abbrev pub decreases-expr::expr_tail : goal.decreases-expr::expr_tail
 decreases-expr::expr_tail l = 32 * l.levels + 18
 
@@ -112,9 +95,6 @@ decreases-block::having l = 32 * l.levels + 19
 
 abbrev pub decreases-entry::joined_entry : goal.decreases-entry::joined_entry
 decreases-entry::joined_entry l = 32 * l.levels + 19
-
-abbrev pub decreases-inside::no_parenthesis : goal.decreases-inside::no_parenthesis
-decreases-inside::no_parenthesis l = 32 * l.levels + 19
 
 abbrev pub decreases-primary::exprs : goal.decreases-primary::exprs
 decreases-primary::exprs l = 32 * l.levels + 19
@@ -133,9 +113,6 @@ decreases-entry::entries l = 32 * l.levels + 21
 
 abbrev pub decreases-item::named_item : goal.decreases-item::named_item
 decreases-item::named_item l = 32 * l.levels + 20
-
-abbrev pub decreases-item::item_value : goal.decreases-item::item_value
-decreases-item::item_value l = 32 * l.levels + 20
 
 abbrev pub decreases-item::item : goal.decreases-item::item
 decreases-item::item l = 32 * l.levels + 21
@@ -176,104 +153,105 @@ decreases-inside::inner l = 32 * l.levels + 30
 abbrev pub decreases-inside::in_inner : goal.decreases-inside::in_inner
 decreases-inside::in_inner l = 32 * l.levels + 30
 
-abbrev pub decreases-entry::from-joins : goal.decreases-entry::from-joins
-decreases-entry::from-joins l = length l.tokens.tokens
-
-abbrev pub decreases-entry::entries-items : goal.decreases-entry::entries-items
-decreases-entry::entries-items l = length l.tokens.tokens
-
-abbrev pub decreases-block::items-more : goal.decreases-block::items-more
-decreases-block::items-more l = length l.tokens.tokens
-
-abbrev pub decreases-primary::exprs-more : goal.decreases-primary::exprs-more
-decreases-primary::exprs-more l = length l.tokens.tokens
-
-abbrev pub decreases-test::members-more : goal.decreases-test::members-more
-decreases-test::members-more l = length l.tokens.tokens
-
-abbrev pub decreases-expr::ands-more : goal.decreases-expr::ands-more
-decreases-expr::ands-more l = length l.tokens.tokens
-
-abbrev pub decreases-expr::ors-more : goal.decreases-expr::ors-more
-decreases-expr::ors-more l = length l.tokens.tokens
-
-abbrev pub decreases-expr::products-more : goal.decreases-expr::products-more
-decreases-expr::products-more l = length l.tokens.tokens
-
-abbrev pub decreases-expr::sums-more : goal.decreases-expr::sums-more
-decreases-expr::sums-more l = length l.tokens.tokens
-
 abbrev pub decreases-query::intersects-more : goal.decreases-query::intersects-more
-decreases-query::intersects-more l = length l.tokens.tokens
+decreases-query::intersects-more l = l.room
 
 abbrev pub decreases-query::unions-more : goal.decreases-query::unions-more
-decreases-query::unions-more l = length l.tokens.tokens
+decreases-query::unions-more l = l.room
+
+abbrev pub decreases-expr::products-more : goal.decreases-expr::products-more
+decreases-expr::products-more l = l.room
+
+abbrev pub decreases-expr::sums-more : goal.decreases-expr::sums-more
+decreases-expr::sums-more l = l.room
+
+abbrev pub decreases-expr::ands-more : goal.decreases-expr::ands-more
+decreases-expr::ands-more l = l.room
+
+abbrev pub decreases-expr::ors-more : goal.decreases-expr::ors-more
+decreases-expr::ors-more l = l.room
+
+abbrev pub decreases-primary::exprs-more : goal.decreases-primary::exprs-more
+decreases-primary::exprs-more l = l.room
+
+abbrev pub decreases-test::members-more : goal.decreases-test::members-more
+decreases-test::members-more l = l.room
+
+abbrev pub decreases-block::items-more : goal.decreases-block::items-more
+decreases-block::items-more l = l.room
+
+abbrev pub decreases-entry::entries-items : goal.decreases-entry::entries-items
+decreases-entry::entries-items l = l.room
+
+abbrev pub decreases-entry::from-joins : goal.decreases-entry::from-joins
+decreases-entry::from-joins l = most_entries - length l.entries
 
 abbrev pub invariant-query::intersects-more : goal.invariant-query::intersects-more
 invariant-query::intersects-more l = record {
-  chain : (before : Built Query) (start : Cursor) → Builds before start l.fn.first l.fn.tokens → Combining next_intersect l.levels l.fn.tokens before start l.room l.left l.tokens;
+  same : repeated r.intersect_word (r.intersected l.levels (at l.levels)) l.room l.left l.tokens ≡ r.intersects l.levels (at l.levels) l.fn.first l.fn.tokens;
   extends : Extends l.fn.tokens l.tokens;
 }
 
 abbrev pub invariant-query::unions-more : goal.invariant-query::unions-more
 invariant-query::unions-more l = record {
-  chain : (before : Built Query) (start : Cursor) → Builds before start l.fn.first l.fn.tokens → Combining next_union l.levels l.fn.tokens before start l.room l.left l.tokens;
-  extends : Extends l.fn.tokens l.tokens;
-}
-
-abbrev pub invariant-block::items-more : goal.invariant-block::items-more
-invariant-block::items-more l = record {
-  list : Collecting (same k.Comma) (ref item) l.levels l.fn.tokens l.room l.items l.tokens;
-  extends : Extends l.fn.tokens l.tokens;
-}
-
-abbrev pub invariant-expr::ors-more : goal.invariant-expr::ors-more
-invariant-expr::ors-more l = record {
-  chain : (before : Built Expr) (start : Cursor) → Builds before start l.fn.first l.fn.tokens → Chaining (same k.Or) next_or l.levels l.fn.tokens before start l.room l.parts l.tokens;
-  extends : Extends l.fn.tokens l.tokens;
-}
-
-abbrev pub invariant-expr::ands-more : goal.invariant-expr::ands-more
-invariant-expr::ands-more l = record {
-  chain : (before : Built Expr) (start : Cursor) → Builds before start l.fn.first l.fn.tokens → Chaining (same k.And) next_and l.levels l.fn.tokens before start l.room l.parts l.tokens;
+  same : repeated r.set_word (r.united l.levels (at l.levels)) l.room l.left l.tokens ≡ r.unions l.levels (at l.levels) l.fn.first l.fn.tokens;
   extends : Extends l.fn.tokens l.tokens;
 }
 
 abbrev pub invariant-expr::products-more : goal.invariant-expr::products-more
 invariant-expr::products-more l = record {
-  chain : (before : Built Expr) (start : Cursor) → Builds before start l.fn.first l.fn.tokens → Operating next_product l.levels l.fn.tokens before start l.room l.left l.tokens;
+  same : repeated r.product_sign (r.operated (r.unary l.levels (at l.levels))) l.room l.left l.tokens ≡ r.products l.levels (at l.levels) l.fn.first l.fn.tokens;
   extends : Extends l.fn.tokens l.tokens;
 }
 
 abbrev pub invariant-expr::sums-more : goal.invariant-expr::sums-more
 invariant-expr::sums-more l = record {
-  chain : (before : Built Expr) (start : Cursor) → Builds before start l.fn.first l.fn.tokens → Operating next_sum l.levels l.fn.tokens before start l.room l.left l.tokens;
+  same : repeated r.sum_sign (r.operated (r.term l.levels (at l.levels))) l.room l.left l.tokens ≡ r.sums l.levels (at l.levels) l.fn.first l.fn.tokens;
+  extends : Extends l.fn.tokens l.tokens;
+}
+
+abbrev pub invariant-expr::ands-more : goal.invariant-expr::ands-more
+invariant-expr::ands-more l = record {
+  same : (repeated r.and_word (one_more (r.neg l.levels (at l.levels))) l.room l.parts l.tokens >>= λ parts. done (an_expr.And parts (t.place l.fn.first))) ≡ r.ands l.levels (at l.levels) l.fn.first l.fn.tokens;
+  extends : Extends l.fn.tokens l.tokens;
+}
+
+abbrev pub invariant-expr::ors-more : goal.invariant-expr::ors-more
+invariant-expr::ors-more l = record {
+  same : (repeated r.or_word (one_more (r.conj l.levels (at l.levels))) l.room l.parts l.tokens >>= λ parts. done (an_expr.Or parts (t.place l.fn.first))) ≡ r.ors l.levels (at l.levels) l.fn.first l.fn.tokens;
   extends : Extends l.fn.tokens l.tokens;
 }
 
 abbrev pub invariant-primary::exprs-more : goal.invariant-primary::exprs-more
 invariant-primary::exprs-more l = record {
-  list : Collecting (same k.Comma) (ref grammar.expr) l.levels l.fn.tokens l.room l.exprs l.tokens;
+  same : repeated comma (one_more (r.expr l.levels (at l.levels))) l.room l.exprs l.tokens ≡ r.listed (r.expr l.levels (at l.levels)) l.fn.tokens;
+  extends : Extends l.fn.tokens l.tokens;
+}
+
+abbrev pub invariant-block::items-more : goal.invariant-block::items-more
+invariant-block::items-more l = record {
+  same : repeated comma (one_more (r.item l.levels (at l.levels))) l.room l.items l.tokens ≡ r.items l.levels (at l.levels) l.fn.tokens;
   extends : Extends l.fn.tokens l.tokens;
 }
 
 abbrev pub invariant-test::members-more : goal.invariant-test::members-more
 invariant-test::members-more l = record {
-  chain : (before first : Built Expr) (began middle : Cursor) → Builds before began l.fn.sought.value middle → Builds first middle l.fn.first l.fn.tokens
-      → Listing next_comma l.levels l.fn.tokens l.fn.sought.weight before first began l.room l.fn.sought.value l.parts l.last l.tokens;
+  same : (repeated comma (r.next_member l.levels (at l.levels) l.fn.sought) l.room (l.parts, l.last) l.tokens
+      >>= λ found. done (any_of l.fn.sought.value found.0 (an_expr.Eq l.fn.sought.value found.1 (t.place l.fn.sought.value))))
+      ≡ r.members l.levels (at l.levels) l.fn.sought l.fn.first l.fn.tokens;
+  sought : l.sought ≡ l.fn.sought;
   extends : Extends l.fn.tokens l.tokens;
 }
 
 abbrev pub invariant-entry::entries-items : goal.invariant-entry::entries-items
 invariant-entry::entries-items l = record {
-  list : ListingItems l.levels l.fn.tokens l.room l.entries l.tokens;
-  few : ListRead (length l.entries) l.fn.tokens.tokens l.tokens.tokens;
+  same : repeated comma (r.next_from l.levels (at l.levels)) l.room l.entries l.tokens ≡ r.entries l.levels (at l.levels) l.fn.tokens;
   extends : Extends l.fn.tokens l.tokens;
 }
 
 abbrev pub invariant-entry::from-joins : goal.invariant-entry::from-joins
 invariant-entry::from-joins l = record {
-  item : (built : Built (List Entry)) (start : Cursor) → Builds built start l.fn.before l.fn.tokens → Joining l.levels l.fn.tokens built start l.entries l.tokens;
-  few : (start : List Lexeme) → EntryAwaited (length l.fn.before) start l.fn.tokens.tokens → FurtherLeft (length l.entries) start l.tokens.tokens;
+  same : r.joined l.levels (at l.levels) (most_entries - length l.entries) l.entries l.tokens ≡ r.from l.levels (at l.levels) l.fn.before l.fn.tokens;
+  fits : length l.entries ≤ most_entries;
   extends : Extends l.fn.tokens l.tokens;
 }

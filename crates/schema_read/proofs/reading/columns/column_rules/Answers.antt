@@ -1,26 +1,35 @@
-use Rattle.std.proofs.Common.{refl, sym, ◌∙◌}
-use Rattle.sql_read.proofs.ReadSteps.{exits}
-use Rattle.sql_read.proofs.ReadUnlimited.{takes_tokens}
-use Rattle.schema_read.proofs.ColumnRules.{all_rules, rule_added, rule_refused, ruling, still_ruling}
+use Rattle.std.proofs.Common.{rules, refl, sym, ◌∙◌}
+use Rattle.std.proofs.lemmas.List.{append-nil}
+use Rattle.sql_read.proofs.Extending.{◌⨟◌, extends_itself}
+use Rattle.schema_read.specs.StatementReaders.{column_rules}
+use Rattle.schema_read.proofs.StatementLoops.{no_rule, rule_read, rule_shorter, rule_stops, ruling}
 use Rattle.schema_read.proofs.reading.columns.column_rules.Goals as goal
 
 pub more-init : goal.more-init
-more-init c = ruling
+unfolding column_rules
+more-init c = record { ruling = ruling refl; extends = extends_itself }
 
-pub returns-in_err-rule-clause-reads : goal.returns-in_err-rule-clause-reads
-returns-in_err-rule-clause-reads c = λ levels. exits c.from_residual.ensures.1 (rule_refused c.more.invariant (sym c.sees_any.ensures ∙ c.more-test.true) levels (c.in_err-rule.ensures.reads levels).answers)
+pub returns-in_err-rule-clause-does : goal.returns-in_err-rule-clause-does
+returns-in_err-rule-clause-does c =
+    let e = rule_stops c.more.invariant.ruling (sym c.sees_any.ensures ∙ c.more-test.true) c.in_err-rule.field-0.0 c.column_rule.new.tokens c.in_err-rule.ensures.does in search rules
 
 pub more-preserved : goal.more-preserved
-more-preserved c = still_ruling c.more.invariant c.in_default.is c.in_ok-rule.ensures.reads c.in_ok-rule.ensures.extends
+more-preserved c = record {
+  ruling = rw (c.in_default.is, append-nil c.more.rules) at (rule_read c.more.invariant.ruling (sym c.sees_any.ensures ∙ c.more-test.true) _ _ c.in_ok-rule.ensures.does);
+  extends = c.more.invariant.extends ⨟ c.in_ok-rule.ensures.extends;
+}
 
 pub more-preserved-in-Continue-branch-3 : goal.more-preserved-in-Continue-branch-3
-more-preserved-in-Continue-branch-3 c = rule_added c.more.invariant c.in_ok-push.ensures.ok c.in-Some.is c.in_ok-rule.ensures.reads c.in_ok-rule.ensures.extends
+more-preserved-in-Continue-branch-3 c = record {
+  ruling = rw c.in_ok-push.ensures.ok (rw c.in-Some.is at (rule_read c.more.invariant.ruling (sym c.sees_any.ensures ∙ c.more-test.true) _ _ c.in_ok-rule.ensures.does));
+  extends = c.more.invariant.extends ⨟ c.in_ok-rule.ensures.extends;
+}
 
 pub more-smaller : goal.more-smaller
-more-smaller c = takes_tokens refl refl (c.in_ok-rule.ensures.reads 0).answers.takes
-
-pub returns-clause-reads : goal.returns-clause-reads
-returns-clause-reads c = λ levels. record { answers = all_rules c.more.invariant (sym c.sees_any.ensures ∙ c.more-test.false) levels }
+more-smaller c = rule_shorter _ _ _ _ c.in_ok-rule.ensures.does
 
 pub more-smaller-in-Continue-branch-3 : goal.more-smaller-in-Continue-branch-3
-more-smaller-in-Continue-branch-3 c = takes_tokens refl refl (c.in_ok-rule.ensures.reads 0).answers.takes
+more-smaller-in-Continue-branch-3 c = rule_shorter _ _ _ _ c.in_ok-rule.ensures.does
+
+pub returns-clause-does : goal.returns-clause-does
+returns-clause-does c = no_rule c.more.invariant.ruling (sym c.sees_any.ensures ∙ c.more-test.false)

@@ -1,14 +1,14 @@
-use Rattle.std.proofs.Common.{◌≤◌, length}
-use Rattle.schema_read.proofs.TableColumns.{Narrow}
-use Rattle.schema_read.proofs.TableElements.{Listing}
+use Rattle.std.proofs.Common.{◌≡◌}
+use Rattle.sql_read.specs.Eating.{Extends}
+use Rattle.sql_read.specs.Reading.{comma, repeated}
+use Rattle.schema_read.specs.StatementReaders.{listed_elements, next_element}
 use Rattle.schema_read.proofs.reading.elements.listed_elements.Given as goal
+
+abbrev pub decreases-more : goal.decreases-more
+decreases-more l = l.room
 
 abbrev pub invariant-more : goal.invariant-more
 invariant-more l = record {
-  listing : Listing l.fn.tokens l.tokens l.room l.elements;
-  counted : Narrow l.fn.tokens l.tokens (length l.elements.columns);
-  narrow : length l.elements.columns ≤ 32;
+  same : repeated comma next_element l.room l.elements l.tokens ≡ listed_elements l.fn.tokens;
+  extends : Extends l.fn.tokens l.tokens;
 }
-
-abbrev pub decreases-more : goal.decreases-more
-decreases-more l = length l.tokens.tokens

@@ -1,28 +1,32 @@
-use Rattle.std.proofs.Common.{◌-◌, [], ◌∷◌, ◌++◌, ◌∙◌, ap, refl, subst, sym}
-use Rattle.sql_grammar.specs.declared.kinds.Kind.TheVariants as k
-use Rattle.sql_read.proofs.ReadPassing.{overflows_alone, stays_alone, within_alone}
-use Rattle.sql_read.proofs.ReadSteps.{exits}
-use Rattle.schema_read.proofs.NameLists.{Listing, listed_names, listing, next_name_refused, one_more_name, too_many_names}
-use Rattle.schema_read.proofs.Readings.{first_refused, none_within, passed_within}
+use Rattle.std.proofs.Common.{rules, refl}
+use Rattle.sql_read.proofs.Extending.{◌⨟◌, extends_within}
+use Rattle.sql_read.proofs.Loops.{no_word, part_read, part_stops, stops_first, word_stops}
+use Rattle.schema_read.specs.StatementReaders.{listed_names}
 use Rattle.schema_read.proofs.reading.names.listed_names.Goals as goal
 
-pub returns-in_err-first-clause-reads : goal.returns-in_err-first-clause-reads
-returns-in_err-first-clause-reads c = λ levels. exits c.from_residual.ensures.1 (first_refused refl (c.in_err-first.ensures.reads levels).answers)
+pub returns-in_err-eat_within-clause-does : goal.returns-in_err-eat_within-clause-does
+unfolding listed_names
+returns-in_err-eat_within-clause-does c =
+    let e = word_stops _ _ _ _ _ _ c.more.invariant.same c.in_err-eat_within.field-0.0 c.eat_within.new.self c.in_err-eat_within.ensures.gives in search rules
 
-pub more-init : goal.more-init
-more-init c = subst (Listing c.args.tokens.now c.name.new.tokens 255) (sym (c.in_ok-push.ensures.ok ∙ ap (λ z. z ++ c.in_ok-first.first ∷ []) c.new-names.ensures)) (listing c.in_ok-first.ensures.reads c.in_ok-first.ensures.extends)
-
-pub returns-in_err-eat_within-clause-reads : goal.returns-in_err-eat_within-clause-reads
-returns-in_err-eat_within-clause-reads c = λ levels. exits c.from_residual-in_err-eat_within.ensures.1 (too_many_names c.more.invariant levels (overflows_alone k.Comma c.in_err-eat_within.ensures))
-
-pub returns-in_err-next-clause-reads : goal.returns-in_err-next-clause-reads
-returns-in_err-next-clause-reads c = λ levels.
-    exits c.from_residual-in_err-next.ensures.1 (next_name_refused c.more.invariant (within_alone k.Comma (passed_within c.in-Some.is c.in_ok-eat_within.ensures)) levels (c.in_err-next.ensures.reads levels).answers)
+pub returns-in_err-next-clause-does : goal.returns-in_err-next-clause-does
+unfolding listed_names
+returns-in_err-next-clause-does c =
+    let w = rw c.in-Some.is at c.in_ok-eat_within.ensures.gives in
+    let q = rw c.in-Some.is at c.in_ok-eat_within.ensures.eats in
+    let s = stops_first c.in_err-next.field-0.0 c.name-in-Some.new.tokens _ _ c.in_err-next.ensures.does in
+    let e = part_stops _ _ _ _ _ _ c.more.invariant.same _ _ w q.room_left c.in_err-next.field-0.0 c.name-in-Some.new.tokens s in search rules
 
 pub more-preserved : goal.more-preserved
+unfolding listed_names
 more-preserved c =
-    subst (Listing c.args.tokens.now c.name-in-Some.new.tokens (c.more.room - 1)) (sym c.in_ok-push-2.ensures.ok)
-    (one_more_name c.more.invariant (within_alone k.Comma (passed_within c.in-Some.is c.in_ok-eat_within.ensures)) c.in_ok-next.ensures.reads c.in_ok-next.ensures.extends)
+    let w = rw c.in-Some.is at c.in_ok-eat_within.ensures.gives in
+    let q = rw c.in-Some.is at c.in_ok-eat_within.ensures.eats in
+    record {
+      same = rw c.in_ok-push-2.ensures.ok (part_read _ _ _ _ _ _ c.more.invariant.same _ _ w q.room_left _ _ (rw c.in_ok-next.ensures.does refl));
+      extends = c.more.invariant.extends ⨟ extends_within q ⨟ c.in_ok-next.ensures.extends;
+    }
 
-pub returns-clause-reads : goal.returns-clause-reads
-returns-clause-reads c = λ levels. record { answers = listed_names c.more.invariant levels (stays_alone k.Comma (none_within c.more.room c.in_default.is c.in_ok-eat_within.ensures)) }
+pub returns-clause-does : goal.returns-clause-does
+unfolding listed_names
+returns-clause-does c = no_word _ _ _ _ _ _ c.more.invariant.same _ (rw c.in_default.is at c.in_ok-eat_within.ensures.gives)

@@ -1,10 +1,14 @@
-use Rattle.std.proofs.Common.{ℕ, length}
+use Rattle.std.proofs.Common.{◌≡◌}
 use Rattle.sql_read.specs.Eating.{Extends}
-use Rattle.sql_read.proofs.ReadBlocks.{Gathering}
+use Rattle.std.proofs.Common.{Some}
+use Rattle.sql_read.specs.Reading.{◌>>=◌, comma, done, group_by, one_more, reference, repeated}
 use Rattle.sql_read.proofs.reading.block.group_by.Given as goal
 
-abbrev pub invariant-more : goal.invariant-more
-invariant-more l = record { list : (levels : ℕ) → Gathering levels l.fn.tokens l.room l.columns l.tokens; extends : Extends l.fn.tokens l.tokens }
-
 abbrev pub decreases-more : goal.decreases-more
-decreases-more l = length l.tokens.tokens
+decreases-more l = l.room
+
+abbrev pub invariant-more : goal.invariant-more
+invariant-more l = record {
+  same : (repeated comma (one_more reference) l.room l.columns l.tokens >>= λ columns. done (Some columns)) ≡ group_by l.fn.tokens;
+  extends : Extends l.fn.tokens l.tokens;
+}

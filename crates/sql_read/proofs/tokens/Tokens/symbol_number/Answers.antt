@@ -1,5 +1,5 @@
 use Rattle.std.proofs.Common.{refl}
-use Rattle.sql_read.proofs.Numbered.{symbol_numbered, symbol_extends}
+use Rattle.sql_read.proofs.Numbered.{symbol_numbered, symbol_extends, numbers_given}
 use Rattle.sql_read.proofs.tokens.Tokens.symbol_number.Goals as goal
 
 pub returns-clause-number : goal.returns-clause-number
@@ -7,3 +7,6 @@ returns-clause-number c = symbol_numbered c.self.view_is c.args.name _ _ _ c.num
 
 pub returns-clause-extends : goal.returns-clause-extends
 returns-clause-extends c = symbol_extends c.self.view_is _ c.args.name _ c.in_ok-place.ensures.keys refl
+
+pub returns-clause-gives : goal.returns-clause-gives
+returns-clause-gives c = numbers_given _ _ _ _ (returns-clause-number c)

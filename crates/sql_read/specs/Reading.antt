@@ -1,0 +1,611 @@
+-- What the reading functions do, from the left: what is read, or where and why reading stops. They go like the plan of the grammar: one token
+-- always tells how to go on.
+use Rattle.std.specs.Prelude.{ℕ, zero, suc, ◌+◌, ◌-◌, ◌≡◌, ◌==◌, Bool, true, false, not, ◌&&◌, nat_lt, if◌then◌else◌, List, [], ◌∷◌, ◌++◌, length, Option, Some, None, Result, Ok, Err}
+use Rattle.sql_lex.specs.declared.token.Token.{Token}
+use Rattle.sql_lex.specs.Lexemes.{Lexeme, lexeme_of}
+use Rattle.sql_model.specs.declared.tree.Entry.{Entry}
+use Rattle.sql_model.specs.declared.tree.Expr.{Expr}
+use Rattle.sql_model.specs.declared.tree.Expr.TheVariants as an_expr
+use Rattle.sql_model.specs.declared.tree.Item.{Item}
+use Rattle.sql_model.specs.declared.tree.Item.TheVariants as an_item
+use Rattle.sql_model.specs.declared.tree.Query.{Query}
+use Rattle.sql_model.specs.declared.tree.Query.TheVariants as a_query
+use Rattle.sql_model.specs.Syntax as s
+use Rattle.sql_model.specs.Syntax.{Name, SetOp}
+use Rattle.sql_grammar.specs.declared.listed.Listed.{Listed}
+use Rattle.sql_grammar.specs.declared.kinds.Kind.{Kind}
+use Rattle.sql_grammar.specs.declared.kinds.Kind.TheVariants as k
+use Rattle.sql_grammar.specs.Kinds.{among, kind_of, name_kinds, same}
+use Rattle.sql_grammar.specs.Numbering.{Built, literal_number, symbol_number}
+use Rattle.sql_grammar.specs.QueryCopies.{most_copies}
+use Rattle.sql_grammar.specs.QueryEntries.{most_entries}
+use Rattle.sql_grammar.specs.QueryTrees as t
+use Rattle.sql_grammar.specs.TokenValues.{name_of}
+use Rattle.sql_read.specs.declared.fault.LimitKind.TheVariants as limit
+use Rattle.sql_read.specs.declared.fault.ReadFault.{ReadFault}
+use Rattle.sql_read.specs.declared.fault.ReadFault.TheVariants.{Lex, Unexpected, LeftOut, TooDeep, Limit, NoMemory}
+use Rattle.sql_read.specs.declared.reading.inside.Grouped.{Grouped}
+use Rattle.sql_read.specs.declared.reading.inside.Grouped.TheVariants as grouped
+use Rattle.sql_read.specs.declared.reading.inside.Inside.{Inside}
+use Rattle.sql_read.specs.declared.reading.inside.Inside.TheVariants as inside
+use Rattle.sql_read.specs.declared.reading.item.Starred.{Starred}
+use Rattle.sql_read.specs.declared.reading.item.Starred.TheVariants as starred
+use Rattle.sql_read.specs.declared.reading.test.Sought.{Sought}
+use Rattle.sql_read.specs.declared.tokens.counting.Mark.{Mark}
+use Rattle.sql_read.specs.Cursor.{Cursor, behind_next}
+use Rattle.sql_read.specs.Eating.{allowed_entry, is_next}
+use Rattle.sql_read.specs.Parts.{grouped_of}
+use Rattle.sql_read.specs.Refusals.{refusal}
+
+-- what was read, or why it stopped, and what is left
+abbrev pub Reading : Type 0 → Type 0
+Reading A = Result A ReadFault × Cursor
+
+abbrev pub Reader : Type 0 → Type 0
+Reader A = Cursor → Reading A
+
+infixl 10 ◌>>=◌
+abbrev pub ◌>>=◌ : {A B : Type 0} → Reading A → (A → Reader B) → Reading B
+(Ok x, c) >>= next = next x c
+(Err fault, c) >>= next = (Err fault, c)
+
+-- Code stopped here for this reason, or memory ran out.
+abbrev pub Stops : {A : Type 0} → ReadFault → Cursor → Reading A → Type 0
+Stops (Lex fault) here reading = reading ≡ (Err (Lex fault), here)
+Stops (Unexpected at) here reading = reading ≡ (Err (Unexpected at), here)
+Stops (LeftOut word at) here reading = reading ≡ (Err (LeftOut word at), here)
+Stops (TooDeep at) here reading = reading ≡ (Err (TooDeep at), here)
+Stops (Limit what) here reading = reading ≡ (Err (Limit what), here)
+Stops NoMemory here reading = Unit {0}
+
+-- Code answered what reading gives, unless memory ran out.
+abbrev pub Gives : {A : Type 0} → Result A ReadFault → Cursor → Reading A → Type 0
+Gives (Ok x) here reading = reading ≡ (Ok x, here)
+Gives (Err fault) here reading = Stops fault here reading
+
+-- tokens, as contracts see them
+abbrev pub lexeme : Result Token ReadFault → Result Lexeme ReadFault
+lexeme (Ok token) = Ok (lexeme_of token)
+lexeme (Err fault) = Err fault
+
+abbrev pub lexeme_if_any : Result (Option Token) ReadFault → Result (Option Lexeme) ReadFault
+lexeme_if_any (Ok None) = Ok None
+lexeme_if_any (Ok (Some token)) = Ok (Some (lexeme_of token))
+lexeme_if_any (Err fault) = Err fault
+
+-- ---- single tokens
+
+abbrev pub done : {A : Type 0} → A → Reader A
+done x c = (Ok x, c)
+
+-- what stands next is refused
+abbrev pub refused : {A : Type 0} → Reader A
+refused c = (Err (refusal c), c)
+
+-- where a token of these kinds stands next it is read so, and else so
+abbrev pub seen : {A : Type 0} → (Kind → Bool) → Reader A → Reader A → Reader A
+seen p f g c = if is_next p c.tokens then f c else g c
+
+-- the token that stands next, where one of these kinds does, and the places behind it
+abbrev pub passed : List Lexeme → Reader (Option Lexeme)
+passed [] c = (Ok None, c)
+passed (token ∷ tokens) c = (Ok (Some token), behind_next c)
+
+-- one token of these kinds, if it stands next
+unfoldable pub eaten : (Kind → Bool) → Reader (Option Lexeme)
+eaten p c = if is_next p c.tokens then passed c.tokens c else (Ok None, c)
+
+abbrev pub too_deep : {A : Type 0} → List Lexeme → Reader A
+too_deep [] c = refused c
+too_deep (token ∷ tokens) c = (Err (TooDeep token.start), c)
+
+-- the same, with room for so many
+unfoldable pub eaten_within : (Kind → Bool) → ℕ → Reader (Option Lexeme)
+eaten_within p room c = if is_next p c.tokens then (if room == 0 then too_deep c.tokens c else passed c.tokens c) else (Ok None, c)
+
+-- with what was found reading goes on so, and where nothing was so
+abbrev pub on : {X A : Type 0} → (X → Reader A) → Reader A → Option X → Reader A
+on f g (Some x) = f x
+on f g None = g
+
+abbrev pub demanded : Option Lexeme → Reader Lexeme
+demanded (Some token) = done token
+demanded None = refused
+
+-- one token of these kinds, which is to stand next
+unfoldable pub expected : (Kind → Bool) → Reader Lexeme
+expected p c = eaten p c >>= demanded
+
+unfoldable pub expected_within : (Kind → Bool) → ℕ → Reader Lexeme
+expected_within p room c = eaten_within p room c >>= demanded
+
+-- a word was read, or none: further parts are read behind it
+abbrev pub continuing : {A W : Type 0} → (A → W → Reader A) → (A → Reader A) → A → Option W → Reader A
+continuing next again x None c = (Ok x, c)
+continuing next again x (Some word) c = next x word c >>= again
+
+-- further parts behind words, of which there is room for so many
+unfoldable pub repeated : {A W : Type 0} → (ℕ → Reader (Option W)) → (A → W → Reader A) → ℕ → A → Reader A
+repeated word next zero x c = word 0 c >>= λ w c. (Ok x, c)
+repeated word next (suc room) x c = word (suc room) c >>= continuing next (repeated word next room) x
+
+-- ---- numbers and copies
+
+-- the number that this gives
+unfoldable pub numbered : Built ℕ → Reader ℕ
+numbered given c = (Ok (given.build c.numbers).0, record c { numbers = (given.build c.numbers).1 })
+
+-- a copy of this weight is counted; the first that passes the limit is refused
+unfoldable pub copied : ℕ → Reader (Unit {0})
+copied weight c =
+    if not (nat_lt most_copies c.copies) && nat_lt most_copies (c.copies + weight) then (Err (Limit limit.Copies), c)
+    else (Ok tt, record c { copies = c.copies + weight })
+
+abbrev pub mark : Cursor → Mark
+mark c = record { passed = c.passed; copies = c.copies }
+
+-- what a copy of all since then weighs
+abbrev pub weight_since : Mark → Cursor → ℕ
+weight_since m c = (c.passed + c.copies) - (m.passed + m.copies)
+
+-- ---- lists
+
+abbrev pub comma : ℕ → Reader (Option Lexeme)
+comma = eaten_within (among (k.Comma ∷ []))
+
+-- one more of what is read so, behind those before it
+abbrev pub one_more : {A W : Type 0} → Reader A → List A → W → Reader (List A)
+one_more f xs w c = f c >>= λ x. done (xs ++ x ∷ [])
+
+-- f {, f}
+abbrev pub listed : {A : Type 0} → Reader A → Reader (List A)
+listed f c = f c >>= λ first. repeated comma (one_more f) 255 (first ∷ [])
+
+-- ---- names
+
+-- [. name] behind this word
+unfoldable pub column : Lexeme → Reader Expr
+column word c =
+    eaten (same k.Dot) c >>= on
+    (λ dot c. expected (among name_kinds) c >>= λ name. done (t.column (Some word, name)))
+    (done (t.column (None, word)))
+
+unfoldable pub reference : Reader Expr
+reference c = expected (among name_kinds) c >>= column
+
+-- [. (* | name)] behind this word
+unfoldable pub column_or_star : Lexeme → Reader Starred
+column_or_star word c =
+    eaten (same k.Dot) c >>= on
+    (λ dot c. eaten (same k.Star) c >>= on
+    (λ star. done (starred.All (an_item.AliasStar (name_of word) word.start)))
+    (λ c. expected (among name_kinds) c >>= λ name. done (starred.First (t.column (Some word, name)))))
+    (done (starred.First (t.column (None, word))))
+
+-- [AS] name
+unfoldable pub alias : Reader Lexeme
+alias c = eaten (same k.As) c >>= λ word. expected (among name_kinds)
+
+unfoldable pub optional_alias : Reader (Option Lexeme)
+optional_alias c = eaten (same k.As) c >>= on (λ word c. expected (among name_kinds) c >>= λ name. done (Some name)) (eaten (among name_kinds))
+
+unfoldable pub item_name : Reader (Option Name)
+item_name c = optional_alias c >>= λ alias. done (t.name_of_alias alias)
+
+abbrev pub table_named : Lexeme → Option Lexeme → Listed
+table_named table None = t.listed_table table table
+table_named table (Some alias) = t.listed_table table alias
+
+unfoldable pub table_entry : Reader Listed
+table_entry c = expected (among name_kinds) c >>= λ table c. optional_alias c >>= λ alias. done (table_named table alias)
+
+-- ---- literals
+
+unfoldable pub literal : Reader (Option Expr)
+literal c =
+    eaten (same k.Number) c >>= on
+    (λ token c. numbered (literal_number (t.number_of token)) c >>= λ lit. done (Some (an_expr.Lit lit token.start)))
+    (λ c. eaten (same k.Text) c >>= on
+    (λ token c. numbered (literal_number (t.text_of token)) c >>= λ lit. done (Some (an_expr.Lit lit token.start)))
+    (done None))
+
+-- ---- sets of kinds, each as the code lists them
+
+abbrev pub called_kinds : List Kind
+called_kinds = k.Word ∷ k.Key ∷ k.View ∷ k.Index ∷ []
+
+abbrev pub other_aggregates : List Kind
+other_aggregates = k.Sum ∷ k.Avg ∷ k.Min ∷ k.Max ∷ []
+
+abbrev pub expr_kinds : List Kind
+expr_kinds =
+    k.Exists ∷ k.Not ∷ k.Count ∷ k.Sum ∷ k.Avg ∷ k.Min ∷ k.Max ∷ k.Key ∷ k.View ∷ k.Index ∷ k.Word ∷ k.Quoted ∷ k.Number ∷ k.Text ∷ k.Open ∷ k.Minus ∷ []
+
+abbrev pub comparisons : List Kind
+comparisons = k.Equals ∷ k.Differs ∷ k.Less ∷ k.AtMost ∷ k.Greater ∷ k.AtLeast ∷ []
+
+abbrev pub test_kinds : List Kind
+test_kinds = k.Between ∷ k.In ∷ k.Like ∷ k.Not ∷ comparisons
+
+abbrev pub set_kinds : List Kind
+set_kinds = k.Except ∷ k.Intersect ∷ k.Union ∷ []
+
+abbrev pub tail_kinds : List Kind
+tail_kinds =
+    k.And ∷ k.Between ∷ k.In ∷ k.Like ∷ k.Not ∷ k.Or ∷ k.Star ∷ k.Equals ∷ k.Differs ∷ k.Less ∷ k.AtMost ∷ k.Greater ∷ k.AtLeast ∷ k.Plus ∷ k.Minus ∷ k.Slash ∷
+    k.Concat ∷ []
+
+-- ---- words of chains
+
+abbrev pub product_sign : ℕ → Reader (Option Lexeme)
+product_sign = eaten_within (among (k.Star ∷ k.Slash ∷ []))
+
+abbrev pub sum_sign : ℕ → Reader (Option Lexeme)
+sum_sign = eaten_within (among (k.Plus ∷ k.Minus ∷ k.Concat ∷ []))
+
+abbrev pub and_word : ℕ → Reader (Option Lexeme)
+and_word = eaten_within (among (k.And ∷ []))
+
+abbrev pub or_word : ℕ → Reader (Option Lexeme)
+or_word = eaten_within (among (k.Or ∷ []))
+
+abbrev pub intersect_word : ℕ → Reader (Option Lexeme)
+intersect_word = eaten_within (among (k.Intersect ∷ []))
+
+-- UNION, UNION ALL or EXCEPT, with room for so many, and the place of its first word
+unfoldable pub set_word : ℕ → Reader (Option (SetOp × ℕ))
+set_word room c =
+    eaten_within (among (k.Union ∷ [])) room c >>= on
+    (λ word c. eaten (same k.All) c >>= on (λ all. done (Some (s.UnionAll, word.start))) (done (Some (s.Union, word.start))))
+    (λ c. eaten_within (among (k.Except ∷ [])) room c >>= on (λ word. done (Some (s.Except, word.start))) (done None))
+
+-- ---- what is made of parts
+
+abbrev pub enclosed_of : Grouped → Expr
+enclosed_of (grouped.Query q at) = an_expr.Sub q at
+enclosed_of (grouped.Expr x) = x
+
+-- one more operand of an operator
+abbrev pub operated : Reader Expr → Expr → Lexeme → Reader Expr
+operated f left sign c = f c >>= λ right. done (an_expr.Fun (t.operator (kind_of sign)) (left ∷ right ∷ []) (t.place left))
+
+abbrev pub any_of : Expr → List Expr → Expr → Expr
+any_of sought [] last = last
+any_of sought (x ∷ xs) last = an_expr.Or ((x ∷ xs) ++ last ∷ []) (t.place sought)
+
+-- ---- parts that open no level
+
+unfoldable pub group_by : Reader (Option (List Expr))
+group_by c =
+    eaten (same k.Group) c >>= on (λ word c. expected (same k.By) c >>= λ by c. listed reference c >>= λ columns. done (Some columns)) (done None)
+
+-- the value compared with a member: a copy of it
+unfoldable pub compared_copy : Sought → Expr → Reader Expr
+compared_copy sought member c = copied sought.weight c >>= λ u. done (an_expr.Eq sought.value member (t.place sought.value))
+
+-- ---- what is one level deeper
+
+pub record Deeper : Type 0 where
+  pub query : Reader Query
+  pub neg : Reader Expr
+  pub unary : Reader Expr
+  pub exprs : Reader (List Expr)
+  pub argument : Lexeme → Reader Expr
+  pub inner : Reader Inside
+  pub in_inner : Sought → Reader Expr
+
+module _ (levels : ℕ) (deeper : Deeper) where
+  abbrev pub opened : Reader Lexeme
+  opened = expected_within (among (k.Open ∷ [])) levels
+
+  -- f ), and what is made of it
+  abbrev pub closed : {A B : Type 0} → Reader A → (A → B) → Reader B
+  closed f made c = f c >>= λ x c. expected (same k.Close) c >>= λ close. done (made x)
+
+  -- ---- what begins with a name
+
+  unfoldable pub arguments : Lexeme → Reader Expr
+  arguments word c =
+      opened c >>= λ open_ c. numbered (symbol_number (name_of word)) c >>= λ sym. closed deeper.exprs (λ args. an_expr.Call sym args word.start)
+
+  unfoldable pub count_arguments : Lexeme → Reader Expr
+  count_arguments word c =
+      opened c >>= λ open_ c. eaten (same k.Star) c >>= on
+      (λ star c. expected (same k.Close) c >>= λ close. done (an_expr.Agg s.Count false None word.start))
+      (closed (deeper.argument word) (λ x. x))
+
+  unfoldable pub aggregate : Lexeme → Reader Expr
+  aggregate word c = opened c >>= λ open_. closed (deeper.argument word) (λ x. x)
+
+  unfoldable pub named_first : Reader Expr
+  named_first c =
+      eaten (same k.Quoted) c >>= on column
+      (λ c. eaten (among called_kinds) c >>= on (λ word. seen (same k.Open) (arguments word) (column word))
+      (λ c. eaten (same k.Count) c >>= on (λ word. seen (same k.Open) (count_arguments word) (column word))
+      (λ c. expected (among other_aggregates) c >>= λ word. seen (same k.Open) (aggregate word) (column word))))
+
+  abbrev first_of : Reader Expr → Reader Starred
+  first_of f c = f c >>= λ x. done (starred.First x)
+
+  unfoldable pub name_or_star : Reader Starred
+  name_or_star c =
+      eaten (same k.Quoted) c >>= on column_or_star
+      (λ c. eaten (among called_kinds) c >>= on (λ word. seen (same k.Open) (first_of (arguments word)) (column_or_star word))
+      (λ c. eaten (same k.Count) c >>= on (λ word. seen (same k.Open) (first_of (count_arguments word)) (column_or_star word))
+      (λ c. expected (among other_aggregates) c >>= λ word. seen (same k.Open) (first_of (aggregate word)) (column_or_star word))))
+
+  -- ---- operands
+
+  unfoldable pub in_parentheses : Reader Grouped
+  in_parentheses c = opened c >>= λ open_. closed deeper.inner (λ inside. grouped_of inside open_.start)
+
+  unfoldable pub enclosed : Reader Expr
+  enclosed c = in_parentheses c >>= λ inside. done (enclosed_of inside)
+
+  unfoldable pub primary : Reader Expr
+  primary c = literal c >>= on done (seen (same k.Open) enclosed named_first)
+
+  unfoldable pub negative : Reader Expr
+  negative c = expected_within (among (k.Minus ∷ [])) levels c >>= λ sign c. deeper.unary c >>= λ part. done (an_expr.Fun 4 (part ∷ []) sign.start)
+
+  unfoldable pub unary : Reader Expr
+  unary = seen (same k.Minus) negative primary
+
+  unfoldable pub products : Expr → Reader Expr
+  products left = repeated product_sign (operated unary) 63 left
+
+  unfoldable pub term : Reader Expr
+  term c = unary c >>= products
+
+  unfoldable pub sums : Expr → Reader Expr
+  sums left = repeated sum_sign (operated term) 63 left
+
+  unfoldable pub value : Reader Expr
+  value c = term c >>= sums
+
+  -- ---- tests
+
+  unfoldable pub bounds : ℕ → Expr → Reader Expr
+  bounds weight left c =
+      copied weight c >>= λ u c. value c >>= λ low c. expected (same k.And) c >>= λ word c. value c >>= λ high. done (t.bounds left low high)
+
+  unfoldable pub by_word : ℕ → Expr → Reader Expr
+  by_word weight left c =
+      eaten (same k.In) c >>= on
+      (λ word c. opened c >>= λ open_. closed (deeper.in_inner (record { value = left; weight = weight; in_at = word.start })) (λ x. x))
+      (λ c. eaten (same k.Between) c >>= on (λ word. bounds weight left)
+      (λ c. expected (same k.Like) c >>= λ word c. value c >>= λ pattern_. done (an_expr.Pred 2 (left ∷ pattern_ ∷ []) (t.place left))))
+
+  unfoldable pub rest : ℕ → Expr → Reader Expr
+  rest weight left c =
+      eaten (among comparisons) c >>= on
+      (λ sign c. value c >>= λ right. done (t.compared (kind_of sign) left right))
+      (λ c. eaten (same k.Not) c >>= on (λ word c. by_word weight left c >>= λ test. done (an_expr.Not test (t.place test))) (by_word weight left))
+
+  -- the test of the value that began at the mark, if one follows
+  unfoldable pub tested : Mark → Expr → Reader Expr
+  tested start left = seen (among test_kinds) (λ c. rest (weight_since start c) left c) (done left)
+
+  -- ( query ) behind EXISTS
+  abbrev pub exists_of : Lexeme → Reader Expr
+  exists_of word c = opened c >>= λ open_. closed deeper.query (λ q. an_expr.Exists q word.start)
+
+  unfoldable pub tested_value : Reader Expr
+  tested_value c = eaten (same k.Exists) c >>= on exists_of (λ c. value c >>= tested (mark c))
+
+  -- ---- chains of AND and OR
+
+  abbrev pub negated : Lexeme → Reader Expr
+  negated word c = deeper.neg c >>= λ part. done (an_expr.Not part word.start)
+
+  unfoldable pub neg : Reader Expr
+  neg c = eaten_within (among (k.Not ∷ [])) levels c >>= on negated tested_value
+
+  unfoldable pub ands : Expr → Reader Expr
+  ands first = seen (same k.And) (λ c. repeated and_word (one_more neg) 255 (first ∷ []) c >>= λ parts. done (an_expr.And parts (t.place first))) (done first)
+
+  unfoldable pub conj : Reader Expr
+  conj c = neg c >>= ands
+
+  unfoldable pub ors : Expr → Reader Expr
+  ors first = seen (same k.Or) (λ c. repeated or_word (one_more conj) 255 (first ∷ []) c >>= λ parts. done (an_expr.Or parts (t.place first))) (done first)
+
+  unfoldable pub expr : Reader Expr
+  expr c = conj c >>= ors
+
+  -- what may follow the first part of an expression, which began at the mark
+  unfoldable pub expr_tail : Mark → Expr → Reader Expr
+  expr_tail start first c = products first c >>= λ left c. sums left c >>= λ left c. tested start left c >>= λ left c. ands left c >>= ors
+
+  -- ---- arguments and members
+
+  unfoldable pub exprs : Reader (List Expr)
+  exprs = seen (among expr_kinds) (listed expr) (done [])
+
+  abbrev pub aggregated : Lexeme → Option Lexeme → Reader Expr
+  aggregated word distinct c = expr c >>= λ x. done (an_expr.Agg (t.aggregate (kind_of word)) (t.is_given distinct) (Some x) word.start)
+
+  unfoldable pub argument : Lexeme → Reader Expr
+  argument word c = eaten (same k.Distinct) c >>= aggregated word
+
+  -- the members before the last, and the last
+  abbrev pub next_member : Sought → List Expr × Expr → Lexeme → Reader (List Expr × Expr)
+  next_member sought members word c = compared_copy sought members.1 c >>= λ equal c. expr c >>= λ next. done (members.0 ++ equal ∷ [], next)
+
+  -- the members of a list of IN behind the first
+  unfoldable pub members : Sought → Expr → Reader Expr
+  members sought first c =
+      repeated comma (next_member sought) 255 ([], first) c >>= λ found. done (any_of sought.value found.0 (an_expr.Eq sought.value found.1 (t.place sought.value)))
+
+  -- ---- items
+
+  abbrev value_named : Expr → Reader Item
+  value_named x c = item_name c >>= λ name. done (an_item.Value x name)
+
+  abbrev pub starred_item : Mark → Starred → Reader Item
+  starred_item start (starred.All whole) = done whole
+  starred_item start (starred.First first) = λ c. expr_tail start first c >>= value_named
+
+  unfoldable pub named_item : Reader Item
+  named_item c = name_or_star c >>= starred_item (mark c)
+
+  unfoldable pub item : Reader Item
+  item c =
+      eaten (same k.Star) c >>= on (λ star. done (an_item.Star star.start))
+      (seen (among name_kinds) named_item (λ c. expr c >>= value_named))
+
+  unfoldable pub items : Reader (List Item)
+  items = listed item
+
+  -- ---- entries
+
+  abbrev pub allowed : ℕ → Reader (Unit {0})
+  allowed count c = (allowed_entry levels count c.tokens, c)
+
+  -- an entry behind so many others
+  unfoldable pub entry : ℕ → Reader Listed
+  entry count c =
+      allowed count c >>= λ u c. eaten_within (among (k.Open ∷ [])) levels c >>= on
+      (λ open_ c. deeper.query c >>= λ q c. expected (same k.Close) c >>= λ close c. alias c >>= λ name. done (t.listed_query name q))
+      table_entry
+
+  unfoldable pub joined_entry : ℕ → Reader (Option Entry)
+  joined_entry count c =
+      eaten (same k.Cross) c >>= on
+      (λ word c. expected (same k.Join) c >>= λ join c. entry count c >>= λ listed. done (Some (t.entry_of true None listed)))
+      (seen (among (k.Inner ∷ k.Join ∷ []))
+      (λ c. eaten (same k.Inner) c >>= λ inner c. expected (same k.Join) c >>= λ join c. entry count c >>= λ listed c.
+      expected (same k.On) c >>= λ word c. expr c >>= λ on. done (Some (t.entry_of true (Some on) listed)))
+      (done None))
+
+  -- the entries that are joined to those before, where so many more fit
+  unfoldable pub joined : ℕ → List Entry → Reader (List Entry)
+  joined zero entries c = joined_entry (length entries) c >>= λ next. done entries
+  joined (suc more) entries c = joined_entry (length entries) c >>= on (λ next. joined more (entries ++ next ∷ [])) (done entries)
+
+  -- an item of FROM: its entries, behind those before
+  unfoldable pub from : List Entry → Reader (List Entry)
+  from before c =
+      entry (length before) c >>= λ first. joined (most_entries - length (before ++ t.entry_of false None first ∷ [])) (before ++ t.entry_of false None first ∷ [])
+
+  abbrev pub next_from : List Entry → Lexeme → Reader (List Entry)
+  next_from entries word = from entries
+
+  unfoldable pub entries : Reader (List Entry)
+  entries c = from [] c >>= repeated comma next_from 255
+
+  -- ---- blocks
+
+  -- an expression behind this word, if it stands next
+  abbrev pub condition : Kind → Reader (Option Expr)
+  condition word c = eaten (same word) c >>= on (λ word c. expr c >>= λ x. done (Some x)) (done None)
+
+  unfoldable pub filter : Reader (Option Expr)
+  filter = condition k.Where
+
+  unfoldable pub having : Reader (Option Expr)
+  having = condition k.Having
+
+  unfoldable pub block : Reader Query
+  block c =
+      expected (same k.Select) c >>= λ select c. eaten (same k.Distinct) c >>= λ distinct c. items c >>= λ items c. expected (same k.From) c >>= λ word c.
+      entries c >>= λ entries c. filter c >>= λ cond c. group_by c >>= λ groups c. having c >>= λ having.
+      done (t.block_node (t.is_given distinct) items entries cond groups having)
+
+  -- ---- queries
+
+  -- ( query ) or a block
+  unfoldable pub operand : Reader Query
+  operand c = eaten_within (among (k.Open ∷ [])) levels c >>= on (λ open_. closed deeper.query (λ q. q)) block
+
+  abbrev pub intersected : Query → Lexeme → Reader Query
+  intersected left word c = operand c >>= λ right. done (a_query.Set s.Intersect left right word.start)
+
+  unfoldable pub intersects : Query → Reader Query
+  intersects left = repeated intersect_word intersected 63 left
+
+  unfoldable pub part : Reader Query
+  part c = operand c >>= intersects
+
+  abbrev pub united : Query → SetOp × ℕ → Reader Query
+  united left word c = part c >>= λ right. done (a_query.Set word.0 left right word.1)
+
+  unfoldable pub unions : Query → Reader Query
+  unions left = repeated set_word united 63 left
+
+  unfoldable pub query : Reader Query
+  query c = part c >>= unions
+
+  -- what follows the first operand of a query
+  unfoldable pub set_tail : Query → Reader Query
+  set_tail left c = intersects left c >>= unions
+
+  -- ---- what stands in parentheses
+
+  abbrev some_query : Query → Reader Inside
+  some_query q = done (inside.Query q)
+
+  abbrev some_expr : Reader Expr → Reader Inside
+  some_expr f c = f c >>= λ x. done (inside.Expr x)
+
+  -- behind a query in parentheses, which began at the mark, and whose parenthesis is at this place
+  unfoldable pub after_query : Mark → Query → ℕ → Reader Inside
+  after_query start q at =
+      seen (among set_kinds) (λ c. set_tail q c >>= some_query)
+      (seen (among tail_kinds) (some_expr (expr_tail start (an_expr.Sub q at))) (done (inside.Enclosed q at)))
+
+  abbrev pub after_group : Mark → Grouped → Reader Inside
+  after_group start (grouped.Query q at) = after_query start q at
+  after_group start (grouped.Expr first) = some_expr (expr_tail start first)
+
+  unfoldable pub inner : Reader Inside
+  inner =
+      seen (same k.Select) (λ c. block c >>= λ first c. set_tail first c >>= some_query)
+      (seen (same k.Open) (λ c. in_parentheses c >>= after_group (mark c)) (some_expr expr))
+
+  -- ---- what stands in the parentheses of IN
+
+  -- the value sought in a query
+  abbrev in_query : Sought → Query → Reader Expr
+  in_query sought q = done (an_expr.In sought.value q (t.place sought.value) sought.in_at)
+
+  unfoldable pub in_after_query : Sought → Mark → Query → ℕ → Reader Expr
+  in_after_query sought start q at =
+      seen (among set_kinds) (λ c. set_tail q c >>= in_query sought)
+      (seen (among tail_kinds) (λ c. expr_tail start (an_expr.Sub q at) c >>= members sought)
+      (seen (same k.Comma) (members sought (an_expr.Sub q at)) (in_query sought q)))
+
+  abbrev pub in_after_group : Sought → Mark → Grouped → Reader Expr
+  in_after_group sought start (grouped.Query q at) = in_after_query sought start q at
+  in_after_group sought start (grouped.Expr first) = λ c. expr_tail start first c >>= members sought
+
+  unfoldable pub in_inner : Sought → Reader Expr
+  in_inner sought =
+      seen (same k.Select) (λ c. block c >>= λ first c. set_tail first c >>= in_query sought)
+      (seen (same k.Open) (λ c. in_parentheses c >>= in_after_group sought (mark c)) (λ c. expr c >>= members sought))
+
+-- ---- with so many levels left
+
+unfoldable pub at : ℕ → Deeper
+at zero = record {
+  query = refused;
+  neg = refused;
+  unary = refused;
+  exprs = refused;
+  argument = λ word. refused;
+  inner = refused;
+  in_inner = λ sought. refused;
+}
+at (suc levels) = record {
+  query = query levels (at levels);
+  neg = neg levels (at levels);
+  unary = unary levels (at levels);
+  exprs = exprs levels (at levels);
+  argument = argument levels (at levels);
+  inner = inner levels (at levels);
+  in_inner = in_inner levels (at levels);
+}
+
+-- Code did what the reader does with so many levels left.
+abbrev pub Does : {A : Type 0} → (ℕ → Deeper → Reader A) → ℕ → Cursor → Result A ReadFault → Cursor → Type 0
+Does reader levels before result after = Gives result after (reader levels (at levels) before)
