@@ -12,7 +12,6 @@ use Rattle.schema_read.proofs.FewStatements.{query_few, statements_few}
 use Rattle.schema_read.proofs.WholeStatements.{few_grammar}
 use Rattle.case_core.specs.declared.text.CaseText.{CaseText}
 use Rattle.case_core.specs.CaseGrammar as g
-use Rattle.sql_read.specs.ReadingTexts.{count_limit}
 use Rattle.case_core.specs.Cases.{IsRead, few_entry_cases}
 
 -- no block of its views and queries has more
@@ -31,4 +30,4 @@ few_case ts v (u, (x, y, e, s, (x1, y1, e1, l, r)), i) =
     (fit_both (statements_few most_further x u.0 s) (fit_both (ended_few x1 u.1.0 l) (ended_few y1 u.1.1 r))))
 
 pub read_few : (text : List ℕ) (written : CaseText) (numbers : Numbers) → IsRead text written numbers → HasFew written
-read_few text written numbers r = subst HasFew (ap (λ z. z.0) r.spells.built) (now_holds HasFew (few_case r.spells.tokens r.spells.read (r.kept (count_limit limit.Entries))) first_numbers)
+read_few text written numbers r = subst HasFew (ap (λ z. z.0) r.spells.built) (now_holds HasFew (few_case r.spells.tokens r.spells.read (r.few limit.Entries)) first_numbers)

@@ -13,9 +13,9 @@ use Rattle.schema_read.specs.Declarations.{IsSmall}
 use Rattle.case_core.specs.declared.fault.CaseFault.{CaseFault}
 use Rattle.case_core.specs.declared.fault.CaseFault.TheVariants.{Read, Schema, Scope, QueriesDiffer, NotTwoQueries, NoMemory}
 use Rattle.case_core.specs.declared.text.CaseText.{CaseText}
-use Rattle.sql_read.specs.declared.fault.LimitKind.TheVariants as limit
-use Rattle.sql_read.specs.ReadingTexts.{TextLimit, count_limit, depth_limit, keeping}
-use Rattle.case_core.specs.Cases.{IsRead, texts}
+use Rattle.grammar.proofs.Limits.{kept}
+use Rattle.case_core.specs.Cases.{IsRead, cases, shallow_cases}
+use Rattle.case_core.proofs.CaseFronts.{shallow_fronts}
 use Rattle.case_core.specs.ReadingCases.{RefusesCase, TakesCase}
 use Rattle.case_core.specs.Refusals.{IsNoText, Says}
 
@@ -52,17 +52,12 @@ text_read {text} {start} {end} {written} l f none t few small n most = record {
     spelled = t.spelled;
     built = ap (λ z. t.value.build z) (sym f) ∙ (t.built ∙ ap (λ z. (written, z)) (sym n));
   };
-  kept = kept;
+  shallow = kept cases shallow_cases shallow_fronts.shorter start.tokens (shallow_fronts.spelled start.tokens t.value t.shallow);
+  few = t.few;
+  few_copies = omega (arith, none, most, t.copied);
   few_relations = few;
   small = small;
 }
-  where
-    kept : (which : TextLimit) → (keeping texts 0 which).spells start.tokens t.value
-    kept depth_limit = t.shallow
-    kept (count_limit limit.Columns) = t.few limit.Columns
-    kept (count_limit limit.Entries) = t.few limit.Entries
-    kept (count_limit limit.Relations) = t.few limit.Relations
-    kept (count_limit limit.Copies) = (t.spelled, omega (arith, none, most, t.copied))
 
 pub tokens_fit : (text : List ℕ) (start : Cursor) → length text ≤ 1048576 → Lexes 0 text start.tokens start.fault → length start.tokens < 2 ^ 31
 tokens_fit text start i l = omega (arith, i, no_more_tokens 0 text start.tokens start.fault l)

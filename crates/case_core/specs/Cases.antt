@@ -1,17 +1,19 @@
--- What a text spells as a case, and where it passes the limits: on depth and length, and on what is counted.
+-- What a text spells as a case, and what keeps the limits on what is counted.
 use Rattle.std.specs.Prelude.{◌≡◌, ◌≤◌, ℕ, List, length, Some, None}
 use Rattle.data_model.specs.Lists.{Each}
 use Rattle.grammar.specs.Form.{form_language, language}
 use Rattle.grammar.specs.Language.{Language, map_language, seq_language}
+use Rattle.grammar.specs.Limits.{KeepsWithin}
 use Rattle.sql_lex.specs.Lexemes.{Lexeme}
 use Rattle.sql_lex.specs.Tokens.{TokensOf}
 use Rattle.sql_model.specs.declared.statement.Statement.{Statement}
 use Rattle.sql_read.specs.declared.fault.LimitKind.{LimitKind}
 use Rattle.sql_read.specs.declared.fault.LimitKind.TheVariants as limit
-use Rattle.sql_read.specs.ReadingTexts.{TextLimit, Texts, keeping}
+use Rattle.sql_read.specs.ReadingTexts.{Texts, depth_limit, keeping}
 use Rattle.sql_grammar.specs.Kinds.{kind_of}
 use Rattle.sql_grammar.specs.Numbering.{Built, Numbers, first_numbers}
 use Rattle.sql_grammar.specs.Queries.{most_levels, of_form}
+use Rattle.sql_grammar.specs.QueryCopies.{most_copies}
 use Rattle.sql_grammar.specs.QueryEntries.{few_rules, most_further}
 use Rattle.schema_read.specs.Declarations.{IsSmall}
 use Rattle.schema_read.specs.StatementGrammar.{statements}
@@ -62,7 +64,9 @@ pub record SpellsCase (text : List ℕ) (written : CaseText) (numbers : Numbers)
 -- it spells them within the limits
 pub record IsRead (text : List ℕ) (written : CaseText) (numbers : Numbers) : Type 0 where
   pub spells : SpellsCase text written numbers
-  pub kept : (which : TextLimit) → (keeping texts 0 which).spells spells.tokens spells.read
+  pub shallow : KeepsWithin cases (keeping texts 0 depth_limit) spells.tokens
+  pub few : (what : LimitKind) → (within what).spells spells.tokens spells.read
+  pub few_copies : spells.read.copies ≤ most_copies
   -- the statements are within the limits of a schema
   pub few_relations : length written.statements ≤ most_relations
   pub small : Each IsSmall written.statements

@@ -57,7 +57,7 @@ HasNotTwoQueries tokens fault end count at =
 abbrev pub KeepsLimits : ℕ → List Lexeme → Type 0
 KeepsLimits copied tokens = (which : TextLimit) → KeepsWithin cases (keeping texts copied which) tokens
 
--- That is so, and no token passes a limit.
+-- The text has not two queries, and no token passes a limit.
 pub record IsNotTwo (copied : ℕ) (tokens : List Lexeme) (fault : Option LexFault) (end count at : ℕ) : Type 0 where
   pub counted : HasNotTwoQueries tokens fault end count at
   pub kept : KeepsLimits copied tokens

@@ -86,7 +86,7 @@ refused c = (Err (refusal c), c)
 abbrev pub seen : {A : Type 0} → (Kind → Bool) → Reader A → Reader A → Reader A
 seen p f g c = if is_next p c.tokens then f c else g c
 
--- the token that stands next, where one of these kinds does, and the places behind it
+-- the token that stands next, where one does, and the places behind it
 abbrev pub passed : List Lexeme → Reader (Option Lexeme)
 passed [] c = (Ok None, c)
 passed (token ∷ tokens) c = (Ok (Some token), behind_next c)

@@ -16,7 +16,8 @@ use Rattle.sql_grammar.specs.Queries.{queries}
 use Rattle.sql_grammar.specs.QueryEntries.{few_queries}
 use Rattle.sql_grammar.specs.QueryGrammar as g
 
--- a query has neither columns nor relations to count
+-- A query has neither columns nor relations to count. Its limit on copies goes by what was copied before it, so it is none of these: see
+-- `keeping`.
 abbrev pub within : LimitKind → Language Lexeme (Built Query)
 within limit.Entries = few_queries
 within limit.Columns = queries

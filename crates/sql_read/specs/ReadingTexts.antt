@@ -1,4 +1,5 @@
--- What a reader within limits does with the tokens that are still to come: of queries, of statements, of whole cases.
+-- What a reader within limits does with the tokens that are still to come: of queries and of statements. Of whole cases the limits, and the
+-- tokens that pass them, are said so too.
 use Rattle.std.specs.Prelude.{ℕ, ◌+◌, ◌≡◌, List, [], ◌∷◌, ◌++◌, length, Some, None, Option}
 use Rattle.grammar.specs.Language.{Language}
 use Rattle.grammar.specs.Limits.{IsFirstBeyond}
@@ -22,7 +23,7 @@ pub record Texts (A : Type 0) : Type 1 where
   pub form : The (Built A)
   pub within : LimitKind → Language Lexeme (Built A)
 
--- the limit on depth and on the length of chains, and those on counts
+-- the limit on depth and on the length of chains and lists, and those on counts
 pub data TextLimit : Type 0 where
   depth_limit : TextLimit
   count_limit : LimitKind → TextLimit
@@ -66,10 +67,10 @@ pub record IsRead {A : Type 0} (T : Texts A) (before : Cursor) (value : A) (afte
   pub fault : after.fault ≡ before.fault
   pub end : after.end ≡ before.end
 
--- Of refusals these speak: tokens up to the end of a text or to its first lexical fault, with that fault and the place of the end, behind which
--- so much was copied.
+-- Of refusals these speak: tokens up to the end of a text or to its first lexical fault, with that fault and the place of the end, and with so
+-- much copied before them.
 
--- the longest list of tokens that begins a text spells none, and what stands behind it is refused
+-- the longest list of tokens that begins a text keeps all limits and spells none, and what stands behind it is refused
 pub record IsUnfinished {A : Type 0} (T : Texts A) (copied : ℕ) (tokens : List Lexeme) (fault : Option LexFault) (end : ℕ) (refused : ReadFault) : Type 0 where
   pub taken : List Lexeme
   pub rest : List Lexeme
@@ -79,7 +80,7 @@ pub record IsUnfinished {A : Type 0} (T : Texts A) (copied : ℕ) (tokens : List
   pub kept : (which : TextLimit) → (keeping T copied which).front taken
   pub refusal : refused ≡ refusal_of end (next rest fault)
 
--- The next token goes on with no limits, and is the first beyond this one. All were kept before it, and with it those that are told sooner.
+-- The token behind those taken goes on with no limits, and is the first beyond this one. All were kept before it, and with it those that are told sooner.
 pub record Passes {A : Type 0} (T : Texts A) (copied : ℕ) (tokens : List Lexeme) (which : TextLimit) : Type 0 where
   pub taken : List Lexeme
   pub token : Lexeme

@@ -1,9 +1,10 @@
 -- A text that spells a case within the limits, well formed and of one width, is refused with want of memory alone.
-use Rattle.std.proofs.Common.{◌≡◌, ℕ, true, false, List, [], ◌∷◌, ◌++◌, length, Option, Some, None, refl, sym, ap, ◌∙◌, subst, inl, inr, append_assoc}
+use Rattle.std.proofs.Common.{◌≡◌, ℕ, true, false, List, [], ◌∷◌, ◌++◌, length, Option, Some, None, refl, sym, ap, ◌∙◌, subst, inl, inr, append_assoc, arith}
 use Rattle.std.specs.Prelude.{map as map_list}
 use Rattle.std.specs.Option.{option_or}
 use Rattle.grammar.proofs.Known.{Known}
 use Rattle.grammar.proofs.Limits.{kept}
+use Rattle.grammar.specs.Limits.{KeepsWithin}
 use Rattle.grammar.specs.Lookahead.{lookahead}
 use Rattle.sql_lex.specs.Lexemes.{Lexeme}
 use Rattle.sql_lex.proofs.WholeTexts.{same_tokens}
@@ -14,6 +15,7 @@ use Rattle.sql_model.specs.declared.schema.Schema.{Schema as TheSchema}
 use Rattle.sql_grammar.specs.Kinds.{kind_of}
 use Rattle.sql_grammar.specs.Numbering.{Built, Numbers}
 use Rattle.sql_grammar.specs.QueryLookahead.{table}
+use Rattle.sql_read.specs.declared.fault.LimitKind.TheVariants as limit
 use Rattle.sql_read.specs.ReadingTexts.{Passes, TextLimit, count_limit, depth_limit, keeping}
 use Rattle.sql_read.specs.declared.fault.ReadFault.TheVariants as read_refusal
 use Rattle.schema_read.specs.declared.fault.SchemaFault.{SchemaFault}
@@ -67,8 +69,18 @@ module _ (text : List ℕ) (written : CaseText) (numbers : Numbers) (read : IsRe
       of (u, (before, both, e, s, (first, second, i, l, r)), same) = record { first = first; second = second; left = u.1.0; right = u.1.1; left_there = l; right_there = r }
 
   -- no limit is passed
+  kept_within : (which : TextLimit) → (keeping texts 0 which).spells tokens read.spells.read → KeepsWithin cases (keeping texts 0 which) tokens
+  kept_within which s = kept cases (keeping texts 0 which) (closed 0 which) tokens (spelled_front 0 which tokens read.spells.read s)
+
+  kept_limit : (which : TextLimit) → KeepsWithin cases (keeping texts 0 which) tokens
+  kept_limit depth_limit = read.shallow
+  kept_limit (count_limit limit.Columns) = kept_within (count_limit limit.Columns) (read.few limit.Columns)
+  kept_limit (count_limit limit.Entries) = kept_within (count_limit limit.Entries) (read.few limit.Entries)
+  kept_limit (count_limit limit.Relations) = kept_within (count_limit limit.Relations) (read.few limit.Relations)
+  kept_limit (count_limit limit.Copies) = kept_within (count_limit limit.Copies) (read.spells.spelled, omega (arith, read.few_copies))
+
   not_limited : (which : TextLimit) → Passes texts 0 tokens which → ⊥
-  not_limited which u = kept cases (keeping texts 0 which) (closed 0 which) tokens (spelled_front 0 which tokens read.spells.read (read.kept which)) u.taken u.rest u.token u.parts u.beyond
+  not_limited which u = kept_limit which u.taken u.rest u.token u.parts u.beyond
 
   -- there are two queries
   two_there : (count at : ℕ) → HasNotTwoQueries tokens None (length text) count at → ⊥
