@@ -19,6 +19,8 @@ pub enum RowFault {
     BadStatus,
     #[error("three numbers are wanted: bytes, the first call and the last one")]
     BadCalls,
+    #[error("two numbers are wanted: bytes, and the room")]
+    BadRoom,
     #[error("the row before has no output")]
     NoOutput,
     #[error("want of memory")]

@@ -12,13 +12,14 @@ use udp_start::start;
 /// The most bytes that the store gives and the sink takes at once, where a row does not say how many.
 const PIECE: usize = 65_536;
 
-/// The most bytes that are written.
+/// The most bytes that are written, where a row does not say how many.
 const ROOM: usize = 1_048_576;
 
-/// How the store and the sink of a run behave: what they give and take at once, and the call of each that fails.
+/// How the store and the sink of a run behave: what they give and take at once, the room of the sink, and the call of each that fails.
 #[derive(Clone, Copy)]
 pub struct Behaviour {
     pub piece: usize,
+    pub room: usize,
     pub failing_take: Option<u64>,
     pub failing_put: Option<u64>,
 }
@@ -28,6 +29,7 @@ impl Behaviour {
     pub fn sure() -> Behaviour {
         Behaviour {
             piece: PIECE,
+            room: ROOM,
             failing_take: None,
             failing_put: None,
         }
@@ -65,7 +67,7 @@ pub fn run_words(
     if let Some(call) = behaviour.failing_take {
         store.fail_at(call.saturating_add(texts.len() as u64))?;
     }
-    let mut sink = MemSink::new(alloc, behaviour.piece.max(1), ROOM)?;
+    let mut sink = MemSink::new(alloc, behaviour.piece.max(1), behaviour.room)?;
     if let Some(call) = behaviour.failing_put {
         sink.fail_at(call)?;
     }

@@ -39,6 +39,8 @@ pub enum Often {
     FailingStore(Calls),
     /// The same of the sink.
     FailingSink(Calls),
+    /// Once, over a sink that has room for so many bytes.
+    SmallSink(Room),
 }
 
 /// Calls of a store or a sink that gives or takes so many bytes at once.
@@ -47,6 +49,13 @@ pub struct Calls {
     pub piece: usize,
     pub first: u64,
     pub last: u64,
+}
+
+/// The bytes that a sink takes at once, and in all.
+#[derive(Clone, Copy)]
+pub struct Room {
+    pub piece: usize,
+    pub room: usize,
 }
 
 // The calls that three numbers say.
@@ -59,6 +68,18 @@ fn failing(alloc: Global, text: &str) -> Result<Calls, RowFault> {
         piece: piece.parse().map_err(|_| RowFault::BadCalls)?,
         first: first.parse().map_err(|_| RowFault::BadCalls)?,
         last: last.parse().map_err(|_| RowFault::BadCalls)?,
+    })
+}
+
+// The room that two numbers say.
+fn small(alloc: Global, text: &str) -> Result<Room, RowFault> {
+    let words: Vec<&str> = text.split(' ').collect(alloc)?;
+    let [piece, room] = words.as_slice() else {
+        return Err(RowFault::BadRoom);
+    };
+    Ok(Room {
+        piece: piece.parse().map_err(|_| RowFault::BadRoom)?,
+        room: room.parse().map_err(|_| RowFault::BadRoom)?,
     })
 }
 
@@ -181,6 +202,7 @@ impl RowReader {
             "cuts" => self.row.often = Often::Cuts(String::from_str(self.alloc, rest)?),
             "failing-store" => self.row.often = Often::FailingStore(failing(self.alloc, rest)?),
             "failing-sink" => self.row.often = Often::FailingSink(failing(self.alloc, rest)?),
+            "small-sink" => self.row.often = Often::SmallSink(small(self.alloc, rest)?),
             "output" => return self.begin_output(rest),
             _ => return Err(RowFault::NoSuchField),
         }

@@ -1,7 +1,7 @@
 //! Runs rows as often as they say.
 
 use crate::outcome::{Behaviour, run_sure_words, run_words};
-use crate::row::{Calls, Often, Row, Text};
+use crate::row::{Calls, Often, Room, Row, Text};
 use row_text::Outcome;
 use std::alloc::{AllocError, Global};
 
@@ -16,6 +16,7 @@ pub fn run_row(alloc: Global, row: &Row) -> Result<Outcome, AllocError> {
         Often::Cuts(name) => run_cuts(alloc, row, name.as_str()),
         Often::FailingStore(calls) => run_failing(alloc, row, *calls, true),
         Often::FailingSink(calls) => run_failing(alloc, row, *calls, false),
+        Often::SmallSink(room) => run_small(alloc, row, *room),
     }
 }
 
@@ -98,10 +99,23 @@ fn run_failing(
             piece: calls.piece,
             failing_take: in_store.then_some(call),
             failing_put: (!in_store).then_some(call),
+            ..Behaviour::sure()
         };
         let found = run_words(alloc, &row.words, &row.texts, behaviour)?;
         add_line(alloc, &mut written, &found)?;
     }
+    Ok(Outcome { status: 0, written })
+}
+
+fn run_small(alloc: Global, row: &Row, sink: Room) -> Result<Outcome, AllocError> {
+    let behaviour = Behaviour {
+        piece: sink.piece,
+        room: sink.room,
+        ..Behaviour::sure()
+    };
+    let found = run_words(alloc, &row.words, &row.texts, behaviour)?;
+    let mut written = Vec::new(alloc);
+    add_line(alloc, &mut written, &found)?;
     Ok(Outcome { status: 0, written })
 }
 

@@ -6,7 +6,8 @@ ghost use Rattle.case_core.specs.declared.fault.CaseFault.TheVariants.{NoMemory}
 ghost use Rattle.case_core.specs.declared.text.CaseText.{CaseText as Written};
 ghost use Rattle.case_core.specs.Answer.{IsRefused};
 ghost use Rattle.udp_io.specs.SureStore.{sure_text};
-ghost use Rattle.udp_run.specs.Answer.{AsksCheck, IsProof, TellsBoth};
+ghost use Rattle.udp_run.specs.declared.answer.Verdict.{Verdict as TheVerdict};
+ghost use Rattle.udp_run.specs.Answer.{AsksCheck, IsCause, IsProof, TellsBoth, status_of};
 ghost use Rattle.udp_run.specs.Cases.{AreComparable, Spells};
 
 use crate::answer::Status;
@@ -33,6 +34,10 @@ pub fn run_surely(
     // An accepted proof of a case is found to be one.
     ensures complete { AsksCheck words.now (λ case proof. TellsBoth (sure_text store.old case) (sure_text store.old proof) IsProof) →
         (result ≡ Status.Done) ⊎ (result ≡ Status.NoMemory) }
+    // So with every verdict for which the texts give cause.
+    ensures exact { (verdict : TheVerdict) →
+        AsksCheck words.now (λ case proof. IsCause verdict (sure_text store.old case) (sure_text store.old proof)) →
+        (result ≡ status_of verdict) ⊎ (result ≡ Status.NoMemory) }
     ensures no_read_fault { result ≢ Status.ReadFault }
     ensures no_write_fault { result ≢ Status.WriteFault }
 {
