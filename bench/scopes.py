@@ -4,14 +4,16 @@
 A folder as the only word gets the texts, and nothing is measured. Two words `--reader PROGRAM` measure a program that is built already.
 """
 
+import itertools
 import os
 import re
 import subprocess
 import sys
 import tempfile
+from dataclasses import dataclass
 from pathlib import Path
 
-from bench import MEGABYTE, SHORTEST, least
+from bench import MEGABYTE, RUNS, SHORTEST, cost, least
 from steps import ROOT, built, libraries_in, program_in
 
 TEMPLATE = ROOT / "bench" / "read_case.txt"
@@ -27,6 +29,27 @@ MOST_LEVELS = 64
 
 TABLE = "CREATE TABLE r (a INT, z INT);\n"
 ONE_MORE = "SELECT a FROM r;\n"
+UNION_ALL = "\nUNION ALL "
+
+STAFF = """\
+CREATE TABLE employees (id INT PRIMARY KEY, name VARCHAR(40), dept_id INT, salary INT, manager_id INT);
+CREATE TABLE departments (id INT PRIMARY KEY, name VARCHAR(40), city VARCHAR(40));
+CREATE TABLE assignments (employee_id INT, project_id INT, hours INT, PRIMARY KEY (employee_id, project_id));
+"""
+ORDINARY_BLOCKS = [
+    "SELECT e.name, d.name AS department FROM employees e JOIN departments d ON e.dept_id = d.id"
+    " WHERE e.salary > {number} AND d.city = 'Oslo'",
+    "SELECT DISTINCT e.name, d.city FROM employees AS e, departments AS d, assignments AS a"
+    " WHERE e.id = a.employee_id AND a.hours * 2 >= {number} AND e.dept_id = d.id",
+    "SELECT d.name, COUNT(*) AS staff FROM departments d INNER JOIN employees e ON e.dept_id = d.id"
+    " GROUP BY d.name HAVING COUNT(*) > {number}",
+    "SELECT e.name, m.name AS manager FROM employees e JOIN employees m ON e.manager_id = m.id"
+    " WHERE NOT (e.salary <= m.salary OR m.salary BETWEEN {number} AND 9000)",
+    "SELECT e.name, e.id FROM employees e WHERE EXISTS (SELECT a.hours FROM assignments a WHERE a.employee_id = e.id"
+    " AND a.hours > {number}) AND e.dept_id IN (1, 2, 3)",
+    "SELECT t.name, t.total FROM (SELECT e.name, SUM(a.hours) AS total FROM employees e JOIN assignments a"
+    " ON a.employee_id = e.id GROUP BY e.name) t WHERE t.total > {number}",
+]
 
 
 def view(name, columns):
@@ -50,6 +73,23 @@ def conjunction(conditions):
 
 def case(schema, query):
     return f"{TABLE}{schema}{query};\n{ONE_MORE}"
+
+
+def start():
+    """As little as a case may say."""
+    return case("", "SELECT a FROM r")
+
+
+def ordinary_queries():
+    """Two unions of blocks as programs have them, in chains as long as there may be, as many as fit."""
+    blocks = (form.format(number=number) for number, form in enumerate(itertools.cycle(ORDINARY_BLOCKS)))
+    chains, length = [], len(STAFF)
+    while length < MOST_BYTES:
+        chains.append(f"({UNION_ALL.join(itertools.islice(blocks, MOST_OPERANDS))})")
+        length += len(chains[-1]) + len(UNION_ALL)
+    # The last one was too much.
+    middle = len(chains) // 2
+    return f"{STAFF}{UNION_ALL.join(chains[:middle])};\n{UNION_ALL.join(chains[middle:-1])};\n"
 
 
 def sought_outwards(uses=1_000):
@@ -170,7 +210,7 @@ def deep_operand():
     return case("", f"SELECT a FROM r WHERE ({deepest_query(MOST_LEVELS - 1)}) BETWEEN 1 AND 2")
 
 
-CASES = [sought_outwards, stars, nested_sources, set_chains, derived_from_sets, named_views, named_view, copied_names]
+CASES = [start, ordinary_queries, sought_outwards, stars, nested_sources, set_chains, derived_from_sets, named_views, named_view, copied_names]
 DEEP_CASES = [deep_values, deep_sources, deep_query, deep_view, deep_operand]
 
 
@@ -217,14 +257,33 @@ def shown(figure, form):
     return "-" if figure is None else format(figure, form)
 
 
-def measure(reader, text, folder):
+@dataclass
+class Taken:
+    """What the reader takes for a text: processor seconds, resident bytes, and KiB of stack, each the least of what was tried."""
+
+    seconds: float
+    memory: int
+    stack: int
+
+
+def taken(reader, text):
+    runs = [cost([reader, text], None) for _ in range(RUNS)]
+    return Taken(min(run.processor for run in runs), min(run.memory for run in runs), least_stack(reader, text))
+
+
+def measure(reader, text, folder, start):
+    """Prints the figures of a text. Its own memory is what passes the start's, and is not stack."""
     size = text.stat().st_size
-    took = least([reader, text])
-    seconds = max(took.processor, SHORTEST)
+    took = taken(reader, text)
+    seconds = max(took.seconds, SHORTEST)
+    own, times = None, None
+    if took.stack is not None and took.memory > 1.1 * start.memory:
+        own = max(0, took.memory - start.memory - (took.stack - start.stack) * 1024) / MEGABYTE
+        times = own * MEGABYTE / size
     other = seconds_of_sqlite(text, folder) if Path(SQLITE).exists() else None
     print(
         f"{text.stem:20}{size / MEGABYTE:>8.3f}{seconds:>9.3f}{size / MEGABYTE / seconds:>8.1f}{took.memory / MEGABYTE:>10.1f}"
-        f"{took.memory / size:>8.1f}{shown(least_stack(reader, text), ','):>12}{shown(other, '.3f'):>9}",
+        f"{shown(own, '.2f'):>8}{shown(times, '.1f'):>8}{shown(took.stack, ','):>12}{shown(other, '.3f'):>9}",
         flush=True,
     )
 
@@ -245,9 +304,10 @@ def main():
         else:
             used = libraries_in(folder, ROOT, ["case_core", "udp_io"])
             reader = built(program_in(folder, "read_case", TEMPLATE, used), [str(texts[-1])])
-        print(f"{'':20}{'MB':>8}{'seconds':>9}{'MB/s':>8}{'peak MB':>10}{'x text':>8}{'stack KiB':>12}{'sqlite3':>9}")
+        print(f"{'':20}{'MB':>8}{'seconds':>9}{'MB/s':>8}{'peak MB':>10}{'own MB':>8}{'x text':>8}{'stack KiB':>12}{'sqlite3':>9}")
+        start = taken(reader, texts[0])
         for text in texts:
-            measure(reader, text, folder)
+            measure(reader, text, folder, start)
 
 
 if __name__ == "__main__":

@@ -8,6 +8,7 @@ use Rattle.sql_model.specs.declared.tree.Query.TheVariants as query
 use Rattle.scope_core.specs.declared.fault.ScopeFault.{ScopeFault}
 use Rattle.scope_core.specs.declared.fault.ScopeFault.TheVariants as fault
 use Rattle.scope_core.specs.declared.fault.ScopeCode.TheVariants as code
+use Rattle.scope_core.specs.declared.tree.RVal.{RVal}
 use Rattle.scope_core.specs.declared.tree.RVal.TheVariants as v
 use Rattle.scope_core.specs.Answer.{IsCause}
 use Rattle.scope_core.specs.Compute.{resolving}
@@ -141,6 +142,17 @@ module _ (known : List Known) (levels : Levels) where
 
   pub trees-past : (es : List n.Expr) (i : ℕ) → length es ≤ i → values_listed known levels (drop i es) ≡ []
   trees-past es i h = at-end (values_listed known levels) es i h ∙ trees-nil tt
+
+  -- ---- an operator, whose arguments were lent
+  pub operator-fine : {e : n.Expr} {symbol at : ℕ} {args lent : List n.Expr} → e ≡ expr.Fun symbol args at → lent ≡ args → values_fault known levels lent ≡ None → value_fault known levels e ≡ None
+  operator-fine is same none = ap (value_fault known levels) is ∙ (value-Fun _ _ _ ∙ (ap (values_fault known levels) (sym same) ∙ none))
+
+  pub operator-cause : {e : n.Expr} {symbol at : ℕ} {args lent : List n.Expr} → e ≡ expr.Fun symbol args at → lent ≡ args → (f : ScopeFault) → IsCause f (values_fault known levels lent) → IsCause f (value_fault known levels e)
+  operator-cause is same f h = cause-same f _ _ (ap (value_fault known levels) is ∙ (value-Fun _ _ _ ∙ ap (values_fault known levels) (sym same))) h
+
+  pub operator-tree : {e : n.Expr} {symbol at : ℕ} {args lent : List n.Expr} {values : List RVal} → e ≡ expr.Fun symbol args at → lent ≡ args → values ≡ values_listed known levels lent
+      → v.Fun symbol values ≡ resolved_value e known levels
+  operator-tree is same h = ap (v.Fun _) (h ∙ ap (values_listed known levels) same) ∙ (sym (tree-Fun _ _ _) ∙ sym (ap (λ e. resolved_value e known levels) is))
 
   pub value-Agg : (fun : n.AggFun) (d : Bool) (argument : Option n.Expr) (at : ℕ) → value_fault known levels (expr.Agg fun d argument at) ≡ option_or (fault_at (AnExpression AValue levels (expr.Agg fun d argument at))) (argument_fault known (member_levels levels) argument)
   unfolding resolving value_fault values_fault truth_fault truths_fault fault_within block_fault source_fault entries_fault on_fault item_fault items_fault values_listed conjuncts_listed conditions_listed entries_listed on_listed items_listed

@@ -1,11 +1,12 @@
 -- The first fault along a list of sites or parts.
 use Rattle.std.proofs.Common.{◌≡◌, ℕ, ◌+◌, List, [], ◌∷◌, ◌++◌, drop, Option, Some, None, Result, Ok, Err, refl, ap, sym, subst, ◌∙◌}
-use Rattle.std.specs.Prelude.{IfErr, IsErrAnd}
+use Rattle.std.specs.Prelude.{IfErr, IfOk, IsErr, IsErrAnd}
 use Rattle.std.specs.Option.{option_or}
 use Rattle.scope_core.specs.declared.fault.ScopeFault.{ScopeFault}
 use Rattle.scope_core.specs.Sites.{Site}
 use Rattle.scope_core.specs.FirstFault.{fault_at, first_fault}
 use Rattle.scope_core.specs.Answer.{IsCause}
+use Rattle.scope_core.proofs.Booleans.{no}
 
 pub or-assoc : {X : Type 0} (a b c : Option X) → option_or (option_or a b) c ≡ option_or a (option_or b c)
 or-assoc None b c = refl
@@ -58,3 +59,8 @@ module _ {X : Type 0} (fault : List X → Option ScopeFault) (xs : List X) (i : 
 pub handed_on : {T : Type 0} (r : Result T ScopeFault) (f : ScopeFault) (P : ScopeFault → Type 0) → IsErrAnd r (λ g. g ≡ f) → P f → IfErr r P
 handed_on (Ok x) f P h p = absurd h
 handed_on (Err g) f P h p = subst P (sym h) p
+
+-- there is no value of which anything is to be said
+pub no_value : {T : Type 0} (r : Result T ScopeFault) (P : T → Type 0) → IsErr r → IfOk r P
+no_value (Ok x) P h = absurd (no (sym h))
+no_value (Err g) P h = tt

@@ -64,6 +64,7 @@ pub fn resolve_value<'k, 'a>(
     }
 }
 
+/// Values in a row. Those of operators are resolved here, since a chain of operators goes down through them.
 #[cycle(resolve)]
 #[tactic(auto, using(crate::proofs::Values::laws))]
 pub fn resolve_values<'k, 'a>(
@@ -78,8 +79,16 @@ pub fn resolve_values<'k, 'a>(
 {
     let mut values = Vec::with_capacity(alloc, exprs.len())?;
     for expr in exprs {
-        let value = resolve_value(alloc, expr, known, levels)?;
-        values.push(value)?;
+        match expr {
+            Expr::Fun { sym, args, .. } => {
+                let args = resolve_values(alloc, args.as_slice(), known, levels)?;
+                values.push(RVal::Fun { sym: *sym, args })?;
+            }
+            other => {
+                let value = resolve_value(alloc, other, known, levels)?;
+                values.push(value)?;
+            }
+        }
     }
     Ok(List::from_vec(values))
 }

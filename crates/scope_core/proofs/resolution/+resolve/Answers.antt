@@ -13,21 +13,36 @@ use Rattle.scope_core.specs.Lent.{entries_headings, headings_of, levels_of, list
 use Rattle.scope_core.specs.Parts.{conditions_listed, conjuncts_listed, entries_fault, entries_listed, items_fault, items_listed, on_fault, on_listed, truths_fault, values_fault, values_listed, written_fault, written_listed}
 use Rattle.scope_core.specs.Resolving.{conjunction, conjuncts, entry_of, resolved_item, resolved_source, resolved_value}
 use Rattle.scope_core.proofs.Lists.{at-head, at-end, between, walk-step, walk-end}
-use Rattle.scope_core.proofs.Walks.{cause-first, cause-same, cause-second, fault-step, fault-here, handed_on}
-use Rattle.scope_core.proofs.Values.{values-drop, values-past, trees-cons, trees-nil}
+use Rattle.scope_core.proofs.Walks.{cause-first, cause-same, cause-second, fault-step, fault-here, handed_on, no_value}
+use Rattle.scope_core.proofs.Values.{values-drop, values-past, trees-cons, trees-nil, operator-cause, operator-fine, operator-tree}
 use Rattle.scope_core.proofs.Conditions.{truths-drop, truths-past, conditions-cons, conditions-nil, conjuncts-cons, conjuncts-nil, conjuncts-single}
 use Rattle.scope_core.proofs.resolution.+resolve.Goals as goal
-use Rattle.scope_core.proofs.resolution.+resolve.Goals.{blocks::add_on_conditions-then-not-entry, blocks::add_on_conditions-else-not-entry}
+use Rattle.scope_core.proofs.resolution.+resolve.Goals.{blocks::add_on_conditions-then-not-entry, blocks::add_on_conditions-else-not-entry, values::resolve_values-in-Fun+in_ok-args-in-Fun+in_ok-push-in-Fun, values::resolve_values-in_default+in_ok-value-in_default+in_ok-push-in_default}
 
-pub values::resolve_values-returns-in_err-value-clause-err : goal.values::resolve_values-returns-in_err-value-clause-err
-values::resolve_values-returns-in_err-value-clause-err t c =
+pub values::resolve_values-returns-in_err-args-in-Fun-clause-err : goal.values::resolve_values-returns-in_err-args-in-Fun-clause-err
+values::resolve_values-returns-in_err-args-in-Fun-clause-err t c =
     let K = relations_of c.args.known.now in
     let L = levels_of c.args.levels.now in
     let xs = c.args.exprs.now in
     let i = c.loop-expr.expr-index in
     let next = values-drop K L xs i c.expr-item.result c.loop-expr-test.true c.expr-item.is in
-    handed_on c.from_residual-in_err-value.result c.in_err-value.field-0.0 (λ f. IsCause f (values_fault K L xs)) c.from_residual-in_err-value.ensures.1
-    (fault-here (values_fault K L) xs i _ c.in_err-value.field-0.0 _ next c.in_err-value.ensures.err c.loop-expr.invariant.0)
+    handed_on c.from_residual-in_err-args-in-Fun.result c.in_err-args-in-Fun.field-0.0 (λ f. IsCause f (values_fault K L xs)) c.from_residual-in_err-args-in-Fun.ensures.1
+    (fault-here (values_fault K L) xs i _ c.in_err-args-in-Fun.field-0.0 _ next (operator-cause K L c.in-Fun.is c.as_slice.ensures _ c.in_err-args-in-Fun.ensures.err) c.loop-expr.invariant.0)
+
+pub values::resolve_values-returns-in_err-value-in_default : goal.values::resolve_values-returns-in_err-value-in_default
+values::resolve_values-returns-in_err-value-in_default t c =
+    let K = relations_of c.args.known.now in
+    let L = levels_of c.args.levels.now in
+    let xs = c.args.exprs.now in
+    let i = c.loop-expr.expr-index in
+    let next = values-drop K L xs i c.expr-item.result c.loop-expr-test.true c.expr-item.is in
+    let refused = c.from_residual-in_err-value-in_default.ensures in
+    let cause = c.in_err-value-in_default.ensures.err in record {
+      fine = no_value _ _ refused.0;
+      value = no_value _ _ refused.0;
+      err = handed_on c.from_residual-in_err-value-in_default.result c.in_err-value-in_default.field-0.0 (λ f. IsCause f (values_fault K L xs)) refused.1
+          (fault-here (values_fault K L) xs i _ c.in_err-value-in_default.field-0.0 _ next cause c.loop-expr.invariant.0);
+    }
 
 pub values::resolve_values-loop-expr-preserved : goal.values::resolve_values-loop-expr-preserved
 values::resolve_values-loop-expr-preserved t c =
@@ -35,11 +50,25 @@ values::resolve_values-loop-expr-preserved t c =
     let L = levels_of c.args.levels.now in
     let xs = c.args.exprs.now in
     let i = c.loop-expr.expr-index in
-    let next = values-drop K L xs i c.expr-item.result c.loop-expr-test.true c.expr-item.is in (
-      fault-step (values_fault K L) xs i _ c.expr-item.result _ next c.in_ok-value.ensures.fine c.loop-expr.invariant.0,
-      walk-step (values_listed K L) xs i c.expr-item.result _ _ (resolved_value c.expr-item.result K L ∷ []) _ c.loop-expr-test.true c.expr-item.is (trees-cons K L c.expr-item.result _)
-          (c.in_ok-push.ensures.items ∙ ap (λ p. c.loop-expr.values.items ++ p ∷ []) c.in_ok-value.ensures.value) c.loop-expr.invariant.1,
-    )
+    let x = c.expr-item.result in
+    let before = c.loop-expr.values.items in
+    let next = values-drop K L xs i x c.loop-expr-test.true c.expr-item.is in
+    elim c.match-expr.branch [
+      | values::resolve_values-in-Fun+in_ok-args-in-Fun+in_ok-push-in-Fun w ↦
+          let args = w.in_ok-args-in-Fun.ensures {u = tt} in (
+            fault-step (values_fault K L) xs i _ x _ next (operator-fine K L w.in-Fun.is w.as_slice.ensures args.fine) c.loop-expr.invariant.0,
+            walk-step (values_listed K L) xs i x _ _ (resolved_value x K L ∷ []) _ c.loop-expr-test.true c.expr-item.is (trees-cons K L x _)
+                (ap (λ v. v.items) w.values-is ∙ ((w.in_ok-push-in-Fun.ensures {u = tt}).items ∙ ap (λ p. before ++ p ∷ []) (operator-tree K L w.in-Fun.is w.as_slice.ensures args.value)))
+                c.loop-expr.invariant.1,
+          )
+      | values::resolve_values-in_default+in_ok-value-in_default+in_ok-push-in_default w ↦
+          let value = w.in_ok-value-in_default.ensures {u = tt} in (
+            fault-step (values_fault K L) xs i _ x _ next value.fine c.loop-expr.invariant.0,
+            walk-step (values_listed K L) xs i x _ _ (resolved_value x K L ∷ []) _ c.loop-expr-test.true c.expr-item.is (trees-cons K L x _)
+                (ap (λ v. v.items) w.values-is ∙ ((w.in_ok-push-in_default.ensures {u = tt}).items ∙ ap (λ p. before ++ p ∷ []) value.value))
+                c.loop-expr.invariant.1,
+          )
+    ]
 
 pub values::resolve_values-returns-clause-fine : goal.values::resolve_values-returns-clause-fine
 values::resolve_values-returns-clause-fine t c =
