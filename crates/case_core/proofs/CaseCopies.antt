@@ -2,7 +2,7 @@
 use Rattle.std.proofs.Common.{◌≡◌, ◌≤◌, ◌+◌, ℕ, List, ◌++◌, refl, ap, arith}
 use Rattle.grammar.specs.Form.{ref}
 use Rattle.grammar.specs.Reading.{Stops}
-use Rattle.grammar.proofs.Limits.{CostsByCompletion, IsPrefixClosed, whole_within_cost, within_cost_closed}
+use Rattle.grammar.proofs.languages.Limits.{CostsByCompletion, IsPrefixClosed, whole_within_cost, within_cost_closed}
 use Rattle.sql_lex.specs.Lexemes.{Lexeme}
 use Rattle.sql_model.specs.declared.statement.Statement.{Statement}
 use Rattle.sql_model.specs.declared.tree.Query.{Query}
@@ -12,22 +12,22 @@ use Rattle.sql_read.specs.declared.fault.LimitKind.TheVariants as limit
 use Rattle.sql_read.specs.Cursor.{Cursor}
 use Rattle.sql_read.specs.ReadingTexts.{TextLimit, count_limit, depth_limit, keeping}
 use Rattle.sql_read.specs.Reads.{Gives}
-use Rattle.sql_read.proofs.ReadCopiedSteps.{on_still}
-use Rattle.sql_read.proofs.ReadCopies.{Going, at_start, on_first, on_mapped, on_taken}
+use Rattle.sql_read.proofs.steps.ReadCopiedSteps.{on_still}
+use Rattle.sql_read.proofs.steps.ReadCopies.{Going, at_start, on_first, on_mapped, on_taken}
 use Rattle.sql_grammar.specs.declared.kinds.Kind.TheVariants as k
 use Rattle.sql_grammar.specs.Numbering.{Built}
 use Rattle.sql_grammar.specs.Queries.{most_levels}
 use Rattle.sql_grammar.specs.QueryCopies.{copies_nothing, most_copies, within_copies}
 use Rattle.sql_grammar.specs.QueryGrammar.{a, query}
-use Rattle.sql_grammar.proofs.CopyOnce.{form_costs}
-use Rattle.sql_grammar.proofs.PlanPrices.{EvenIn, evenly}
-use Rattle.sql_grammar.proofs.QueryCompletions.{filled}
-use Rattle.sql_grammar.proofs.QueryFillings.{Filled, select_one}
-use Rattle.grammar.proofs.Prices.{priced_then_skip}
-use Rattle.schema_read.specs.CopiedStatements.{CopiedToFault, CopiesCounted}
+use Rattle.sql_grammar.proofs.copies.CopyOnce.{form_costs}
+use Rattle.sql_grammar.proofs.copies.PlanPrices.{EvenIn, evenly}
+use Rattle.sql_grammar.proofs.copies.QueryCompletions.{filled}
+use Rattle.grammar.proofs.completed.Prices.{priced_then_skip}
+use Rattle.sql_read.specs.Copied.{CopiesSoFar}
+use Rattle.schema_read.specs.CopiedStatements.{CopiedToFault}
 use Rattle.schema_read.specs.StatementGrammar.{statements}
-use Rattle.schema_read.proofs.CopiedParts.{copied_to, counted_before}
-use Rattle.schema_read.proofs.StatementCopies.{free, statements_even}
+use Rattle.schema_read.proofs.counts.CopiedParts.{copied_to, counted_before}
+use Rattle.schema_read.proofs.counts.StatementCopies.{free, statements_even}
 use Rattle.case_core.specs.declared.text.CaseText.{CaseText}
 use Rattle.case_core.specs.CaseGrammar as g
 use Rattle.case_core.specs.Cases.{cases, shallow_cases, texts, within}
@@ -36,12 +36,6 @@ use Rattle.case_core.proofs.CaseCounts.{ReadsQuery, StatementsRead, within_front
 use Rattle.case_core.proofs.CaseFronts.{kept_to, shallow_fronts}
 
 -- ---- cases as forms
-
-fill_ended : Filled g.ended_query select_one
-fill_ended = (filled g.ended_query refl).filled
-
-fill_two : Filled g.two_queries (select_one, select_one)
-fill_two = (filled g.two_queries refl).filled
 
 ended_even : EvenIn g.ended_query (λ read. read.copies)
 ended_even = priced_then_skip evenly (evenly.of_ref query) (free _)
@@ -63,24 +57,20 @@ abbrev pub CopiedAll : Cursor → ReadFault → Cursor → Type 0
 CopiedAll before fault after = CopiedToFault g.case (λ read. read) before before fault after
 
 abbrev pub Counted : Cursor → Cursor → Type 0
-Counted before after = CopiesCounted g.case (λ read. read) before before after
+Counted before after = CopiesSoFar g.case (λ read. read) before before after
 
 -- ---- all limits
 
 pub closed : (copied : ℕ) (which : TextLimit) → IsPrefixClosed (keeping texts copied which)
 closed copied depth_limit = shallow_fronts.shorter
-closed copied (count_limit limit.Columns) = (within_fronts limit.Columns).shorter
-closed copied (count_limit limit.Entries) = (within_fronts limit.Entries).shorter
-closed copied (count_limit limit.Relations) = (within_fronts limit.Relations).shorter
 closed copied (count_limit limit.Copies) = within_cost_closed case_costs most_copies copied
+closed copied (count_limit other) = (within_fronts other).shorter
 
 -- what is spelled within a limit is a front within it
 pub spelled_front : (copied : ℕ) (which : TextLimit) (ts : List Lexeme) (read : Built CaseText) → (keeping texts copied which).spells ts read → (keeping texts copied which).front ts
 spelled_front copied depth_limit ts read s = shallow_fronts.spelled ts read s
-spelled_front copied (count_limit limit.Columns) ts read s = (within_fronts limit.Columns).spelled ts read s
-spelled_front copied (count_limit limit.Entries) ts read s = (within_fronts limit.Entries).spelled ts read s
-spelled_front copied (count_limit limit.Relations) ts read s = (within_fronts limit.Relations).spelled ts read s
 spelled_front copied (count_limit limit.Copies) ts read s = whole_within_cost case_costs most_copies copied ts read s
+spelled_front copied (count_limit other) ts read s = (within_fronts other).spelled ts read s
 
 -- what was taken keeps them, and goes on with nothing
 pub keeps_limits : (copied : ℕ) {ts : List Lexeme} (taken rest : List Lexeme) → ts ≡ taken ++ rest → shallow_cases.front taken → ((what : LimitKind) → (within what).front taken) → (within_copies copied cases).front taken
@@ -89,10 +79,8 @@ keeps_limits copied {ts} taken rest e shallow few copies s which = kept_to (keep
   where
     front : (which : TextLimit) → (keeping texts copied which).front taken
     front depth_limit = shallow
-    front (count_limit limit.Columns) = few limit.Columns
-    front (count_limit limit.Entries) = few limit.Entries
-    front (count_limit limit.Relations) = few limit.Relations
     front (count_limit limit.Copies) = copies
+    front (count_limit other) = few other
 
 -- ---- one query
 
@@ -100,16 +88,13 @@ pub to_query : (start : Cursor) → Going (ref query) start.tokens g.ended_query
 to_query start = on_first (on_mapped at_start) (filled (a k.Semicolon) refl).filled
 
 -- its semicolon is missed
-pub at_semicolon : {start here after : Cursor} {value : Query} → Gives (ref query) most_levels (λ read. read) start start value here → after ≡ here → CopiesCounted g.ended_query (λ read. read) start start after
+pub at_semicolon : {start here after : Cursor} {value : Query} → Gives (ref query) most_levels (λ read. read) start start value here → after ≡ here → CopiesSoFar g.ended_query (λ read. read) start start after
 at_semicolon r s = counted_before (on_still (on_taken most_levels (on_mapped at_start) r.takes.took) s) refl (omega (arith, r.builds.copies, ap (λ z. z.copies) s))
 
 -- ---- statements
 
 pub statements_copied : {a b : Cursor} (fault : ReadFault) → CopiedToFault statements (λ read. read) a a fault b → CopiedAll a fault b
-statements_copied {a} fault s = copied_to fault (on_first (on_mapped at_start) fill_two) (λ v. alone a.copies v.copies) s
-  where
-    alone : (n v : ℕ) → n + (v + (0 + 0)) ≡ n + v
-    alone n v = omega arith
+statements_copied fault s = copied_to fault (on_first (on_mapped at_start) (filled g.two_queries refl).filled) (λ v. omega arith) s
 
 module _ {a b : Cursor} {list : List Statement} (s : StatementsRead a list b) where
   to_queries : Going g.two_queries b.tokens g.case a.tokens (λ queries. g.case_of (s.reads.read, queries))
@@ -120,10 +105,7 @@ module _ {a b : Cursor} {list : List Statement} (s : StatementsRead a list b) wh
   behind_statements = counted_before to_queries refl (omega (arith, s.reads.builds.copies))
 
   pub first_copied : {c : Cursor} (fault : ReadFault) → CopiedToFault g.ended_query (λ read. read) b b fault c → CopiedAll a fault c
-  first_copied fault m = copied_to fault (on_first to_queries fill_ended) (λ v. behind v.copies b.copies s.reads.read.copies s.reads.builds.copies) m
-    where
-      behind : (v m r : ℕ) → m ≡ a.copies + r → a.copies + (r + (v + 0)) ≡ m + v
-      behind v m r i = omega (arith, i)
+  first_copied fault m = copied_to fault (on_first to_queries (filled g.ended_query refl).filled) (λ v. omega (arith, s.reads.builds.copies)) m
 
   module _ {c : Cursor} {left : Query} (p : ReadsQuery b left c) where
     to_second : Going g.ended_query c.tokens g.case a.tokens (λ right. g.case_of (s.reads.read, (p.read, right)))
@@ -134,7 +116,4 @@ module _ {a b : Cursor} {list : List Statement} (s : StatementsRead a list b) wh
     behind_first = counted_before to_second refl (omega (arith, s.reads.builds.copies, p.builds.copies))
 
     pub second_copied : {d : Cursor} (fault : ReadFault) → CopiedToFault g.ended_query (λ read. read) c c fault d → CopiedAll a fault d
-    second_copied fault m = copied_to fault to_second (λ v. behind v.copies b.copies c.copies s.reads.read.copies p.read.copies s.reads.builds.copies p.builds.copies) m
-      where
-        behind : (v m n r o : ℕ) → m ≡ a.copies + r → n ≡ m + o → a.copies + (r + (o + v)) ≡ n + v
-        behind v m n r o i j = omega (arith, i, j)
+    second_copied fault m = copied_to fault to_second (λ v. omega (arith, s.reads.builds.copies, p.builds.copies)) m

@@ -3,12 +3,11 @@ use Rattle.std.proofs.Common.{◌≡◌, List, ◌++◌, None, refl, subst}
 use Rattle.grammar.specs.Language.{HasFronts, Includes, Language, map_language, seq_language}
 use Rattle.grammar.specs.Form.{seq}
 use Rattle.grammar.specs.Reading.{Began, Took}
-use Rattle.grammar.proofs.Begun.{nothing_began}
-use Rattle.grammar.proofs.Forms.{includes_through}
-use Rattle.grammar.proofs.Fronts.{map_fronts, seq_fronts}
-use Rattle.grammar.proofs.Plans.{first_in, map_in, second_in}
-use Rattle.grammar.proofs.Remaining as r
-use Rattle.grammar.proofs.Steps.{IsWithin, Same, map_within, took_in}
+use Rattle.grammar.proofs.readers.Begun.{nothing_began}
+use Rattle.grammar.proofs.languages.Forms.{map_in, seq_in}
+use Rattle.grammar.proofs.languages.Fronts.{map_fronts, seq_fronts}
+use Rattle.grammar.proofs.readers.Remaining as r
+use Rattle.grammar.proofs.readers.Steps.{IsWithin, Same, map_within, took_in}
 use Rattle.sql_lex.specs.Lexemes.{Lexeme}
 use Rattle.sql_model.specs.declared.statement.Statement.{Statement}
 use Rattle.sql_model.specs.declared.tree.Query.{Query}
@@ -20,19 +19,19 @@ use Rattle.sql_read.specs.Reads.{Gives, GivesWithin, Refuses, TakesWithin, few_f
 use Rattle.sql_grammar.specs.Kinds.{kind_of}
 use Rattle.sql_grammar.specs.Numbering.{Built, each}
 use Rattle.sql_grammar.specs.Queries.{most_levels, of_form}
-use Rattle.sql_grammar.proofs.QueryTable.{planned}
-use Rattle.sql_read.proofs.ReadSteps.{same_taken}
+use Rattle.sql_grammar.proofs.queries.QueryTable.{planned}
+use Rattle.sql_read.proofs.steps.ReadSteps.{same_taken}
 use Rattle.schema_read.specs.Counting.{RefusesCounted, TakesCounted, few_planned, narrowly}
 use Rattle.schema_read.specs.StatementGrammar.{elements, ended_with, statements, statements_with}
 use Rattle.schema_read.specs.StatementLimits as of_statements
 use Rattle.schema_read.specs.StatementLimits.{most_further_columns, most_relations}
-use Rattle.schema_read.proofs.CountSteps.{Holds, Rest, RestOf, below_within, free, held, holds, part_refused, rest_first, rest_second, same_read, statement_refused, took_free}
-use Rattle.schema_read.proofs.StatementsAgree.{few_within}
-use Rattle.schema_read.proofs.StatementFronts.{few_statement_fronts, narrow_below}
-use Rattle.sql_grammar.proofs.QueryForms.{form_has_fronts, known_includes, planned_includes}
-use Rattle.schema_read.proofs.Telling.{refused_more, with_columns}
-use Rattle.schema_read.proofs.Unlimited.{itself}
-use Rattle.schema_read.proofs.WholeStatements.{few_back, few_included, few_there}
+use Rattle.schema_read.proofs.counts.CountSteps.{Holds, Rest, RestOf, below_within, free, held, holds, part_refused, rest_first, rest_second, same_read, statement_refused, took_free}
+use Rattle.schema_read.proofs.agree.StatementsAgree.{few_within}
+use Rattle.schema_read.proofs.spelled.StatementFronts.{few_statement_fronts, narrow_below}
+use Rattle.sql_grammar.proofs.queries.QueryForms.{form_has_fronts, known_includes, planned_includes}
+use Rattle.schema_read.proofs.agree.Telling.{refused_more, with_columns}
+use Rattle.schema_read.proofs.spelled.Unlimited.{itself}
+use Rattle.schema_read.proofs.agree.WholeStatements.{few_back, few_included, few_there}
 use Rattle.case_core.specs.declared.text.CaseText.{CaseText}
 use Rattle.case_core.specs.CaseGrammar as g
 use Rattle.case_core.specs.Cases.{cases, cases_behind, within}
@@ -57,19 +56,15 @@ planned_within limit.Copies = free g.case
 
 -- what is behind less is less
 behind_in : {L M : OfStatements} {P Q : Language Lexeme (Built Query × Built Query)} → Includes M L → Includes Q P → Includes (map_language g.case_of (seq_language M Q)) (map_language g.case_of (seq_language L P))
-behind_in {L = L} {M = M} {P = P} {Q = Q} m q =
-    map_in (seq_language L P) (seq_language M Q) (includes_through (seq_language L P) (seq_language M P) (seq_language M Q) (first_in L M m P) (second_in P Q q M)) g.case_of
+behind_in {L = L} {M = M} {P = P} {Q = Q} m q = map_in (seq_language L P) (seq_language M Q) (seq_in L M P Q m q) g.case_of
+
+behind_same : {L M : OfStatements} → Includes M L → Includes L M → Same (planned_behind L) (cases_behind M)
+behind_same m l = record { there = behind_in m (known_includes None g.two_queries); back = behind_in l (planned_includes None g.two_queries) }
 
 pub within_same : (what : LimitKind) → Same (planned_within what) (within what)
-within_same limit.Columns = record {
-  there = behind_in (known_includes None (statements_with narrowly)) (known_includes None g.two_queries);
-  back = behind_in (planned_includes None (statements_with narrowly)) (planned_includes None g.two_queries);
-}
+within_same limit.Columns = behind_same (known_includes None (statements_with narrowly)) (planned_includes None (statements_with narrowly))
 within_same limit.Entries = record { there = few_there g.case; back = few_back g.case }
-within_same limit.Relations = record {
-  there = behind_in (few_included (known_includes None (ended_with elements))) (known_includes None g.two_queries);
-  back = behind_in (few_included (planned_includes None (ended_with elements))) (planned_includes None g.two_queries);
-}
+within_same limit.Relations = behind_same (few_included (known_includes None (ended_with elements))) (few_included (planned_includes None (ended_with elements)))
 within_same limit.Copies = record { there = known_includes None g.case; back = planned_includes None g.case }
 
 behind_fronts : (L : OfStatements) → HasFronts L → HasFronts (cases_behind L)

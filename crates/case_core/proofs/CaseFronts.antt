@@ -5,12 +5,12 @@ use Rattle.grammar.specs.Form.{Room, language}
 use Rattle.grammar.specs.Language.{HasFronts, Includes, Language}
 use Rattle.grammar.specs.Lookahead.{lookahead}
 use Rattle.grammar.specs.Reading.{Stops, Failed}
-use Rattle.grammar.proofs.Cut.{Cut, longer, same, shorter, cut}
-use Rattle.grammar.proofs.Forms.{form_fronts}
-use Rattle.grammar.proofs.Heights.{name_fronts}
-use Rattle.grammar.proofs.Known.{Known}
-use Rattle.grammar.proofs.Limits.{IsPrefixClosed}
-use Rattle.grammar.proofs.Longest.{no_longer}
+use Rattle.grammar.proofs.languages.Cut.{Cut, longer, same, shorter, cut}
+use Rattle.grammar.proofs.languages.Forms.{form_fronts}
+use Rattle.grammar.proofs.languages.Heights.{name_fronts}
+use Rattle.grammar.proofs.languages.Known.{Known}
+use Rattle.grammar.proofs.languages.Limits.{IsPrefixClosed}
+use Rattle.grammar.proofs.readers.Longest.{no_longer}
 use Rattle.sql_lex.specs.Lexemes.{Lexeme}
 use Rattle.sql_grammar.specs.Kinds.{kind_of}
 use Rattle.sql_lex.proofs.WholeTexts.{same_tokens}
@@ -19,9 +19,9 @@ use Rattle.sql_grammar.specs.Queries.{most_levels, of_form}
 use Rattle.sql_grammar.specs.QueryEntries.{few_rules, most_further}
 use Rattle.sql_grammar.specs.QueryGrammar.{The}
 use Rattle.sql_grammar.specs.QueryLookahead.{table}
-use Rattle.sql_grammar.proofs.QueryForms.{form_has_fronts, roomier}
-use Rattle.schema_read.proofs.StatementKnown.{known}
-use Rattle.schema_read.proofs.WholeStatements.{few_grammar}
+use Rattle.sql_grammar.proofs.queries.QueryForms.{form_has_fronts, roomier}
+use Rattle.schema_read.proofs.spelled.StatementKnown.{known}
+use Rattle.schema_read.proofs.agree.WholeStatements.{few_grammar}
 use Rattle.case_core.specs.declared.text.CaseText.{CaseText}
 use Rattle.case_core.specs.CaseGrammar as g
 use Rattle.case_core.specs.Cases.{SpellsCase, cases, shallow_cases}

@@ -3,8 +3,8 @@ use Rattle.std.proofs.Common.{◌≡◌, ◌≤◌, ℕ, true, List, [], ◌∷�
 use Rattle.std.proofs.lemmas.Bool.{false≢true}
 use Rattle.std.proofs.lemmas.List.{append-nil}
 use Rattle.grammar.specs.Reading.{Stops, Took}
-use Rattle.grammar.proofs.Begun.{nothing_began}
-use Rattle.grammar.proofs.Longest.{stops_at_longest}
+use Rattle.grammar.proofs.readers.Begun.{nothing_began}
+use Rattle.grammar.proofs.readers.Longest.{stops_at_longest}
 use Rattle.sql_lex.specs.Lexemes.{Lexeme}
 use Rattle.sql_model.specs.declared.statement.Statement.{Statement}
 use Rattle.sql_model.specs.declared.tree.Query.{Query}
@@ -19,24 +19,24 @@ use Rattle.sql_grammar.specs.QueryCopies.{most_copies, within_copies}
 use Rattle.sql_grammar.specs.QueryGrammar.{The}
 use Rattle.sql_read.specs.Reads.{Refuses, few_form, relations_too}
 use Rattle.sql_read.specs.Refusals.{refusal}
-use Rattle.sql_read.proofs.Extending.{◌⨟◌}
-use Rattle.sql_read.proofs.WholeTexts.{refusal_here}
-use Rattle.schema_read.proofs.CopiedParts.{counted_within}
-use Rattle.sql_read.proofs.ReadSteps.{LeftOf, blocks, built_both, built_map, entries_within, first_part, mapped as mapped_left, refuses, second, takes, whole, same_taken}
+use Rattle.sql_read.proofs.steps.Extending.{◌⨟◌}
+use Rattle.sql_read.proofs.whole.WholeTexts.{refusal_here}
+use Rattle.schema_read.proofs.counts.CopiedParts.{counted_within}
+use Rattle.sql_read.proofs.steps.ReadSteps.{LeftOf, blocks, built_both, built_map, entries_within, first_part, mapped as mapped_left, refuses, second, takes, whole, same_taken}
 use Rattle.schema_read.specs.CopiedStatements.{CopiedToFault}
 use Rattle.schema_read.specs.StatementGrammar.{statements}
-use Rattle.sql_grammar.proofs.QueryForms.{form_has_fronts, roomier}
-use Rattle.schema_read.proofs.Telling.{refused_more, taken_more, with_both}
+use Rattle.sql_grammar.proofs.queries.QueryForms.{form_has_fronts, roomier}
+use Rattle.schema_read.proofs.agree.Telling.{refused_more, taken_more, with_both}
 use Rattle.case_core.specs.declared.fault.CaseFault.{CaseFault}
-use Rattle.case_core.specs.declared.fault.CaseFault.TheVariants.{Read, Schema, Scope, QueriesDiffer, NotTwoQueries, NoMemory}
+use Rattle.case_core.specs.declared.fault.CaseFault.TheVariants.{Read, NotTwoQueries, NoMemory}
 use Rattle.case_core.specs.declared.text.CaseText.{CaseText}
 use Rattle.case_core.specs.CaseGrammar as g
 use Rattle.case_core.specs.Cases.{cases, shallow_cases, within}
 use Rattle.case_core.specs.ReadingCases.{IsEnded, IsMore, IsNoEnd, IsTrailing, RefusesCase, TakesCase}
-use Rattle.case_core.specs.Refusals.{GoesOnBehind, Says, KeepsLimits}
+use Rattle.case_core.specs.Refusals.{EndsBehind, GoesOnBehind, Says, KeepsLimits}
 use Rattle.case_core.specs.Wrapping.{of_read}
-use Rattle.case_core.proofs.CaseCopies.{CopiedAll, behind_first, behind_statements, first_copied, second_copied, whole_few, keeps_limits}
-use Rattle.case_core.proofs.CaseCounts.{CountsRefused, ReadsQuery, StatementsRead, first_counted, keeps_behind, keeps_behind_first, second_counted, taken_within, within_fronts, few_before}
+use Rattle.case_core.proofs.CaseCopies.{CopiedAll, Counted, behind_first, behind_statements, first_copied, second_copied, whole_few, keeps_limits}
+use Rattle.case_core.proofs.CaseCounts.{CountsRefused, KeepsAll, ReadsQuery, StatementsRead, first_counted, keeps_behind, keeps_behind_first, second_counted, taken_within, within_fronts, few_before}
 use Rattle.case_core.proofs.CaseFronts.{fronts, shallow_fronts, shallow_included, third_there}
 use Rattle.case_core.proofs.Outcomes.{Behind, RefusesAll, TakesAll, more_behind, not_two_excluded, refused, says_next, took}
 
@@ -49,6 +49,20 @@ all_taken ts taken rest e n = e ∙ (ap (λ z. taken ++ z) n ∙ append-nil take
 
 stops_at_end : (taken rest : List Lexeme) → rest ≡ [] → Stops cases taken rest
 stops_at_end taken rest e = subst (λ z. Stops cases taken z) (sym e) tt
+
+-- a text ends behind this part, and no token of it passes a limit
+text_ends : {V : Type 0} {part : The V} {a b : Cursor} {v : V} → TakesAll part a.tokens v b.tokens → ((ts : List Lexeme) → (of_form (Some most_levels) part).spells ts v → shallow_cases.front ts)
+    → KeepsAll a.tokens b.tokens → Counted a b → Extends a b → IsEnded b → {end : ℕ} → end ≡ a.end → b.copies ≤ most_copies → EndsBehind (of_form None part) a.tokens a.fault a.end end × KeepsLimits a.copies a.tokens
+text_ends {part = part} {a = a} {b = b} {v = v} t begins keeps counted x n e most =
+    let u = took part t in (
+      record {
+        value = v;
+        whole = subst (λ z. (of_form None part).spells z v) (sym (all_taken a.tokens u.taken b.tokens u.whole n.tokens)) ((roomier (Some most_levels) None tt part).spells u.taken v u.spelled);
+        last = sym x.fault ∙ n.fault;
+        place = e;
+      },
+      keeps_limits a.copies u.taken b.tokens u.whole (begins u.taken u.spelled) (few_before keeps u.taken u.whole) (counted_within counted most u.taken u.whole) (stops_at_end u.taken b.tokens n.tokens),
+    )
 
 -- ---- statements
 
@@ -63,21 +77,10 @@ module _ {a b : Cursor} {list : List Statement} (s : StatementsRead a list b) (x
   pub no_query : IsEnded b → {end : ℕ} → end ≡ a.end → RefusesCase a (NotTwoQueries 0 end) b
   no_query n e = record {
     says = λ most.
-        let t = took statements s.reads.takes in let all = all_taken a.tokens t.taken b.tokens t.whole n.tokens in
-        let begun : shallow_cases.front t.taken = inr (t.taken, [], s.reads.read, sym (append-nil t.taken), t.spelled, (form_has_fronts (Some most_levels) g.two_queries).empty) in
         let entries = (queries_left.few tt).began b.tokens (nothing_began (few_form g.two_queries) (entries_within g.two_queries).fronts b.tokens) in
-        record {
-          counted = inl (
-            refl,
-            record {
-              value = s.reads.read;
-              whole = subst (λ z. (of_form None statements).spells z s.reads.read) (sym all) ((roomier (Some most_levels) None tt statements).spells t.taken s.reads.read t.spelled);
-              last = sym x.fault ∙ n.fault;
-              place = e;
-            },
-          );
-          kept = keeps_limits a.copies t.taken b.tokens t.whole begun (few_before (keeps_behind s entries) t.taken t.whole) (counted_within (behind_statements s) most t.taken t.whole) (stops_at_end t.taken b.tokens n.tokens);
-        };
+        let u = text_ends s.reads.takes (λ ts w. inr (ts, [], s.reads.read, sym (append-nil ts), w, (form_has_fronts (Some most_levels) g.two_queries).empty))
+        (keeps_behind s entries) (behind_statements s) x n e most in
+        record { counted = inl (refl, u.0); kept = u.1 };
   }
 
   pub first_refused : IsMore b → {c : Cursor} {fault : ReadFault} → Refuses g.ended_query most_levels b fault c → CopiedToFault g.ended_query (λ read. read) b b fault c → Extends b c → RefusesCase a (of_read fault) c
@@ -99,24 +102,11 @@ module _ {a b c : Cursor} {list : List Statement} {left : Query} (s : Statements
     pub no_second : IsEnded c → {end : ℕ} → end ≡ a.end → RefusesCase a (NotTwoQueries 1 end) c
     no_second n e = record {
       says = λ most.
-          let t = took g.one_query one_taken in let all = all_taken a.tokens t.taken c.tokens t.whole n.tokens in
-          let parts = t.spelled in
-          let begun : shallow_cases.front t.taken =
-          inr (parts.0, parts.1, s.reads.read, parts.2, parts.3, inr (parts.1, [], p.read, sym (append-nil parts.1), parts.4, (form_has_fronts (Some most_levels) g.ended_query).empty)) in
           let entries = ((query_left x).few tt).began c.tokens (nothing_began (few_form g.ended_query) (entries_within g.ended_query).fronts c.tokens) in
-          record {
-            counted = inr (inl (
-              refl,
-              record {
-                value = (s.reads.read, p.read);
-                whole = subst (λ z. (of_form None g.one_query).spells z (s.reads.read, p.read)) (sym all)
-                    ((roomier (Some most_levels) None tt g.one_query).spells t.taken (s.reads.read, p.read) t.spelled);
-                last = sym (x ⨟ y).fault ∙ n.fault;
-                place = e;
-              },
-            ));
-            kept = keeps_limits a.copies t.taken c.tokens t.whole begun (few_before (keeps_behind_first s p entries) t.taken t.whole) (counted_within (behind_first s p) most t.taken t.whole) (stops_at_end t.taken c.tokens n.tokens);
-          };
+          let u = text_ends one_taken
+          (λ ts w. inr (w.0, w.1, s.reads.read, w.2, w.3, inr (w.1, [], p.read, sym (append-nil w.1), w.4, (form_has_fronts (Some most_levels) g.ended_query).empty)))
+          (keeps_behind_first s p entries) (behind_first s p) (x ⨟ y) n e most in
+          record { counted = inr (inl (refl, u.0)); kept = u.1 };
     }
 
     pub second_refused : IsMore b → IsMore c → {d : Cursor} {fault : ReadFault} → Refuses g.ended_query most_levels c fault d → CopiedToFault g.ended_query (λ read. read) c c fault d → Extends c d → RefusesCase a (of_read fault) d
@@ -204,14 +194,12 @@ module _ {a b c d : Cursor} {list : List Statement} {left right : Query} (s : St
 
     says_no_end : IsMore b → IsMore c → (fault : CaseFault) → IsNoEnd d fault → d.copies ≤ most_copies → Says a.copies a.tokens a.fault a.end fault
     says_no_end first_more second_more (Read fault) n most = trailing first_more second_more n.0 (n.0.refusal n.1) most
-    says_no_end first_more second_more (Schema fault) n most = n
-    says_no_end first_more second_more (Scope fault) n most = n
-    says_no_end first_more second_more (QueriesDiffer one other) n most = n
     says_no_end first_more second_more (NotTwoQueries count at) n most = record {
       counted = inr (inr (n.0, third_behind at d.tokens refl n.1.begins n.1.place));
       kept = is_limited most;
     }
     says_no_end first_more second_more NoMemory n most = tt
+    says_no_end first_more second_more other n most = n
 
     pub no_end : IsMore b → IsMore c → (fault : CaseFault) → IsNoEnd d fault → RefusesCase a fault d
     no_end first_more second_more fault n = record { says = says_no_end first_more second_more fault n }

@@ -5,11 +5,11 @@ use Rattle.sql_lex.specs.Lexemes.{Lexeme}
 use Rattle.sql_model.specs.declared.tree.Query.{Query}
 use Rattle.sql_grammar.specs.Numbering.{Built, Numbers, first_numbers}
 use Rattle.sql_grammar.specs.QueryEntries.{most_further}
-use Rattle.sql_grammar.proofs.Fits.{Fits, fit_both, fit_mapped, now_holds}
+use Rattle.sql_grammar.proofs.entries.Fits.{Fits, fit_both, fit_mapped, now_holds}
 use Rattle.sql_read.specs.declared.fault.LimitKind.TheVariants as limit
 use Rattle.schema_read.specs.FewEntries.{HasFewEntries, ViewHasFew}
-use Rattle.schema_read.proofs.FewStatements.{query_few, statements_few}
-use Rattle.schema_read.proofs.WholeStatements.{few_grammar}
+use Rattle.schema_read.proofs.spelled.FewStatements.{query_few, statements_few}
+use Rattle.schema_read.proofs.agree.WholeStatements.{few_grammar}
 use Rattle.case_core.specs.declared.text.CaseText.{CaseText}
 use Rattle.case_core.specs.CaseGrammar as g
 use Rattle.case_core.specs.Cases.{IsRead, few_entry_cases}

@@ -15,16 +15,16 @@ use Rattle.sql_model.specs.Everywhere.{Anything, Everywhere, InItem}
 use Rattle.sql_grammar.specs.Numbering.{Built, Numbers, first_numbers}
 use Rattle.sql_grammar.specs.Queries.{of_form, of_production, queries}
 use Rattle.sql_grammar.specs.QueryGrammar as grammar
-use Rattle.sql_grammar.proofs.EntryTexts.{few_spell}
-use Rattle.sql_grammar.proofs.EverywhereQueries.{everywhere}
-use Rattle.sql_grammar.proofs.EverywhereTrees.{block_has}
-use Rattle.sql_grammar.proofs.Fits.{Fits, fit_both, fit_mapped}
+use Rattle.sql_grammar.proofs.entries.EntryTexts.{few_spell}
+use Rattle.sql_grammar.proofs.entries.EverywhereQueries.{everywhere}
+use Rattle.sql_grammar.proofs.entries.EverywhereTrees.{block_has}
+use Rattle.sql_grammar.proofs.entries.Fits.{Fits, fit_both, fit_mapped}
 use Rattle.sql_read.specs.Cursor.{numbers_of}
 use Rattle.schema_read.specs.Builds.{Builds}
 use Rattle.schema_read.specs.Declarations.{declared_relation, no_table, relation_entry, table_named}
 use Rattle.schema_read.specs.Indexes.{column_item, index_query, shown_columns}
 use Rattle.schema_read.specs.Order.{map_along}
-use Rattle.schema_read.proofs.FewStatements.{statements_fit}
+use Rattle.schema_read.proofs.spelled.FewStatements.{statements_fit}
 use Rattle.scope_core.specs.Literals.{QueryFits, RelationFits, SchemaFits, TreeFits}
 use Rattle.scope_core.specs.Syntax.{RQuery}
 use Rattle.case_core.specs.declared.text.CaseText.{CaseText}

@@ -1,7 +1,7 @@
 -- Each limit of a case is passed at one token of a text.
 use Rattle.std.proofs.Common.{◌≡◌, ℕ, ◌+◌, List, ◌∷◌, ◌++◌, sym, ◌∙◌, ap, subst}
-use Rattle.grammar.proofs.Cut.{Cut, cut, longer, same, shorter}
-use Rattle.grammar.proofs.Limits.{passed_once}
+use Rattle.grammar.proofs.languages.Cut.{Cut, cut, longer, same, shorter}
+use Rattle.grammar.proofs.languages.Limits.{passed_once}
 use Rattle.sql_lex.specs.Lexemes.{Lexeme}
 use Rattle.sql_read.specs.ReadingTexts.{Passes, PassesDepth, TextLimit, depth_limit, keeping}
 use Rattle.case_core.specs.Cases.{cases, texts}

@@ -4,12 +4,12 @@ use Rattle.std.proofs.lemmas.List.{append-nil}
 use Rattle.grammar.specs.Language.{HasFronts, Includes, Language, map_language, seq_language}
 use Rattle.grammar.specs.Lookahead.{lookahead}
 use Rattle.grammar.specs.Limits.{IsFirstBeyond, KeepsWithin}
-use Rattle.grammar.proofs.Limits.{kept}
-use Rattle.grammar.proofs.Cut.{Cut, longer, same, shorter, cut, nil_right}
-use Rattle.grammar.proofs.Forms.{includes_itself}
-use Rattle.grammar.proofs.Fronts.{map_fronts, seq_fronts}
-use Rattle.grammar.proofs.Known.{Known}
-use Rattle.grammar.proofs.Sets.{apart}
+use Rattle.grammar.proofs.languages.Limits.{kept}
+use Rattle.grammar.proofs.languages.Cut.{Cut, longer, same, shorter, cut, nil_right}
+use Rattle.grammar.proofs.languages.Forms.{includes_itself}
+use Rattle.grammar.proofs.languages.Fronts.{map_fronts, seq_fronts}
+use Rattle.grammar.proofs.languages.Known.{Known}
+use Rattle.grammar.proofs.languages.Sets.{apart}
 use Rattle.sql_lex.specs.Lexemes.{Lexeme}
 use Rattle.sql_model.specs.declared.statement.Statement.{Statement}
 use Rattle.sql_model.specs.declared.tree.Query.{Query}
@@ -20,16 +20,16 @@ use Rattle.sql_grammar.specs.Kinds.{every_kind, kind_of}
 use Rattle.sql_grammar.specs.Numbering.{Built}
 use Rattle.sql_grammar.specs.QueryEntries.{most_further}
 use Rattle.sql_grammar.specs.QueryLookahead.{table}
-use Rattle.sql_grammar.proofs.EveryKind.{every_kind_is_there}
+use Rattle.sql_grammar.proofs.lists.EveryKind.{every_kind_is_there}
 use Rattle.schema_read.specs.StatementGrammar as of_statements
 use Rattle.schema_read.specs.StatementLimits.{few_columns, few_entry_statements, few_statements, most_further_columns, most_relations, narrow_statements}
 use Rattle.schema_read.specs.Statements.{OfStatements, statements}
-use Rattle.schema_read.proofs.CountsApart.{KeepsOne, columns_or_entries, few_whole, narrow_whole, relations_or_columns, relations_or_entries}
-use Rattle.schema_read.proofs.StatementFronts.{few_entries_included, few_entry_fronts, few_form_included, few_statement_fronts, few_statements_included, narrow_included}
-use Rattle.sql_grammar.proofs.QueryForms.{form_has_fronts}
-use Rattle.schema_read.proofs.StatementKnown.{known}
-use Rattle.schema_read.proofs.Unlimited.{gl}
-use Rattle.schema_read.proofs.WholeStatements.{few_grammar}
+use Rattle.schema_read.proofs.counts.CountsApart.{KeepsOne, columns_or_entries, few_whole, narrow_whole, not_both, relations_or_columns, relations_or_entries}
+use Rattle.schema_read.proofs.spelled.StatementFronts.{few_entries_included, few_entry_fronts, few_form_included, few_statement_fronts, few_statements_included, narrow_included}
+use Rattle.sql_grammar.proofs.queries.QueryForms.{form_has_fronts}
+use Rattle.schema_read.proofs.spelled.StatementKnown.{known}
+use Rattle.schema_read.proofs.spelled.Unlimited.{gl}
+use Rattle.schema_read.proofs.agree.WholeStatements.{few_grammar}
 use Rattle.case_core.specs.declared.text.CaseText.{CaseText}
 use Rattle.case_core.specs.CaseGrammar as g
 use Rattle.case_core.specs.Cases.{cases, texts, within}
@@ -63,17 +63,15 @@ begun_first L Q i l j x more f (inr (p, t ∷ q, read, e, s, h)) =
 
 -- L and M keep to two limits of statements, Q keeps to the second of queries
 module _ (L M : OfStatements) (Q : Queries) (i : Includes statements L) (j : Includes statements M) (q : Includes (gl g.two_queries) Q) (l : HasFronts L) (m : HasFronts M)
-    (keeps : KeepsOne L M) (whole : (ts : List Lexeme) (read : Built (List Statement)) → L.front ts → statements.spells ts read → L.spells ts read) where
+    (keeps : KeepsOne statements L M) (whole : (ts : List Lexeme) (read : Built (List Statement)) → L.front ts → statements.spells ts read → L.spells ts read) where
   abbrev Either : List Lexeme → Type 0
   Either ts = (with_queries L (gl g.two_queries)).front ts ⊎ (with_queries M Q).front ts
 
   in_statements : (x : List Lexeme) (t : Lexeme) → statements.front (x ++ t ∷ []) → (with_queries L (gl g.two_queries)).front x → (with_queries M Q).front x → Either (x ++ t ∷ [])
-  in_statements x t f a b =
-      by (keeps x t f (begun_first L (gl g.two_queries) i l (includes_itself (gl g.two_queries)) x (t ∷ []) f a) (begun_first M Q j m q x (t ∷ []) f b))
-    where
-      by : L.front (x ++ t ∷ []) ⊎ M.front (x ++ t ∷ []) → Either (x ++ t ∷ [])
-      by (inl h) = inl (inl h)
-      by (inr h) = inr (inl h)
+  in_statements x t f a b = elim (keeps x t f (begun_first L (gl g.two_queries) i l (includes_itself (gl g.two_queries)) x (t ∷ []) f a) (begun_first M Q j m q x (t ∷ []) f b)) [
+    | inl h ↦ inl (inl h)
+    | inr h ↦ inr (inl h)
+  ]
 
   first_fronts : HasFronts (with_queries L (gl g.two_queries))
   first_fronts = map_fronts g.case_of (seq_language L (gl g.two_queries)) (seq_fronts L (gl g.two_queries) l queries_known.fronts)
@@ -97,36 +95,25 @@ module _ (L M : OfStatements) (Q : Queries) (i : Includes statements L) (j : Inc
       go (same u v) = inl (inr (p, r, read, e, in_queries x p [] read (sym u ∙ sym (append-nil p)) s a, f))
       go (shorter c k u v) = inl (inr (p, r, read, e, in_queries x p (c ∷ k) read u s a, f))
 
-abbrev Within : LimitKind → LimitKind → Type 0
-Within what other = (x : List Lexeme) (t : Lexeme) → cases.front (x ++ t ∷ []) → (within what).front x → (within other).front x → (within what).front (x ++ t ∷ []) ⊎ (within other).front (x ++ t ∷ [])
-
 narrow_fronts : HasFronts (narrow_statements most_further_columns)
 narrow_fronts = form_has_fronts None (of_statements.statements_with (few_columns most_further_columns))
 
-columns_entries : Within limit.Columns limit.Entries
+columns_entries : KeepsOne cases (within limit.Columns) (within limit.Entries)
 columns_entries =
     either (narrow_statements most_further_columns) (few_entry_statements most_further) (few_grammar g.two_queries) (narrow_included most_further_columns) few_entries_included (few_form_included g.two_queries)
     narrow_fronts (few_entry_fronts most_further) columns_or_entries narrow_whole
 
-relations_columns : Within limit.Relations limit.Columns
+relations_columns : KeepsOne cases (within limit.Relations) (within limit.Columns)
 relations_columns =
     either (few_statements most_relations) (narrow_statements most_further_columns) (gl g.two_queries) (few_statements_included most_relations) (narrow_included most_further_columns)
     (includes_itself (gl g.two_queries)) (few_statement_fronts most_relations) narrow_fronts relations_or_columns few_whole
 
-relations_entries : Within limit.Relations limit.Entries
+relations_entries : KeepsOne cases (within limit.Relations) (within limit.Entries)
 relations_entries =
     either (few_statements most_relations) (few_entry_statements most_further) (few_grammar g.two_queries) (few_statements_included most_relations) few_entries_included
     (few_form_included g.two_queries) (few_statement_fronts most_relations) (few_entry_fronts most_further) relations_or_entries few_whole
 
 -- ---- one token
-
--- the token passes one limit at most
-not_both : (what other : LimitKind) → Within what other → (x : List Lexeme) (t : Lexeme) → IsFirstBeyond cases (within what) x t → IsFirstBeyond cases (within other) x t → ⊥
-not_both what other w x t a b = by (w x t a.goes_on a.within b.within)
-  where
-    by : (within what).front (x ++ t ∷ []) ⊎ (within other).front (x ++ t ∷ []) → ⊥
-    by (inl f) = a.beyond f
-    by (inr f) = b.beyond f
 
 module _ (copied : ℕ) (x : List Lexeme) (t : Lexeme) where
   -- the limits that are told sooner are kept with it
@@ -138,21 +125,17 @@ module _ (copied : ℕ) (x : List Lexeme) (t : Lexeme) where
 
   one_count : (what other : LimitKind) → IsBeyond (count_limit what) → IsBeyond (count_limit other) → IsTold (count_limit what) → IsTold (count_limit other) → what ≡ other
   one_count limit.Columns limit.Columns a b s r = refl
-  one_count limit.Columns limit.Entries a b s r = absurd (not_both limit.Columns limit.Entries columns_entries x t a b)
-  one_count limit.Columns limit.Relations a b s r = absurd (not_both limit.Relations limit.Columns relations_columns x t b a)
-  one_count limit.Entries limit.Columns a b s r = absurd (not_both limit.Columns limit.Entries columns_entries x t b a)
+  one_count limit.Columns limit.Entries a b s r = absurd (not_both cases (within limit.Columns) (within limit.Entries) columns_entries x t a b)
+  one_count limit.Columns limit.Relations a b s r = absurd (not_both cases (within limit.Relations) (within limit.Columns) relations_columns x t b a)
+  one_count limit.Entries limit.Columns a b s r = absurd (not_both cases (within limit.Columns) (within limit.Entries) columns_entries x t b a)
   one_count limit.Entries limit.Entries a b s r = refl
-  one_count limit.Entries limit.Relations a b s r = absurd (not_both limit.Relations limit.Entries relations_entries x t b a)
-  one_count limit.Relations limit.Columns a b s r = absurd (not_both limit.Relations limit.Columns relations_columns x t a b)
-  one_count limit.Relations limit.Entries a b s r = absurd (not_both limit.Relations limit.Entries relations_entries x t a b)
+  one_count limit.Entries limit.Relations a b s r = absurd (not_both cases (within limit.Relations) (within limit.Entries) relations_entries x t b a)
+  one_count limit.Relations limit.Columns a b s r = absurd (not_both cases (within limit.Relations) (within limit.Columns) relations_columns x t a b)
+  one_count limit.Relations limit.Entries a b s r = absurd (not_both cases (within limit.Relations) (within limit.Entries) relations_entries x t a b)
   one_count limit.Relations limit.Relations a b s r = refl
-  one_count limit.Columns limit.Copies a b s r = absurd (a.beyond (r (count_limit limit.Columns) tt))
-  one_count limit.Entries limit.Copies a b s r = absurd (a.beyond (r (count_limit limit.Entries) tt))
-  one_count limit.Relations limit.Copies a b s r = absurd (a.beyond (r (count_limit limit.Relations) tt))
-  one_count limit.Copies limit.Columns a b s r = absurd (b.beyond (s (count_limit limit.Columns) tt))
-  one_count limit.Copies limit.Entries a b s r = absurd (b.beyond (s (count_limit limit.Entries) tt))
-  one_count limit.Copies limit.Relations a b s r = absurd (b.beyond (s (count_limit limit.Relations) tt))
   one_count limit.Copies limit.Copies a b s r = refl
+  one_count limit.Copies other a b s r = absurd (b.beyond (s (count_limit other) tt))
+  one_count what limit.Copies a b s r = absurd (a.beyond (r (count_limit what) tt))
 
   one_at : (which other : TextLimit) → IsBeyond which → IsBeyond other → IsTold which → IsTold other → which ≡ other
   one_at depth_limit depth_limit a b s r = refl

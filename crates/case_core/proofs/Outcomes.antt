@@ -1,31 +1,33 @@
 -- Where reading stops, as the text is refused there: what was read of the forms of a case is read of the published grammar.
-use Rattle.std.proofs.Common.{◌≡◌, ◌≤◌, ℕ, Bool, true, false, List, [], ◌∷◌, ◌++◌, ◌⊎◌, Option, Some, None, Result, Ok, Err, inl, inr, refl, ◌∙◌, ap, subst, if◌then◌else◌, map as map_list}
+use Rattle.std.proofs.Common.{◌≡◌, ◌≤◌, ℕ, List, [], ◌∷◌, ◌++◌, ◌⊎◌, Option, Some, None, Result, Ok, Err, inl, inr, refl, ◌∙◌, ap, subst, map as map_list}
+use Rattle.std.proofs.lemmas.Bool.{cond_both}
 use Rattle.std.proofs.lemmas.List.{append-nil}
+use Rattle.grammar.specs.Form.{Room}
 use Rattle.grammar.specs.Language.{Language, HasFronts}
-use Rattle.grammar.specs.Reading.{Began, Took, Failed}
-use Rattle.grammar.proofs.Longest.{no_longer, stops_at_longest}
-use Rattle.grammar.proofs.Steps.{Same, took_in, failed_in}
+use Rattle.grammar.specs.Reading.{Took, Failed}
+use Rattle.grammar.proofs.readers.Longest.{no_longer, stops_at_longest}
+use Rattle.grammar.proofs.readers.Steps.{Same, took_in, failed_in}
 use Rattle.sql_lex.specs.declared.token.LexFault.{LexFault}
 use Rattle.sql_lex.specs.Bytes.{folded_byte}
 use Rattle.sql_lex.specs.Lexemes.{Lexeme}
 use Rattle.sql_read.specs.declared.fault.ReadFault.{ReadFault}
-use Rattle.sql_read.specs.declared.fault.ReadFault.TheVariants.{Lex, Unexpected, LeftOut, TooDeep, Limit, NoMemory}
+use Rattle.sql_read.specs.declared.fault.ReadFault.TheVariants.{Unexpected, LeftOut, TooDeep, Limit, NoMemory}
 use Rattle.sql_read.specs.declared.fault.LimitKind.TheVariants as limit
 use Rattle.sql_read.specs.Cursor.{Cursor}
 use Rattle.sql_read.specs.Eating.{Extends}
 use Rattle.sql_grammar.specs.Queries.{most_levels, of_form}
 use Rattle.sql_grammar.specs.QueryCopies.{most_copies}
 use Rattle.sql_grammar.specs.QueryGrammar.{The}
-use Rattle.sql_read.specs.Reads.{Exceeds, Fails, RefusesWithin, TakesWithin, few_form, relations_too}
+use Rattle.sql_read.specs.Reads.{Fails, RefusesWithin, TakesWithin, few_form, relations_too}
 use Rattle.sql_read.specs.ReadingTexts as of_texts
 use Rattle.sql_read.specs.Refusals.{is_left_out_word, refusal_of}
-use Rattle.sql_read.proofs.WholeTexts as whole
-use Rattle.sql_read.proofs.WholeTexts.{KeepsCopies, refusal_here}
+use Rattle.sql_read.proofs.whole.WholeTexts as whole
+use Rattle.sql_read.proofs.whole.WholeTexts.{refusal_here}
 use Rattle.schema_read.specs.Counting.{IsPlaced}
 use Rattle.schema_read.specs.StatementGrammar.{statements}
 use Rattle.sql_grammar.specs.QueryPlan.{in_plan}
-use Rattle.schema_read.proofs.CountSteps.{begun_free}
-use Rattle.sql_grammar.proofs.QueryForms.{form_has_fronts, known_includes, planned_includes}
+use Rattle.schema_read.proofs.counts.CountSteps.{begun_free}
+use Rattle.sql_grammar.proofs.queries.QueryForms.{form_has_fronts, known_includes, planned_includes}
 use Rattle.case_core.specs.declared.fault.CaseFault.TheVariants.{Read}
 use Rattle.case_core.specs.CaseGrammar as g
 use Rattle.case_core.specs.Cases.{cases, texts}
@@ -34,7 +36,7 @@ use Rattle.case_core.specs.Refusals.{GoesOnBehind, HasNotTwoQueries, IsUnfinishe
 use Rattle.case_core.specs.Wrapping.{of_read}
 use Rattle.case_core.proofs.CaseCopies.{CopiedAll, Counted, case_costs, keeps_limits}
 use Rattle.case_core.proofs.CaseCounts.{CountsRefused, KeepsAll, few_before, planned_within, within_fronts, within_same}
-use Rattle.schema_read.proofs.CopiedParts.{counted_within}
+use Rattle.schema_read.proofs.counts.CopiedParts.{counted_within, keeps_copies}
 use Rattle.case_core.proofs.CaseFronts.{fronts, no_third, shallow_included}
 
 -- both limits were kept before
@@ -47,24 +49,16 @@ TakesAll f here value rest = TakesWithin relations_too f (few_form f) most_level
 abbrev pub RefusesAll : {A : Type 0} → The A → Cursor → ReadFault → Cursor → Type 0
 RefusesAll f before fault after = RefusesWithin relations_too f (few_form f) most_levels before fault after
 
-abbrev ExceedsAll : {A : Type 0} → The A → Cursor → ℕ → Cursor → Type 0
-ExceedsAll f before at after = Exceeds relations_too f (few_form f) most_levels before at after
-
 -- ---- of the published grammar
 
-module _ {A : Type 0} (f : The A) where
-  free_same : Same (in_plan None f) (of_form None f)
-  free_same = record { there = known_includes None f; back = planned_includes None f }
+plan_same : {A : Type 0} (f : The A) (room : Room) → Same (in_plan room f) (of_form room f)
+plan_same f room = record { there = known_includes room f; back = planned_includes room f }
 
-  shallow_same : Same (in_plan (Some most_levels) f) (of_form (Some most_levels) f)
-  shallow_same = record { there = known_includes (Some most_levels) f; back = planned_includes (Some most_levels) f }
+pub took : {A : Type 0} (f : The A) {here rest : List Lexeme} {value : A} → TakesAll f here value rest → Took (of_form None f) (of_form (Some most_levels) f) here value rest
+took f {here = here} {rest = rest} {value = value} t = took_in _ _ _ _ (plan_same f None) (plan_same f (Some most_levels)) here value rest t.took
 
-  pub took : {here rest : List Lexeme} {value : A} → TakesAll f here value rest → Took (of_form None f) (of_form (Some most_levels) f) here value rest
-  took {here = here} {rest = rest} {value = value} t = took_in _ _ _ _ free_same shallow_same here value rest t.took
-
-  failed : {before after : Cursor} {fault : ReadFault} → FailsAll f before fault after
-      → Failed (of_form None f) (of_form (Some most_levels) f) before.tokens after.tokens
-  failed {before = before} {after = after} r = failed_in _ _ _ _ free_same shallow_same before.tokens after.tokens r.failed
+failed : {A : Type 0} (f : The A) {before after : Cursor} {fault : ReadFault} → FailsAll f before fault after → Failed (of_form None f) (of_form (Some most_levels) f) before.tokens after.tokens
+failed f {before = before} {after = after} r = failed_in _ _ _ _ (plan_same f None) (plan_same f (Some most_levels)) before.tokens after.tokens r.failed
 
 -- ---- parts that are not all of the text
 
@@ -117,13 +111,12 @@ not_two_excluded before none one third count at (inl (e, x)) = none x.last x.val
 not_two_excluded before none one third count at (inr (inl (e, x))) = one x.last x.value x.whole
 not_two_excluded before none one third count at (inr (inr (e, x))) = third at x
 
-module _ {before after : Cursor} {fault : ReadFault} (r : RefusesAll g.case before fault after) (n : CountsRefused before fault after) (placed : IsPlaced fault)
-    (entries : Began (few_form g.case) before.tokens after.tokens) where
-  keeps_all : KeepsAll before.tokens after.tokens
-  keeps_all limit.Columns = n.columns.begun placed
-  keeps_all limit.Entries = entries
-  keeps_all limit.Relations = n.relations.begun placed
-  keeps_all limit.Copies = begun_free {f = g.case} tt fault r placed
+-- the longest front was taken, and keeps the limits
+fails_within : {before after : Cursor} (fault : ReadFault) → RefusesAll g.case before fault after → CountsRefused before fault after → IsPlaced fault → FailsAll g.case before fault after → KeepsAll before.tokens after.tokens
+fails_within fault r n placed f limit.Columns = n.columns.begun placed
+fails_within fault r n placed f limit.Entries = let t = f.few tt in record { taken = t.taken; whole = t.whole; begun = t.begun }
+fails_within fault r n placed f limit.Relations = n.relations.begun placed
+fails_within fault r n placed f limit.Copies = begun_free {f = g.case} tt fault r placed
 
 unfinished : {before after : Cursor} {fault : ReadFault} → FailsAll g.case before fault after → KeepsAll before.tokens after.tokens → Counted before after → after.copies ≤ most_copies → Extends before after
     → Exceeding statements before → Exceeding g.one_query before → IsUnfinished before.copies before.tokens before.fault before.end fault
@@ -140,11 +133,6 @@ unfinished {before} {after} r few copies most x none one =
       refusal = r.refused ∙ refusal_here x;
     }
 
-keeps_copies : (before after : Cursor) (fault : ReadFault) → CopiedAll before fault after → after.copies ≤ most_copies → KeepsCopies texts before fault after
-keeps_copies before after (Limit limit.Copies) c most = c.says
-keeps_copies before after NoMemory c most = tt
-keeps_copies before after other c most = counted_within c.says most
-
 -- a limit is passed
 limited : {before after : Cursor} (fault : ReadFault) → after.copies ≤ most_copies → RefusesAll g.case before fault after → CountsRefused before fault after → CopiedAll before fault after → Extends before after
     → of_texts.IsRefused texts before.copies before.tokens before.fault before.end fault
@@ -152,41 +140,24 @@ limited {before} {after} fault most r n c x =
     whole.refused texts (planned_within limit.Columns) (planned_within limit.Relations) (within_same limit.Columns) (within_same limit.Entries) (within_same limit.Relations) (λ what. (within_fronts what).shorter) case_costs
     relations_too tt before after x fault r
     (record { columns_kept = λ placed shallow. n.columns.begun placed; relations_kept = λ placed shallow. n.relations.begun placed; columns_passed = n.columns.passed; relations_passed = n.relations.passed })
-    (keeps_copies before after fault c most)
+    (keeps_copies texts most fault c)
 
 -- ---- all refusals
 
--- the longest front was taken, and keeps the limits
-fails_within : {before after : Cursor} {fault : ReadFault} → RefusesAll g.case before fault after → CountsRefused before fault after → IsPlaced fault → FailsAll g.case before fault after → KeepsAll before.tokens after.tokens
-fails_within r n placed f = let t = f.few tt in keeps_all r n placed (record { taken = t.taken; whole = t.whole; begun = t.begun })
-
 -- a part of the case was refused, and the text is neither statements alone nor one query behind them
-says_refused : {before after : Cursor} {fault : ReadFault} → RefusesAll g.case before fault after → CountsRefused before fault after → CopiedAll before fault after → Extends before after
-    → Excluded statements before fault after → Excluded g.one_query before fault after → after.copies ≤ most_copies → Says before.copies before.tokens before.fault before.end (of_read fault)
-says_refused {fault = Lex fault} r n c x none one l =
-    unfinished r.says (fails_within r n tt r.says) c.says l x (excluded (λ q. q.says) none) (excluded (λ q. q.says) one)
-says_refused {fault = Unexpected at} r n c x none one l =
-    unfinished r.says (fails_within r n tt r.says) c.says l x (excluded (λ q. q.says) none) (excluded (λ q. q.says) one)
-says_refused {fault = LeftOut word at} r n c x none one l =
-    unfinished r.says (fails_within r n tt r.says) c.says l x (excluded (λ q. q.says) none) (excluded (λ q. q.says) one)
-says_refused {fault = TooDeep at} r n c x none one l = limited (TooDeep at) l r n c x
-says_refused {fault = Limit what} r n c x none one l = limited (Limit what) l r n c x
-says_refused {fault = NoMemory} r n c x none one l = tt
-
 pub refused : {before after : Cursor} {fault : ReadFault} → RefusesAll g.case before fault after → CountsRefused before fault after → CopiedAll before fault after → Extends before after
     → Excluded statements before fault after → Excluded g.one_query before fault after → RefusesCase before (of_read fault) after
-refused r n c x none one = record { says = says_refused r n c x none one }
+refused {fault = TooDeep at} r n c x none one = record { says = λ l. limited (TooDeep at) l r n c x }
+refused {fault = Limit what} r n c x none one = record { says = λ l. limited (Limit what) l r n c x }
+refused {fault = NoMemory} r n c x none one = record { says = λ l. tt }
+refused {fault = other} r n c x none one = record { says = λ l. unfinished r.says (fails_within other r n tt r.says) c.says l x (excluded (λ q. q.says) none) (excluded (λ q. q.says) one) }
 
 -- ---- what stands next is refused: at the end, a token or a lexical fault
-
-says_word : (copied : ℕ) (tokens : List Lexeme) (fault : Option LexFault) (end : ℕ) (left_out : Bool) (t : Lexeme)
-    → IsUnfinished copied tokens fault end (if left_out then LeftOut (map_list folded_byte t.text) t.start else Unexpected t.start)
-    → Says copied tokens fault end (Read (if left_out then LeftOut (map_list folded_byte t.text) t.start else Unexpected t.start))
-says_word copied tokens fault end true t u = u
-says_word copied tokens fault end false t u = u
 
 pub says_next : (copied : ℕ) (tokens : List Lexeme) (fault : Option LexFault) (end here : ℕ) (stands : Result (Option Lexeme) LexFault)
     → IsUnfinished copied tokens fault end (refusal_of here stands) → Says copied tokens fault end (Read (refusal_of here stands))
 says_next copied tokens fault end here (Ok None) u = u
-says_next copied tokens fault end here (Ok (Some t)) u = says_word copied tokens fault end (is_left_out_word t.kind t.text) t u
+says_next copied tokens fault end here (Ok (Some t)) u =
+    cond_both (is_left_out_word t.kind t.text) (LeftOut (map_list folded_byte t.text) t.start) (Unexpected t.start) (λ z. IsUnfinished copied tokens fault end z → Says copied tokens fault end (Read z))
+    (λ e u. u) (λ e u. u) u
 says_next copied tokens fault end here (Err lexical) u = u

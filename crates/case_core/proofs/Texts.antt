@@ -8,12 +8,12 @@ use Rattle.sql_lex.specs.Tokens.{Lexes}
 use Rattle.sql_read.specs.Cursor.{Cursor}
 use Rattle.sql_grammar.specs.Numbering.{Numbers, first_numbers}
 use Rattle.sql_grammar.specs.QueryCopies.{most_copies}
-use Rattle.sql_read.proofs.Cursors.{no_more_tokens}
+use Rattle.sql_read.proofs.code.Cursors.{no_more_tokens}
 use Rattle.schema_read.specs.Declarations.{IsSmall}
 use Rattle.case_core.specs.declared.fault.CaseFault.{CaseFault}
-use Rattle.case_core.specs.declared.fault.CaseFault.TheVariants.{Read, Schema, Scope, QueriesDiffer, NotTwoQueries, NoMemory}
+use Rattle.case_core.specs.declared.fault.CaseFault.TheVariants.{Read, NotTwoQueries}
 use Rattle.case_core.specs.declared.text.CaseText.{CaseText}
-use Rattle.grammar.proofs.Limits.{kept}
+use Rattle.grammar.proofs.languages.Limits.{kept}
 use Rattle.case_core.specs.Cases.{IsRead, cases, shallow_cases}
 use Rattle.case_core.proofs.CaseFronts.{shallow_fronts}
 use Rattle.case_core.specs.ReadingCases.{RefusesCase, TakesCase}
@@ -35,12 +35,9 @@ refused_as {before} {after} e r = subst (λ y. RefusesCase before y after) (sym 
 pub no_text : (text : List ℕ) (start : Cursor) → Lexes 0 text start.tokens start.fault → start.end ≡ length text → start.copies ≡ 0 → (fault : CaseFault) → Says start.copies start.tokens start.fault start.end fault → IsNoText text fault
 no_text text start l e i (Read fault) s =
     record { tokens = start.tokens; fault = start.fault; lexed = l; says = subst (λ end. Says 0 start.tokens start.fault end (Read fault)) e (subst (λ copied. Says copied start.tokens start.fault start.end (Read fault)) i s) }
-no_text text start l e i (Schema fault) s = s
-no_text text start l e i (Scope fault) s = s
-no_text text start l e i (QueriesDiffer left right) s = s
 no_text text start l e i (NotTwoQueries count at) s =
     record { tokens = start.tokens; fault = start.fault; lexed = l; says = subst (λ end. Says 0 start.tokens start.fault end (NotTwoQueries count at)) e (subst (λ copied. Says copied start.tokens start.fault start.end (NotTwoQueries count at)) i s) }
-no_text text start l e i NoMemory s = tt
+no_text text start l e i other s = s
 
 pub text_read : {text : List ℕ} {start end : Cursor} {written : CaseText} {numbers : Numbers} → Lexes 0 text start.tokens start.fault → start.numbers ≡ first_numbers
     → start.copies ≡ 0 → TakesCase start written end → length written.statements ≤ 256 → Each IsSmall written.statements → numbers ≡ end.numbers → end.copies ≤ most_copies → IsRead text written numbers

@@ -5,7 +5,7 @@ use Rattle.sql_model.specs.declared.schema.Schema.{Schema as TheSchema}
 use Rattle.sql_grammar.specs.Numbering.{Numbers}
 use Rattle.schema_read.specs.declared.fault.SchemaFault.{SchemaFault}
 use Rattle.schema_read.specs.declared.fault.SchemaFault.TheVariants as schema_refusal
-use Rattle.schema_read.specs.Builds.{schema_fault}
+use Rattle.schema_read.specs.Builds.{Builds, schema_fault}
 use Rattle.schema_read.specs.Order.{Refuses}
 use Rattle.scope_core.specs.declared.fault.ScopeFault.{ScopeFault}
 use Rattle.scope_core.specs.declared.fault.ScopeFault.TheVariants as scope_refusal
@@ -14,7 +14,7 @@ use Rattle.scope_core.specs.FirstFault.{query_fault, schema_fault as views_fault
 use Rattle.scope_core.specs.WellFormed.{SchemaWellFormed, SchemaWithinWidth, WellFormed, WithinWidth}
 use Rattle.scope_core.proofs.NoFault.{query_fault-none, schema_fault-none}
 use Rattle.case_core.specs.declared.fault.CaseFault.{CaseFault}
-use Rattle.case_core.specs.declared.fault.CaseFault.TheVariants.{Read, Schema, Scope, QueriesDiffer, NotTwoQueries, NoMemory}
+use Rattle.case_core.specs.declared.fault.CaseFault.TheVariants.{Read, QueriesDiffer, NotTwoQueries, NoMemory}
 use Rattle.case_core.specs.declared.text.CaseText.{CaseText}
 use Rattle.case_core.specs.Answer.{HasSchema, IsRefused, IsWellFormed, scope_fault, width_of}
 use Rattle.case_core.specs.Cases.{IsRead}
@@ -23,11 +23,9 @@ use Rattle.case_core.specs.Wrapping.{of_schema, of_scope}
 
 pub text_refused : (text : List ℕ) (fault : CaseFault) → IsNoText text fault → IsRefused text fault
 text_refused text (Read fault) n = n
-text_refused text (Schema fault) n = absurd n
-text_refused text (Scope fault) n = absurd n
-text_refused text (QueriesDiffer left right) n = absurd n
 text_refused text (NotTwoQueries count at) n = n
 text_refused text NoMemory n = tt
+text_refused text other n = absurd n
 
 pub schema_refused : {text : List ℕ} {written : CaseText} {numbers : Numbers} → IsRead text written numbers → (fault : SchemaFault) → Refuses fault (schema_fault written.statements)
     → IsRefused text (of_schema fault)
@@ -44,14 +42,14 @@ cause_behind : (fault : ScopeFault) (first others : Option ScopeFault) → first
 unfolding IsCause
 cause_behind fault first others e c = λ n. ap (λ z. option_or z others) e ∙ c n
 
-module _ {text : List ℕ} {written : CaseText} {numbers : Numbers} {schema : TheSchema} (h : HasSchema text written numbers schema) where
+module _ {text : List ℕ} {written : CaseText} {numbers : Numbers} {schema : TheSchema} (r : IsRead text written numbers) (b : Builds written.statements schema) where
+  pub has_schema : HasSchema text written numbers schema
+  has_schema = record { read = r; built = b }
+
   scope_refused : (fault : ScopeFault) → IsCause fault (scope_fault schema written) → IsRefused text (of_scope fault)
   unfolding IsCause
-  scope_refused (scope_refusal.Refused code at first second) c =
-      record { written = written; numbers = numbers; schema = schema; has_schema = h; first = c (λ e. cc); no_memory = λ e. cc }
-  scope_refused (scope_refusal.TooWide width) c =
-      record { written = written; numbers = numbers; schema = schema; has_schema = h; first = c (λ e. cc); no_memory = λ e. cc }
   scope_refused scope_refusal.NoMemory c = tt
+  scope_refused other c = record { written = written; numbers = numbers; schema = schema; has_schema = has_schema; first = c (λ e. cc); no_memory = λ e. cc }
 
   abbrev of_left : Option ScopeFault
   of_left = query_fault schema written.left
@@ -90,7 +88,7 @@ module _ {text : List ℕ} {written : CaseText} {numbers : Numbers} {schema : Th
           written = written;
           numbers = numbers;
           schema = schema;
-          has_schema = h;
+          has_schema = has_schema;
           well_formed = well_formed;
           left_width = e;
           right_width = i;

@@ -3,7 +3,7 @@ use Rattle.std.proofs.Common.{◌≡◌, ℕ, Bool, true, false, not, ◌&&◌, 
 use Rattle.std.specs.Prelude.{◌==◌, if◌then◌else◌}
 use Rattle.std.specs.List.{list_all}
 use Rattle.std.proofs.lemmas.Bool.{eqb-true}
-use Rattle.grammar.proofs.Sets.{and_left, and_right}
+use Rattle.grammar.proofs.languages.Sets.{and_left, and_right}
 use Rattle.proof_text.specs.Signs as s
 use Rattle.proof_text.specs.Signs.{Sign, code, sign}
 use Rattle.proof_text.specs.Reading.{Rest, Reading, ◌>>=◌, sign_at, next, passed, expected, word_at, bad}

@@ -4,10 +4,10 @@ use Rattle.std.specs.Prelude.{◌==◌, if◌then◌else◌}
 use Rattle.grammar.specs.Form.{token, seq, alt, map, ref, language}
 use Rattle.grammar.specs.Lookahead.{Lookahead}
 use Rattle.grammar.specs.Reading.{Took, Failed, Remains}
-use Rattle.grammar.proofs.Choices.{is_absent}
-use Rattle.grammar.proofs.Predictions.{ok, ahead, within, limits_within, produced}
-use Rattle.grammar.proofs.Remaining as r
-use Rattle.grammar.proofs.Steps.{IsWithin, token_took, token_failed, token_ended}
+use Rattle.grammar.proofs.readers.Choices.{is_absent}
+use Rattle.grammar.proofs.readers.Predictions.{ok, ahead, within, limits_within, produced}
+use Rattle.grammar.proofs.readers.Remaining as r
+use Rattle.grammar.proofs.readers.Steps.{IsWithin, token_took, token_failed, token_ended}
 use Rattle.proof_text.specs.declared.cursor.Stop.TheVariants.{Unexpected, TooMany, TooDeep, NoMemory}
 use Rattle.proof_text.specs.Signs.{Sign, code, sign}
 use Rattle.proof_text.specs.Grammar.{F, Name, Tree, rules, of_code}

@@ -3,7 +3,7 @@ use Rattle.std.proofs.Common.{◌≡◌, ℕ, ◌+◌, ◌-◌, ◌≤◌, false
 use Rattle.std.proofs.lemmas.List.{append-nil, append_cancel_right}
 use Rattle.grammar.specs.Form.{ref}
 use Rattle.grammar.specs.Reading.{Took, Exceeded, Passes, IsLongestFront}
-use Rattle.grammar.proofs.Longest.{took_longest, failed_longest}
+use Rattle.grammar.proofs.readers.Longest.{took_longest, failed_longest}
 use Rattle.proof_text.specs.declared.line.LineStep.{LineStep}
 use Rattle.proof_text.specs.declared.cursor.Stop.{Stop}
 use Rattle.proof_text.specs.declared.cursor.Stop.TheVariants.{Unexpected, TooMany, TooDeep, NoMemory}

@@ -7,9 +7,9 @@ use Rattle.std.proofs.Math.Bool.{and-false}
 use Rattle.grammar.specs.Form.{empty, seq, alt, map, ref}
 use Rattle.grammar.specs.Productions.{skip_then}
 use Rattle.grammar.specs.Reading.{Took}
-use Rattle.grammar.proofs.Predictions.{ok}
-use Rattle.grammar.proofs.Sets.{and_left, and_right}
-use Rattle.grammar.proofs.Steps.{empty_took}
+use Rattle.grammar.proofs.readers.Predictions.{ok}
+use Rattle.grammar.proofs.languages.Sets.{and_left, and_right}
+use Rattle.grammar.proofs.readers.Steps.{empty_took}
 use Rattle.u_rules.specs.declared.rule.Rule.{Rule}
 use Rattle.u_rules.specs.declared.rule.Rule.TheVariants as rule
 use Rattle.u_rules.specs.declared.rule.Arg.{Arg}

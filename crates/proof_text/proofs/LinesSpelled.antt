@@ -4,7 +4,7 @@ use Rattle.std.specs.Prelude.{◌==◌, nat_lt, if◌then◌else◌, codes}
 use Rattle.std.specs.Fmt.{decimal}
 use Rattle.std.specs.List.{flat_map}
 use Rattle.std.proofs.lemmas.Bool.{eqb-true, eq-eqb, ltb-true, lt-ltb}
-use Rattle.grammar.proofs.Sets.{and_left, and_right}
+use Rattle.grammar.proofs.languages.Sets.{and_left, and_right}
 use Rattle.data_model.specs.Lists.{Each}
 use Rattle.u_rules.specs.declared.rule.Rule.{Rule}
 use Rattle.u_rules.specs.declared.rule.Arg.{Arg}

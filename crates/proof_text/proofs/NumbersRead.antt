@@ -5,10 +5,10 @@ use Rattle.std.proofs.lemmas.Bool.{eq-eqb, eqb-true, ltb-true, ltb-false, lt-ltb
 use Rattle.std.specs.Prelude.{◌==◌, nat_lt, if◌then◌else◌, fold}
 use Rattle.grammar.specs.Form.{empty, token, seq, alt, ref}
 use Rattle.grammar.specs.Reading.{Took, Failed}
-use Rattle.grammar.proofs.Predictions.{ok, ahead, known, produced}
-use Rattle.grammar.proofs.Sets.{and_left, and_right}
-use Rattle.grammar.proofs.Choices.{is_absent, absent_failed}
-use Rattle.grammar.proofs.Steps.{empty_took}
+use Rattle.grammar.proofs.readers.Predictions.{ok, ahead, known, produced}
+use Rattle.grammar.proofs.languages.Sets.{and_left, and_right}
+use Rattle.grammar.proofs.readers.Choices.{is_absent, absent_failed}
+use Rattle.grammar.proofs.readers.Steps.{empty_took}
 use Rattle.proof_text.specs.Signs.{Sign, code, sign}
 use Rattle.proof_text.specs.Grammar.{value_of, F, Place, Behind1, Behind2, Behind3, Behind4, Behind5, Behind6, Behind7, Behind8, Behind9, Behind10, upto, greatest, number, count, rules, no_digits, digit_then, below, of_code, above, between, beside, from_four}
 use Rattle.proof_text.specs.Reading.{Rest, bad, sign_at, number_at, count_at, is_longer, longest, longest_at}

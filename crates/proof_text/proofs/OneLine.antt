@@ -2,8 +2,8 @@
 use Rattle.std.proofs.Common.{◌≡◌, ℕ, zero, suc, Bool, true, List, [], ◌∷◌, refl}
 use Rattle.std.specs.Prelude.{None}
 use Rattle.std.specs.List.{list_all}
-use Rattle.grammar.proofs.Sets.{and_left, and_right}
-use Rattle.grammar.proofs.Predictions.{named}
+use Rattle.grammar.proofs.languages.Sets.{and_left, and_right}
+use Rattle.grammar.proofs.readers.Predictions.{named}
 use Rattle.grammar.specs.Lookahead.{AreAll, PredictiveGrammar, is_right, unlimited}
 use Rattle.grammar.specs.Language.{IsUnambiguous}
 use Rattle.proof_text.specs.Signs as s

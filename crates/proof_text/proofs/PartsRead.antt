@@ -5,10 +5,10 @@ use Rattle.std.proofs.lemmas.Bool.{eqb-true}
 use Rattle.grammar.specs.Form.{empty, seq, star, ref}
 use Rattle.grammar.specs.Productions.{skip_then, then_skip, optional, separated}
 use Rattle.grammar.specs.Reading.{Took}
-use Rattle.grammar.proofs.Predictions.{ok, ahead, named}
-use Rattle.grammar.proofs.Choices.{is_absent}
-use Rattle.grammar.proofs.Remaining as r
-use Rattle.grammar.proofs.Steps.{empty_took}
+use Rattle.grammar.proofs.readers.Predictions.{ok, ahead, named}
+use Rattle.grammar.proofs.readers.Choices.{is_absent}
+use Rattle.grammar.proofs.readers.Remaining as r
+use Rattle.grammar.proofs.readers.Steps.{empty_took}
 use Rattle.u_terms.specs.declared.term.Val.{Val}
 use Rattle.proof_text.specs.declared.cursor.Stop.TheVariants.{Unexpected, TooMany, TooDeep, NoMemory}
 use Rattle.proof_text.specs.Signs.{code, sign}

@@ -5,8 +5,8 @@ use Rattle.std.proofs.Math.Dec.{eqb-suc-zero}
 use Rattle.grammar.specs.Form.{seq, ref}
 use Rattle.grammar.specs.Productions.{skip_then}
 use Rattle.grammar.specs.Reading.{Exceeded}
-use Rattle.grammar.proofs.Predictions.{ok, produced}
-use Rattle.grammar.proofs.Remaining.{too_deep}
+use Rattle.grammar.proofs.readers.Predictions.{ok, produced}
+use Rattle.grammar.proofs.readers.Remaining.{too_deep}
 use Rattle.u_terms.specs.declared.term.U.{U}
 use Rattle.u_terms.specs.declared.term.Val.{Val}
 use Rattle.u_terms.specs.declared.term.U.TheVariants as u

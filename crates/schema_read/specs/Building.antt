@@ -62,8 +62,7 @@ IsNarrowRelation (relation.Table table) = IsNarrow table
 IsNarrowRelation (relation.View query at) = Unit {0}
 
 abbrev pub AreNarrow : Relations → Type 0
-AreNarrow [] = Unit {0}
-AreNarrow (r ∷ relations) = IsNarrowRelation r.1 × AreNarrow relations
+AreNarrow relations = Each (λ r. IsNarrowRelation r.1) relations
 
 -- ---- the view of an index
 abbrev pub items_with_name : List NameAt → ℕ → List Item → Option Name → List Item

@@ -1,33 +1,19 @@
--- What the functions that read statements and cases tell of what was copied where they refuse a token. As the reader of queries they tell it by
--- texts that go on from there with tokens that copy nothing.
-use Rattle.std.specs.Prelude.{◌≤◌, ◌+◌, None, Result, Ok, Err}
-use Rattle.grammar.specs.Completions.{Reaches}
+-- What the functions that read statements and cases tell of what was copied where they refuse a token: what the reader of queries tells, and the
+-- same where columns or relations are too many, which queries do not count.
+use Rattle.std.specs.Prelude.{Result, Ok, Err}
 use Rattle.sql_read.specs.declared.fault.ReadFault.{ReadFault}
-use Rattle.sql_read.specs.declared.fault.ReadFault.TheVariants.{Lex, Unexpected, LeftOut, TooDeep, Limit, NoMemory}
+use Rattle.sql_read.specs.declared.fault.ReadFault.TheVariants.{Limit}
 use Rattle.sql_read.specs.declared.fault.LimitKind.TheVariants as limit
-use Rattle.sql_read.specs.Copied.{CopiesTooMuch}
+use Rattle.sql_read.specs.Copied as of_query
+use Rattle.sql_read.specs.Copied.{CopiesSoFar}
 use Rattle.sql_read.specs.Cursor.{Cursor}
-use Rattle.sql_read.specs.Reads.{of_form}
 use Rattle.sql_grammar.specs.Numbering.{Built}
-use Rattle.sql_grammar.specs.QueryCopies.{copies_nothing}
 use Rattle.sql_grammar.specs.QueryGrammar.{The}
 
--- what a text copies that goes on from here and copies nothing more was counted from the start up to here
-pub record CopiesCounted {V A : Type 0} (f : The V) (h : V → Built A) (start before after : Cursor) : Type 0 where
-  pub value : V
-  pub up_to : Reaches copies_nothing (of_form None f) before.tokens value after.tokens
-  pub count : start.copies + (h value).copies ≤ after.copies
-
 abbrev pub Says : {V A : Type 0} → The V → (V → Built A) → Cursor → Cursor → ReadFault → Cursor → Type 0
-Says f h start before (Lex fault) after = CopiesCounted f h start before after
-Says f h start before (Unexpected at) after = CopiesCounted f h start before after
-Says f h start before (LeftOut word at) after = CopiesCounted f h start before after
-Says f h start before (TooDeep at) after = CopiesCounted f h start before after
-Says f h start before (Limit limit.Copies) after = CopiesTooMuch f h start before after
-Says f h start before (Limit limit.Entries) after = CopiesCounted f h start before after
-Says f h start before (Limit limit.Columns) after = CopiesCounted f h start before after
-Says f h start before (Limit limit.Relations) after = CopiesCounted f h start before after
-Says f h start before NoMemory after = Unit {0}
+Says f h start before (Limit limit.Columns) after = CopiesSoFar f h start before after
+Says f h start before (Limit limit.Relations) after = CopiesSoFar f h start before after
+Says f h start before fault after = of_query.Says f h start before fault after
 
 -- up to a refusal
 pub record CopiedToFault {V A : Type 0} (f : The V) (h : V → Built A) (start before : Cursor) (fault : ReadFault) (after : Cursor) : Type 0 where

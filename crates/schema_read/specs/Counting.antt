@@ -8,9 +8,8 @@ use Rattle.sql_read.specs.declared.fault.ReadFault.{ReadFault}
 use Rattle.sql_read.specs.declared.fault.ReadFault.TheVariants.{Limit}
 use Rattle.sql_read.specs.declared.fault.LimitKind.{LimitKind}
 use Rattle.sql_read.specs.Cursor.{Cursor}
-use Rattle.sql_read.specs.ReadingEntries.{allowed}
 pub use Rattle.sql_read.specs.Reads.{IsPlaced}
-use Rattle.sql_read.specs.Reads.{Told, ReadsWithin, few_form, of_form}
+use Rattle.sql_read.specs.Reads.{Told, ReadsWithin, allowed, few_form, of_form}
 use Rattle.sql_grammar.specs.Numbering.{Built, each}
 use Rattle.sql_grammar.specs.QueryGrammar.{The}
 use Rattle.schema_read.specs.StatementGrammar as g

@@ -15,7 +15,7 @@ use Rattle.sql_model.specs.declared.tree.Block.{roll-Block}
 use Rattle.sql_model.specs.Compute.{everything}
 use Rattle.sql_grammar.specs.Kinds.{kind_of}
 use Rattle.sql_grammar.specs.Numbering.{first_numbers}
-use Rattle.sql_grammar.specs.QueryGrammar.{rules}
+use Rattle.sql_grammar.specs.Queries.{rules}
 use Rattle.sql_grammar.specs.QuerySamples.{tokens}
 use Rattle.schema_read.specs.StatementGrammar as g
 use Rattle.schema_read.specs.StatementLimits.{few_columns}

@@ -1,7 +1,7 @@
 -- What a list of tokens spells as statements, each with its semicolon, and where it passes the limits on depth and length.
 use Rattle.std.specs.Prelude.{◌≡◌, List, Some, None}
 use Rattle.grammar.specs.Language.{Language}
-use Rattle.grammar.specs.Limits.{IsFirstBeyond, KeepsWithin}
+use Rattle.grammar.specs.Limits.{IsFirstBeyond}
 use Rattle.sql_lex.specs.Lexemes.{Lexeme}
 use Rattle.sql_model.specs.declared.statement.Statement.{Statement}
 use Rattle.sql_grammar.specs.Numbering.{Numbers, Built}
@@ -31,7 +31,3 @@ Begins ts = statements.front ts
 -- the token opens too many levels, or makes a chain or a list too long
 abbrev pub IsTooDeep : List Lexeme → Lexeme → Type 0
 IsTooDeep = IsFirstBeyond statements shallow_statements
-
--- none of the tokens at which statements go on is too deep
-abbrev pub IsShallow : List Lexeme → Type 0
-IsShallow = KeepsWithin statements shallow_statements

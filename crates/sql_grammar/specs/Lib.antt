@@ -2,7 +2,9 @@ pub mod Kinds
 pub mod TokenValues
 pub mod Numbering
 pub mod QueryTrees
+pub mod QueryTailTrees
 pub mod QueryGrammar
+pub mod QueryTails
 pub mod Queries
 pub mod QueryEntries
 pub mod QueryCopies

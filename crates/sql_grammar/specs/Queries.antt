@@ -1,14 +1,19 @@
--- What a list of tokens spells as a query, and where it passes the limits on depth and length.
+-- The grammar of queries, what a list of tokens spells as a query, and where it passes the limits on depth and length.
 use Rattle.std.specs.Prelude.{ℕ, ◌≡◌, List, Some, None}
-use Rattle.grammar.specs.Form.{Room, form_language, language}
+use Rattle.grammar.specs.Form.{Room, Rules, form_language, language, ref}
 use Rattle.grammar.specs.Language.{Language}
-use Rattle.grammar.specs.Limits.{IsFirstBeyond, KeepsWithin}
+use Rattle.grammar.specs.Limits.{IsFirstBeyond}
 use Rattle.sql_lex.specs.Lexemes.{Lexeme}
 use Rattle.sql_model.specs.declared.tree.Query.{Query}
-use Rattle.sql_grammar.specs.Kinds.{kind_of}
+use Rattle.sql_grammar.specs.Kinds.{Kind, kind_of}
 use Rattle.sql_grammar.specs.Numbering.{Numbers, Built}
-use Rattle.sql_grammar.specs.QueryGrammar.{Production, Read, The, rules}
+use Rattle.sql_grammar.specs.QueryGrammar.{Production, Read, The, from, listed, rules_with}
 use Rattle.sql_grammar.specs.QueryGrammar as g
+use Rattle.sql_grammar.specs.QueryTails.{tail_rules}
+
+-- the grammar of queries: FROM is a list of items
+abbrev pub rules : Rules Lexeme Kind Production Read
+rules = rules_with tail_rules (listed (ref from))
 
 -- levels that may be open at once
 abbrev pub most_levels : ℕ
@@ -38,7 +43,3 @@ Begins ts = queries.front ts
 -- the token is the first that opens too many levels or makes a chain too long
 abbrev pub IsTooDeep : List Lexeme → Lexeme → Type 0
 IsTooDeep = IsFirstBeyond queries shallow_queries
-
--- none of the tokens at which a text goes on is too deep
-abbrev pub IsShallow : List Lexeme → Type 0
-IsShallow = KeepsWithin queries shallow_queries

@@ -15,6 +15,7 @@ use Rattle.sql_grammar.specs.Numbering.{Built}
 use Rattle.sql_grammar.specs.QueryTrees as t
 use Rattle.sql_grammar.specs.QueryTrees.{Listed}
 use Rattle.sql_grammar.specs.QueryGrammar.{Production, Read, The, Froms, a, join_on, cross_join, rules_with, query, entry}
+use Rattle.sql_grammar.specs.QueryTails.{tail_rules}
 use Rattle.sql_grammar.specs.Queries.{queries}
 
 -- an entry after a comma, or one that is joined
@@ -49,7 +50,7 @@ abbrev pub few_froms : ℕ → The Froms
 few_froms most = map items_of (seq (ref entry) (further_entries most))
 
 abbrev pub few_rules : ℕ → Rules Lexeme Kind Production Read
-few_rules most = rules_with (few_froms most)
+few_rules most = rules_with tail_rules (few_froms most)
 
 -- entries of a block
 abbrev pub most_entries : ℕ

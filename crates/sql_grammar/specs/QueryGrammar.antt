@@ -2,8 +2,7 @@
 -- prefix NOT and prefix minus opens a level; within the limits a chain of set operators, of `+ - ||` or of `* /` has at most 63 of them,
 -- and one of AND or OR and a list at most 255.
 use Rattle.std.specs.Prelude.{List, [], ◌∷◌, Option, Some, None}
-use Rattle.std.proofs.Common.{inl, inr}
-use Rattle.grammar.specs.Form.{Form, Rules, empty, token, seq, alt, star, nest, map, only, nonempty, counted, ref}
+use Rattle.grammar.specs.Form.{Form, Rules, token, seq, alt, star, nest, map, only, counted, ref}
 use Rattle.grammar.specs.Productions.{skip_then, then_skip, optional, separated}
 use Rattle.sql_model.specs.declared.tree.Expr.{Expr}
 use Rattle.sql_model.specs.declared.tree.Item.{Item}
@@ -16,7 +15,8 @@ use Rattle.sql_grammar.specs.Kinds.{Kind, same, among}
 pub use Rattle.sql_grammar.specs.Kinds.{name_kinds}
 use Rattle.sql_grammar.specs.Numbering.{Built, plain}
 use Rattle.sql_grammar.specs.QueryTrees as t
-use Rattle.sql_grammar.specs.QueryTrees.{Left, Listed, SetWord, Inside, not_sub}
+use Rattle.sql_grammar.specs.QueryTrees.{Left, Listed, SetWord, not_sub}
+use Rattle.sql_grammar.specs.QueryTailTrees.{Inside}
 
 pub data Production : Type 0 where
   query : Production
@@ -37,7 +37,7 @@ pub data Production : Type 0 where
   unary : Production
   primary : Production
   agg : Production
-  -- of these the grammar has no need: they are what one token of lookahead can read
+  -- of these the grammar has no need: they are what one token of lookahead can read (QueryTails)
   set_tail : Production
   and_tail : Production
   expr_tail : Production
@@ -229,25 +229,6 @@ minus = map t.minus (nest (seq (a k.Minus) (ref unary)))
 abbrev pub subquery : The (Built Expr)
 subquery = map t.sub (in_parentheses (ref query))
 
--- a query that begins with a parenthesis, and goes on behind it
-abbrev pub longer_query : The (Built Query)
-longer_query = map (λ p. p.1 p.0) (seq (parens (ref query)) (nonempty (ref set_tail)))
-
--- , expr
-abbrev pub next_comma : The (Built Expr)
-next_comma = skip_then (a k.Comma) (ref expr)
-
--- {, expr}
-abbrev pub commas : The (List (Built Expr))
-commas = star (Some 255) next_comma
-
--- what may stand behind a parenthesis, with what may follow an expression there
-abbrev pub insides : {M : Type 0} → The M → The (Inside M)
-insides more =
-    alt (map (λ q. inl q) (alt (map (λ p. p.1 p.0) (seq (ref block) (ref set_tail))) longer_query))
-    (alt (map (λ p. inr (inl p)) (seq (in_parentheses (ref query)) more))
-    (map (λ p. inr (inr p)) (seq (only not_sub (ref expr)) more)))
-
 -- the items of FROM, each with its entries
 abbrev pub Froms : Type 0
 Froms = Built (List Entry) × List (Built (List Entry))
@@ -260,32 +241,32 @@ block_with froms =
     (seq (skip_then (a k.From) froms)
     (seq (optional (skip_then (a k.Where) (ref expr))) (seq group_by (optional (skip_then (a k.Having) (ref expr)))))))))
 
--- with these items of FROM in each block
-abbrev pub rules_with : The Froms → Rules Lexeme Kind Production Read
-rules_with froms query = map (λ p. t.sets p.0 p.1) (seq (ref part) unions)
-rules_with froms part = map (λ p. t.sets p.0 p.1) (seq (ref operand) intersects)
-rules_with froms operand = alt (ref block) (parens (ref query))
-rules_with froms block = block_with froms
-rules_with froms item =
+-- With these items of FROM in each block. What the further names spell is given: no production has need of it.
+abbrev pub rules_with : Rules Lexeme Kind Production Read → The Froms → Rules Lexeme Kind Production Read
+rules_with tails froms query = map (λ p. t.sets p.0 p.1) (seq (ref part) unions)
+rules_with tails froms part = map (λ p. t.sets p.0 p.1) (seq (ref operand) intersects)
+rules_with tails froms operand = alt (ref block) (parens (ref query))
+rules_with tails froms block = block_with froms
+rules_with tails froms item =
     alt (map t.star_item (a k.Star))
     (alt (map t.alias_star_item (then_skip name (seq (a k.Dot) (a k.Star))))
     (map (λ p. t.value_item p.0 p.1) (seq (ref expr) (optional alias))))
-rules_with froms from = map (λ p. t.entries p.0 p.1) (seq (ref entry) (star None (alt join_on cross_join)))
-rules_with froms entry =
+rules_with tails froms from = map (λ p. t.entries p.0 p.1) (seq (ref entry) (star None (alt join_on cross_join)))
+rules_with tails froms entry =
     alt (map (λ p. t.table_entry p.0 p.1) (seq name (optional alias)))
     (map (λ p. t.query_entry p.0 p.1) (seq (parens (ref query)) alias))
-rules_with froms reference = map t.column (seq (optional (then_skip name (a k.Dot))) name)
-rules_with froms expr = map (t.chained t.or_node) (seq (ref conj) ors)
-rules_with froms conj = map (t.chained t.and_node) (seq (ref neg) ands)
-rules_with froms neg = alt not_neg (ref test)
-rules_with froms test =
+rules_with tails froms reference = map t.column (seq (optional (then_skip name (a k.Dot))) name)
+rules_with tails froms expr = map (t.chained t.or_node) (seq (ref conj) ors)
+rules_with tails froms conj = map (t.chained t.and_node) (seq (ref neg) ands)
+rules_with tails froms neg = alt not_neg (ref test)
+rules_with tails froms test =
     alt exists
     (map (λ p. t.tested p.0 p.1) (seq (counted (ref value)) (optional (ref rest))))
-rules_with froms rest = alt comparison (alt in_query (alt in_list (alt between like)))
-rules_with froms value = map (λ p. t.operated p.0 p.1) (seq (ref term) sums)
-rules_with froms term = map (λ p. t.operated p.0 p.1) (seq (ref unary) products)
-rules_with froms unary = alt minus (ref primary)
-rules_with froms primary =
+rules_with tails froms rest = alt comparison (alt in_query (alt in_list (alt between like)))
+rules_with tails froms value = map (λ p. t.operated p.0 p.1) (seq (ref term) sums)
+rules_with tails froms term = map (λ p. t.operated p.0 p.1) (seq (ref unary) products)
+rules_with tails froms unary = alt minus (ref primary)
+rules_with tails froms primary =
     alt (map t.number_literal (a k.Number))
     (alt (map t.text_literal (a k.Text))
     (alt (map (λ x. plain x) (ref reference))
@@ -293,16 +274,7 @@ rules_with froms primary =
     (alt call
     (alt (parens (only not_sub (ref expr)))
     subquery)))))
-rules_with froms agg =
+rules_with tails froms agg =
     alt (map (λ p. t.count_rows p.0) (seq (a k.Count) (parens (a k.Star))))
     (map (λ p. t.aggregated p.0 p.1.0 p.1.1) (seq aggregate_word (parens (seq (optional (a k.Distinct)) (ref expr)))))
-rules_with froms set_tail = map (λ p. t.combined p.0 p.1) (seq intersects unions)
-rules_with froms and_tail = map (λ p. t.joined p.0 p.1) (seq ands ors)
-rules_with froms expr_tail =
-    map (λ p. t.continued p.0 p.1.0 p.1.1.0 p.1.1.1)
-    (seq (counted (seq products sums)) (seq (optional (ref rest)) (seq ands ors)))
-rules_with froms inner = insides empty
-rules_with froms in_inner = insides commas
-
-abbrev pub rules : Rules Lexeme Kind Production Read
-rules = rules_with (listed (ref from))
+rules_with tails froms other = tails other

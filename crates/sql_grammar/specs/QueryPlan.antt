@@ -10,9 +10,13 @@ use Rattle.sql_grammar.specs.Kinds as k
 use Rattle.sql_grammar.specs.Kinds.{Kind, kind_of}
 use Rattle.sql_grammar.specs.Numbering.{Built, plain}
 use Rattle.sql_grammar.specs.QueryTrees as t
-use Rattle.sql_grammar.specs.QueryTrees.{Left, Enclosed, Inside}
+use Rattle.sql_grammar.specs.QueryTailTrees as tails
+use Rattle.sql_grammar.specs.QueryTrees.{Left}
+use Rattle.sql_grammar.specs.QueryTailTrees.{Enclosed, Inside}
 use Rattle.sql_grammar.specs.QueryEntries.{few_froms}
-use Rattle.sql_grammar.specs.QueryGrammar.{Production, Read, The, Froms, block_with, a, one_of, name, called_word, in_parentheses, parens, listed, alias, not_neg, exists, minus, commas, comparison, rules, query, part, operand, block, item, from, entry, reference, expr, conj, neg, test, rest, value, term, unary, primary, agg, set_tail, and_tail, expr_tail, inner, in_inner}
+use Rattle.sql_grammar.specs.QueryGrammar.{Production, Read, The, Froms, block_with, a, one_of, name, called_word, in_parentheses, parens, listed, alias, not_neg, exists, minus, comparison, block, item, from, reference, expr, rest, value, primary, agg, set_tail, and_tail, expr_tail, inner, in_inner}
+use Rattle.sql_grammar.specs.QueryTails.{commas}
+use Rattle.sql_grammar.specs.Queries.{rules}
 
 -- ---- first parts of expressions
 
@@ -54,6 +58,11 @@ words dot named called =
     (alt (word_with (a k.Count) count_arguments dot named called)
     (word_with other_aggregate (parens one_argument) dot named called)))
 
+-- a column, from its first name and what follows that
+abbrev pub column_or : Lexeme → Option Lexeme → Expr
+column_or word None = t.column (None, word)
+column_or qual (Some word) = t.column (Some qual, word)
+
 abbrev pub column_of : Lexeme → Option Lexeme → Built Expr
 column_of word None = plain (t.column (None, word))
 column_of qual (Some word) = plain (t.column (Some qual, word))
@@ -63,7 +72,7 @@ named_first = words dot_name column_of (λ x. x)
 
 -- ( .. ) as the first part of an expression
 abbrev pub enclosed_first : The (Built Expr)
-enclosed_first = map t.enclosed (in_parentheses (ref inner))
+enclosed_first = map tails.enclosed (in_parentheses (ref inner))
 
 -- ---- expressions by their first parts
 
@@ -145,7 +154,7 @@ between_values = seq (ref value) (skip_then (a k.And) (ref value))
 -- IN ( .. ), BETWEEN value AND value and LIKE value, perhaps behind a NOT
 abbrev pub by_word : The (Option Lexeme → Left → Built Expr)
 by_word =
-    alt (map (λ p word left. t.in_inside word p.0 p.1 left) (seq (a k.In) (parens (ref in_inner))))
+    alt (map (λ p word left. tails.in_inside word p.0 p.1 left) (seq (a k.In) (parens (ref in_inner))))
     (alt (map (λ p word left. t.between word p.0 p.1 left) (skip_then (a k.Between) between_values))
     (map (λ x word left. t.like word x left) (skip_then (a k.Like) (ref value))))
 
@@ -160,10 +169,6 @@ plan_of_rest =
 abbrev pub plan_with : The Froms → Rules Lexeme Kind Production Read
 plan_with froms item = plan_of_item
 plan_with froms reference = map (λ p. column_or p.0 p.1) (seq name dot_name)
-  where
-    column_or : Lexeme → Option Lexeme → Expr
-    column_or word None = t.column (None, word)
-    column_or qual (Some word) = t.column (Some qual, word)
 plan_with froms rest = plan_of_rest
 plan_with froms primary = alt literal (alt named_first enclosed_first)
 plan_with froms agg =
@@ -171,22 +176,8 @@ plan_with froms agg =
     (map (λ p. p.1 p.0) (seq other_aggregate (parens one_argument)))
 plan_with froms inner = plan_of_insides empty
 plan_with froms in_inner = plan_of_insides commas
-plan_with froms query = rules query
-plan_with froms part = rules part
-plan_with froms operand = rules operand
 plan_with froms block = block_with froms
-plan_with froms from = rules from
-plan_with froms entry = rules entry
-plan_with froms expr = rules expr
-plan_with froms conj = rules conj
-plan_with froms neg = rules neg
-plan_with froms test = rules test
-plan_with froms value = rules value
-plan_with froms term = rules term
-plan_with froms unary = rules unary
-plan_with froms set_tail = rules set_tail
-plan_with froms and_tail = rules and_tail
-plan_with froms expr_tail = rules expr_tail
+plan_with froms other = rules other
 
 abbrev pub plan : Rules Lexeme Kind Production Read
 plan = plan_with (listed (ref from))

@@ -1,7 +1,6 @@
 -- The trees of queries, from what is read of their parts. A node's place is that of its first operand in the text, of its operator where
 -- that comes first, or of the parenthesis of a subquery.
-use Rattle.std.specs.Prelude.{ℕ, ◌+◌, ◌*◌, Bool, true, false, not, List, [], ◌∷◌, ◌++◌, length, Option, Some, None, ◌⊎◌}
-use Rattle.std.proofs.Common.{inl, inr}
+use Rattle.std.specs.Prelude.{ℕ, ◌+◌, ◌*◌, Bool, true, false, not, List, [], ◌∷◌, ◌++◌, length, Option, Some, None}
 use Rattle.sql_model.specs.declared.symbols.Lit.{Lit}
 use Rattle.sql_model.specs.declared.symbols.LitKind.TheVariants as literal
 use Rattle.sql_model.specs.declared.tree.Expr.{Expr}
@@ -162,21 +161,6 @@ abbrev pub tested : Left → Option (Left → Built Expr) → Built Expr
 tested left None = left.0
 tested left (Some rest) = rest left
 
--- ---- what follows the first part of an expression or a query
-
--- an expression, from its first part of this many tokens and what follows it: `* /`, `+ - ||`, a test, AND and OR
-abbrev pub continued : (List (Lexeme × Built Expr) × List (Lexeme × Built Expr)) × ℕ → Option (Left → Built Expr) → List (Built Expr) → List (Built Expr) → Left → Built Expr
-continued operators rest ands ors first =
-    chained or_node (
-      chained and_node
-          (tested (operated (operated first.0 operators.0.0) operators.0.1, first.1 + operators.1) rest, ands),
-      ors,
-    )
-
--- the same, from a part of AND
-abbrev pub joined : List (Built Expr) → List (Built Expr) → Built Expr → Built Expr
-joined ands ors first = chained or_node (chained and_node (first, ands), ors)
-
 -- ---- calls and subqueries
 
 abbrev pub exists : Lexeme × Built Query → Built Expr
@@ -302,30 +286,3 @@ union_word word (Some all) = (s.UnionAll, word.start)
 abbrev pub sets : Built Query → List (SetWord × Built Query) → Built Query
 sets left [] = left
 sets left (p ∷ others) = sets (mapped (λ q. query.Set p.0.0 q.0 q.1 p.0.1) (both left p.1)) others
-
--- a query, from its first operand and what follows it: INTERSECT, and UNION and EXCEPT
-abbrev pub combined : List (SetWord × Built Query) → List (SetWord × Built Query) → Built Query → Built Query
-combined intersects unions first = sets (sets first intersects) unions
-
--- ---- what stands in parentheses
-
--- a query, with the parenthesis before it
-abbrev pub Enclosed : Type 0
-Enclosed = Lexeme × Built Query
-
--- A query that is not in parentheses as a whole; one that is, with what follows it; or an expression that is no subquery, with the same.
-abbrev pub Inside : Type 0 → Type 0
-Inside M = Built Query ⊎ ((Enclosed × M) ⊎ (Built Expr × M))
-
--- the expression that ( .. ) is: a query in more parentheses is one subquery, at the first of them
-abbrev pub enclosed : Lexeme × Inside (Unit {0}) → Built Expr
-enclosed (open_, inl q) = sub (open_, q)
-enclosed (open_, inr (inl p)) = sub (open_, p.0.1)
-enclosed (open_, inr (inr p)) = p.0
-
--- what IN ( .. ) tests: a query, a list whose first member is a subquery, or another list
-abbrev pub in_inside : Option Lexeme → Lexeme → Inside (List (Built Expr)) → Left → Built Expr
-in_inside word in_word (inl q) left = in_query word in_word q left
-in_inside word in_word (inr (inl (p, []))) left = in_query word in_word p.1 left
-in_inside word in_word (inr (inl (p, next ∷ others))) left = in_list word (sub p, next ∷ others) left
-in_inside word in_word (inr (inr p)) left = in_list word p left

@@ -10,12 +10,12 @@ ghost use Rattle.sql_lex.specs.Lexemes.{Lexeme};
 ghost use Rattle.sql_model.specs.declared.tree.Query.{Query};
 ghost use Rattle.sql_grammar.specs.Kinds.{kind_of};
 ghost use Rattle.sql_grammar.specs.Numbering.{Built, Numbers};
-ghost use Rattle.sql_grammar.specs.Queries.{Begins, IsTooDeep, Spells, of_production, queries, shallow_queries};
+ghost use Rattle.sql_grammar.specs.Queries.{Begins, IsTooDeep, of_production, queries, rules, shallow_queries, Spells};
 ghost use Rattle.sql_grammar.specs.QueryCopies.{IsCopyTooMany, copies_nothing, most_copies, within_copies};
 ghost use Rattle.sql_grammar.specs.QueryEntries.{IsEntryTooMany, few_queries, few_rules, most_further};
 ghost use Rattle.sql_grammar.specs.QueryPlan.{few_plan, of_plan};
 ghost use Rattle.sql_grammar.specs.QueryLookahead.{table};
-ghost use Rattle.sql_grammar.specs.QueryGrammar.{Production, Read, query, rules};
+ghost use Rattle.sql_grammar.specs.QueryGrammar.{Production, Read, query};
 
 /// A text may go on after no tokens, after fewer tokens than it may go on after, and after a query.
 pub fn fronts()

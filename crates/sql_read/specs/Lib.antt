@@ -7,5 +7,4 @@ pub mod Parts
 pub mod Reading
 pub mod ReadingTexts
 pub mod ReadingQueries
-pub mod ReadingEntries
 pub mod Copied

@@ -11,7 +11,7 @@ use Rattle.sql_read.specs.declared.reading.inside.Grouped.{Grouped}
 use Rattle.sql_read.specs.declared.reading.inside.Grouped.TheVariants as grouped
 use Rattle.sql_grammar.specs.Numbering.{Built, plain, mapped}
 use Rattle.sql_grammar.specs.QueryPlan.{Starred}
-use Rattle.sql_grammar.specs.QueryTrees.{Inside}
+use Rattle.sql_grammar.specs.QueryTailTrees.{Inside}
 use Rattle.sql_grammar.specs.TokenValues.{name_of}
 
 abbrev pub built_starred : Starred → Built ReadStarred
@@ -23,13 +23,11 @@ built_inside (inl q) = mapped (λ x. inside.Query x) q
 built_inside (inr (inl p)) = mapped (λ x. inside.Enclosed x p.0.0.start) p.0.1
 built_inside (inr (inr p)) = mapped (λ x. inside.Expr x) p.0
 
-abbrev pub built_grouped : Lexeme × Inside (Unit {0}) → Built Grouped
-built_grouped (open_, inl q) = mapped (λ x. grouped.Query x open_.start) q
-built_grouped (open_, inr (inl p)) = mapped (λ x. grouped.Query x open_.start) p.0.1
-built_grouped (open_, inr (inr p)) = mapped (λ x. grouped.Expr x) p.0
-
 -- what stands in the parentheses that open at this place, with them
 abbrev pub grouped_of : ReadInside → ℕ → Grouped
 grouped_of (inside.Query q) at = grouped.Query q at
 grouped_of (inside.Enclosed q enclosed_at) at = grouped.Query q at
 grouped_of (inside.Expr x) at = grouped.Expr x
+
+abbrev pub built_grouped : Lexeme × Inside (Unit {0}) → Built Grouped
+built_grouped r = mapped (λ i. grouped_of i r.0.start) (built_inside r.1)

@@ -112,6 +112,10 @@ abbrev pub demanded : Option Lexeme → Reader Lexeme
 demanded (Some token) = done token
 demanded None = refused
 
+-- whether one token of these kinds stood next, which is passed
+unfoldable pub accepted : (Kind → Bool) → Reader Bool
+accepted p c = eaten p c >>= λ found. done (t.is_given found)
+
 -- one token of these kinds, which is to stand next
 unfoldable pub expected : (Kind → Bool) → Reader Lexeme
 expected p c = eaten p c >>= demanded
@@ -317,22 +321,19 @@ module _ (levels : ℕ) (deeper : Deeper) where
   unfoldable pub aggregate : Lexeme → Reader Expr
   aggregate word c = opened c >>= λ open_. closed (deeper.argument word) (λ x. x)
 
-  unfoldable pub named_first : Reader Expr
-  named_first c =
-      eaten (same k.Quoted) c >>= on column
-      (λ c. eaten (among called_kinds) c >>= on (λ word. seen (same k.Open) (arguments word) (column word))
-      (λ c. eaten (same k.Count) c >>= on (λ word. seen (same k.Open) (count_arguments word) (column word))
-      (λ c. expected (among other_aggregates) c >>= λ word. seen (same k.Open) (aggregate word) (column word))))
+  -- a name and what follows it, or a call
+  abbrev pub words : {A : Type 0} → (Lexeme → Reader A) → (Reader Expr → Reader A) → Reader A
+  words dotted call c =
+      eaten (same k.Quoted) c >>= on dotted
+      (λ c. eaten (among called_kinds) c >>= on (λ word. seen (same k.Open) (call (arguments word)) (dotted word))
+      (λ c. eaten (same k.Count) c >>= on (λ word. seen (same k.Open) (call (count_arguments word)) (dotted word))
+      (λ c. expected (among other_aggregates) c >>= λ word. seen (same k.Open) (call (aggregate word)) (dotted word))))
 
-  abbrev first_of : Reader Expr → Reader Starred
-  first_of f c = f c >>= λ x. done (starred.First x)
+  unfoldable pub named_first : Reader Expr
+  named_first = words column (λ f. f)
 
   unfoldable pub name_or_star : Reader Starred
-  name_or_star c =
-      eaten (same k.Quoted) c >>= on column_or_star
-      (λ c. eaten (among called_kinds) c >>= on (λ word. seen (same k.Open) (first_of (arguments word)) (column_or_star word))
-      (λ c. eaten (same k.Count) c >>= on (λ word. seen (same k.Open) (first_of (count_arguments word)) (column_or_star word))
-      (λ c. expected (among other_aggregates) c >>= λ word. seen (same k.Open) (first_of (aggregate word)) (column_or_star word))))
+  name_or_star = words column_or_star (λ f c. f c >>= λ x. done (starred.First x))
 
   -- ---- operands
 
@@ -422,11 +423,11 @@ module _ (levels : ℕ) (deeper : Deeper) where
   unfoldable pub exprs : Reader (List Expr)
   exprs = seen (among expr_kinds) (listed expr) (done [])
 
-  abbrev pub aggregated : Lexeme → Option Lexeme → Reader Expr
-  aggregated word distinct c = expr c >>= λ x. done (an_expr.Agg (t.aggregate (kind_of word)) (t.is_given distinct) (Some x) word.start)
+  abbrev pub aggregated : Lexeme → Bool → Reader Expr
+  aggregated word distinct c = expr c >>= λ x. done (an_expr.Agg (t.aggregate (kind_of word)) distinct (Some x) word.start)
 
   unfoldable pub argument : Lexeme → Reader Expr
-  argument word c = eaten (same k.Distinct) c >>= aggregated word
+  argument word c = accepted (same k.Distinct) c >>= aggregated word
 
   -- the members before the last, and the last
   abbrev pub next_member : Sought → List Expr × Expr → Lexeme → Reader (List Expr × Expr)
@@ -469,14 +470,17 @@ module _ (levels : ℕ) (deeper : Deeper) where
       (λ open_ c. deeper.query c >>= λ q c. expected (same k.Close) c >>= λ close c. alias c >>= λ name. done (t.listed_query name q))
       table_entry
 
+  -- one that is joined on a condition
+  unfoldable pub joined_on : ℕ → Reader (Option Entry)
+  joined_on count c =
+      accepted (same k.Inner) c >>= λ inner c. expected (same k.Join) c >>= λ join c. entry count c >>= λ listed c.
+      expected (same k.On) c >>= λ word c. expr c >>= λ on. done (Some (t.entry_of true (Some on) listed))
+
   unfoldable pub joined_entry : ℕ → Reader (Option Entry)
   joined_entry count c =
       eaten (same k.Cross) c >>= on
       (λ word c. expected (same k.Join) c >>= λ join c. entry count c >>= λ listed. done (Some (t.entry_of true None listed)))
-      (seen (among (k.Inner ∷ k.Join ∷ []))
-      (λ c. eaten (same k.Inner) c >>= λ inner c. expected (same k.Join) c >>= λ join c. entry count c >>= λ listed c.
-      expected (same k.On) c >>= λ word c. expr c >>= λ on. done (Some (t.entry_of true (Some on) listed)))
-      (done None))
+      (seen (among (k.Inner ∷ k.Join ∷ [])) (joined_on count) (done None))
 
   -- the entries that are joined to those before, where so many more fit
   unfoldable pub joined : ℕ → List Entry → Reader (List Entry)
@@ -497,20 +501,18 @@ module _ (levels : ℕ) (deeper : Deeper) where
   -- ---- blocks
 
   -- an expression behind this word, if it stands next
-  abbrev pub condition : Kind → Reader (Option Expr)
+  unfoldable pub condition : Kind → Reader (Option Expr)
   condition word c = eaten (same word) c >>= on (λ word c. expr c >>= λ x. done (Some x)) (done None)
 
-  unfoldable pub filter : Reader (Option Expr)
-  filter = condition k.Where
-
-  unfoldable pub having : Reader (Option Expr)
-  having = condition k.Having
+  -- what follows the entries
+  unfoldable pub clauses : Bool → List Item → List Entry → Reader Query
+  clauses distinct items entries c =
+      condition k.Where c >>= λ cond c. group_by c >>= λ groups c. condition k.Having c >>= λ having. done (t.block_node distinct items entries cond groups having)
 
   unfoldable pub block : Reader Query
   block c =
-      expected (same k.Select) c >>= λ select c. eaten (same k.Distinct) c >>= λ distinct c. items c >>= λ items c. expected (same k.From) c >>= λ word c.
-      entries c >>= λ entries c. filter c >>= λ cond c. group_by c >>= λ groups c. having c >>= λ having.
-      done (t.block_node (t.is_given distinct) items entries cond groups having)
+      expected (same k.Select) c >>= λ select c. accepted (same k.Distinct) c >>= λ distinct c. items c >>= λ items c. expected (same k.From) c >>= λ word c.
+      entries c >>= clauses distinct items
 
   -- ---- queries
 
@@ -586,6 +588,18 @@ module _ (levels : ℕ) (deeper : Deeper) where
 
 -- ---- with so many levels left
 
+-- what is deeper than a level that has so many more, where this is deeper than those
+abbrev pub deeper_than : ℕ → Deeper → Deeper
+deeper_than levels deeper = record {
+  query = query levels deeper;
+  neg = neg levels deeper;
+  unary = unary levels deeper;
+  exprs = exprs levels deeper;
+  argument = argument levels deeper;
+  inner = inner levels deeper;
+  in_inner = in_inner levels deeper;
+}
+
 unfoldable pub at : ℕ → Deeper
 at zero = record {
   query = refused;
@@ -596,15 +610,7 @@ at zero = record {
   inner = refused;
   in_inner = λ sought. refused;
 }
-at (suc levels) = record {
-  query = query levels (at levels);
-  neg = neg levels (at levels);
-  unary = unary levels (at levels);
-  exprs = exprs levels (at levels);
-  argument = argument levels (at levels);
-  inner = inner levels (at levels);
-  in_inner = in_inner levels (at levels);
-}
+at (suc levels) = deeper_than levels (at levels)
 
 -- Code did what the reader does with so many levels left.
 abbrev pub Does : {A : Type 0} → (ℕ → Deeper → Reader A) → ℕ → Cursor → Result A ReadFault → Cursor → Type 0

@@ -1,9 +1,8 @@
 -- What the reading functions do. Each takes the longest list of tokens that begins a form of the plan, and answers what it spells, or
 -- refuses the token at which it stops.
-use Rattle.std.specs.Prelude.{ℕ, ◌+◌, ◌≡◌, ◌<◌, ◌∷◌, Bool, true, length, List, Some, None, Result, Ok, Err, false}
+use Rattle.std.specs.Prelude.{ℕ, ◌+◌, ◌≡◌, ◌∷◌, List, Some, None, Result, Ok, Err, Bool, true, false}
 use Rattle.grammar.specs.Form.{Room, form_language, language}
-use Rattle.grammar.specs.Language.{Language}
-use Rattle.grammar.specs.Lookahead.{lookahead}
+use Rattle.grammar.specs.Language.{Language, no_language}
 use Rattle.grammar.specs.Reading.{Took, Failed, Exceeded, Began}
 use Rattle.sql_lex.specs.Lexemes.{Lexeme}
 use Rattle.sql_read.specs.declared.fault.ReadFault.{ReadFault}
@@ -11,12 +10,10 @@ use Rattle.sql_read.specs.declared.fault.ReadFault.TheVariants.{Lex, Unexpected,
 use Rattle.sql_read.specs.declared.fault.LimitKind.{LimitKind}
 use Rattle.sql_read.specs.declared.fault.LimitKind.TheVariants as limit
 use Rattle.sql_read.specs.Cursor.{Cursor}
-use Rattle.sql_read.specs.Eating.{IsNextAt, is_next}
-use Rattle.sql_grammar.specs.declared.kinds.Kind.{Kind}
+use Rattle.sql_read.specs.Eating.{IsNextAt}
 use Rattle.sql_grammar.specs.Kinds.{kind_of}
 use Rattle.sql_grammar.specs.Numbering.{Built}
 use Rattle.sql_grammar.specs.QueryGrammar.{The}
-use Rattle.sql_grammar.specs.QueryLookahead.{table}
 use Rattle.sql_grammar.specs.QueryEntries.{most_further}
 use Rattle.sql_grammar.specs.QueryPlan.{few_plan, plan}
 use Rattle.sql_read.specs.Refusals.{refusal}
@@ -28,6 +25,11 @@ of_form room f = form_language kind_of (language kind_of plan) room f
 -- and where no block has too many entries
 unfoldable pub few_form : {A : Type 0} → The A → Language Lexeme A
 few_form f = form_language kind_of (language kind_of (few_plan most_further)) None f
+
+-- the language, if it is allowed
+abbrev pub allowed : {A : Type 0} → Bool → Language Lexeme A → Language Lexeme A
+allowed true L = L
+allowed false L = no_language
 
 -- Of which limits a reading tells: of that on depth and length alone, or of that on the entries of blocks too. In a statement columns are counted
 -- besides, and where statements are read one by one they are too.
@@ -166,17 +168,3 @@ pub record ReadsWithin {V A : Type 0} (told : Told) (f : The V) (B : Language Le
 
 abbrev pub Reads : {V A : Type 0} → The V → ℕ → (V → Built A) → Cursor → Cursor → Result A ReadFault → Cursor → Type 0
 Reads f levels h start before result after = ReadsWithin entries_too f (few_form f) levels h start before result after
-
--- none of the form stands next
-pub record Lacks {V : Type 0} (f : The V) (before after : Cursor) : Type 0 where
-  pub still : after ≡ before
-  pub not_next : is_next (lookahead table f).first before.tokens ≡ false
-
--- A form that begins with one of these kinds was read, and there was room for it; nothing was numbered or copied in it.
-pub record ReadsWord {V : Type 0} (f : The V) (p : Kind → Bool) (room : ℕ) (before : Cursor) (value : V) (after : Cursor) : Type 0 where
-  pub takes : (levels : ℕ) → Takes f levels before.tokens value after.tokens
-  pub next : is_next p before.tokens ≡ true
-  pub room_left : 0 < room
-  pub fewer : length after.tokens < length before.tokens
-  pub numbers : after.numbers ≡ before.numbers
-  pub copies : after.copies ≡ before.copies

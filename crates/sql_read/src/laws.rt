@@ -4,7 +4,7 @@ ghost use Rattle.sql_lex.specs.Names.{SpellsName};
 ghost use Rattle.sql_lex.specs.declared.token.TokenKind.{TokenKind as Kind};
 
 /// No token spells two names.
-#[tactic(auto, using(crate::proofs::Unquoting::same_name))]
+#[tactic(auto, using(crate::proofs::code::Unquoting::same_name))]
 pub fn one_name()
     ensures { (kind : Kind) (bytes a b : List ℕ) → SpellsName kind bytes a → SpellsName kind bytes b → a ≡ b }
 {}

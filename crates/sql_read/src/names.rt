@@ -21,7 +21,7 @@ pub fn folded_name(alloc: Global, text: &[u8]) -> Result<Name, NoMemory>
 }
 
 /// What stands before the mark that ends the bytes, with doubled marks made single; `None` where another mark is not doubled.
-#[tactic(auto, using(crate::proofs::Unquoting::unquoting))]
+#[tactic(auto, using(crate::proofs::code::Unquoting::unquoting))]
 fn unquoted(alloc: Global, mark: u8, bytes: &[u8]) -> Result<Option<Vec<u8>>, NoMemory>
     ensures { IfOk result (λ found. option_map (λ inside. inside.items) found ≡ unquoted mark false bytes.now) }
 {

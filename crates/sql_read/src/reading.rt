@@ -1,15 +1,17 @@
 //! The reader of queries: a function for each production of the plan, or for a part of one.
-ghost use Rattle.std.specs.Prelude.{IfErr, IfOk, OnErr};
+ghost use Rattle.std.specs.Prelude.{IfErr, IfOk, OnErr, Result};
 ghost use Rattle.grammar.specs.Form.{ref};
 ghost use Rattle.sql_read.specs.Copied.{Copied};
 ghost use Rattle.sql_read.specs.Eating.{Extends};
+ghost use Rattle.sql_grammar.specs.Kinds.{same};
 ghost use Rattle.sql_grammar.specs.QueryGrammar as grammar;
 ghost use Rattle.sql_read.specs.Reading as reading;
-ghost use Rattle.sql_read.specs.Reading.{Does};
+ghost use Rattle.sql_read.specs.Reading.{Does, Gives};
 ghost use Rattle.sql_read.specs.Reads.{Reads};
 ghost use Rattle.sql_read.specs.ReadingQueries.{IsAtEnd, IsRead, IsRefused, Keeps};
 
 mod block;
+mod deeper;
 mod entry;
 mod expr;
 mod inside;
@@ -22,6 +24,7 @@ use crate::fault::ReadFault;
 use crate::tokens::Tokens;
 pub use item::NAME_KINDS;
 use query::query;
+use sql_grammar::Kind;
 use sql_model::Query;
 use std::alloc::Global;
 
@@ -59,4 +62,13 @@ pub fn read_inner_query(
     ensures extends { Extends tokens.old tokens.new }
 {
     query(alloc, tokens, levels)
+}
+
+/// Passes the next token, if it is of this kind, and tells whether it was.
+#[tactic(auto, unfolding(crate::specs::Reading::accepted))]
+fn accept(tokens: &mut Tokens<'_>, kind: Kind) -> bool
+    ensures does { Gives (Result.Ok result) tokens.new (reading.accepted (same kind) tokens.old) }
+    ensures extends { Extends tokens.old tokens.new }
+{
+    tokens.eat(kind).is_some()
 }

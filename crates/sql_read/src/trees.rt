@@ -32,6 +32,7 @@ pub fn set_query(
 }
 
 /// The place of an expression: that of its first operand in the text, or of its operator where that comes first.
+#[tactic(auto, unfolding(sql_model::specs::Compute::everything))]
 pub fn place_of(expr: &Expr) -> u32
     ensures { result ≡ place expr.now }
 {
@@ -60,17 +61,18 @@ pub fn place_of(expr: &Expr) -> u32
 fn one_part(alloc: Global, part: Expr) -> Result<List<Expr>, NoMemory>
     ensures { IfOk result (λ parts. parts ≡ part ∷ []) }
 {
-    let mut parts = List::new(alloc);
+    let mut parts = Vec::with_capacity(alloc, 1)?;
     parts.push(part)?;
-    Ok(parts)
+    Ok(List::from_vec(parts))
 }
 
 fn two_parts(alloc: Global, left: Expr, right: Expr) -> Result<List<Expr>, NoMemory>
     ensures { IfOk result (λ parts. parts ≡ left ∷ right ∷ []) }
 {
-    let mut parts = one_part(alloc, left)?;
+    let mut parts = Vec::with_capacity(alloc, 2)?;
+    parts.push(left)?;
     parts.push(right)?;
-    Ok(parts)
+    Ok(List::from_vec(parts))
 }
 
 /// `left = right`

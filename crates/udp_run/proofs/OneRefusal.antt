@@ -3,7 +3,7 @@ use Rattle.std.proofs.Common.{◌≡◌, ◌≢◌, ℕ, List, [], ◌∷◌, �
 use Rattle.std.proofs.lemmas.List.{append-nil, length-append}
 use Rattle.std.proofs.lemmas.Option.{same_Some}
 use Rattle.grammar.specs.Reading.{IsLongestFront}
-use Rattle.grammar.proofs.Cut.{Cut, cut, longer, same, shorter}
+use Rattle.grammar.proofs.languages.Cut.{Cut, cut, longer, same, shorter}
 use Rattle.sql_lex.specs.declared.token.LexFault.{LexFault}
 use Rattle.sql_lex.specs.Lexemes.{Lexeme}
 use Rattle.sql_lex.proofs.WholeTexts.{same_tokens}
@@ -19,7 +19,7 @@ use Rattle.schema_read.specs.declared.fault.SchemaFault.{SchemaFault}
 use Rattle.schema_read.specs.declared.fault.SchemaFault.TheVariants as schema_refusal
 use Rattle.schema_read.specs.Builds.{schema_fault}
 use Rattle.schema_read.specs.StatementGrammar.{statements}
-use Rattle.schema_read.proofs.Unlimited.{gl}
+use Rattle.schema_read.proofs.spelled.Unlimited.{gl}
 use Rattle.scope_core.specs.declared.fault.ScopeFault.{ScopeFault}
 use Rattle.case_core.specs.declared.fault.CaseFault.{CaseFault}
 use Rattle.case_core.specs.declared.fault.CaseFault.TheVariants.{Read, Schema, Scope, QueriesDiffer, NotTwoQueries, NoMemory}

@@ -2,8 +2,8 @@
 use Rattle.std.proofs.Common.{◌≡◌, ℕ, true, false, List, [], ◌∷◌, ◌++◌, length, Option, Some, None, refl, sym, ap, ◌∙◌, subst, inl, inr, append_assoc, arith}
 use Rattle.std.specs.Prelude.{map as map_list}
 use Rattle.std.specs.Option.{option_or}
-use Rattle.grammar.proofs.Known.{Known}
-use Rattle.grammar.proofs.Limits.{kept}
+use Rattle.grammar.proofs.languages.Known.{Known}
+use Rattle.grammar.proofs.languages.Limits.{kept}
 use Rattle.grammar.specs.Limits.{KeepsWithin}
 use Rattle.grammar.specs.Lookahead.{lookahead}
 use Rattle.sql_lex.specs.Lexemes.{Lexeme}
@@ -21,8 +21,8 @@ use Rattle.sql_read.specs.declared.fault.ReadFault.TheVariants as read_refusal
 use Rattle.schema_read.specs.declared.fault.SchemaFault.{SchemaFault}
 use Rattle.schema_read.specs.declared.fault.SchemaFault.TheVariants as schema_refusal
 use Rattle.schema_read.specs.Builds.{Builds, schema_fault}
-use Rattle.schema_read.proofs.StatementKnown.{known}
-use Rattle.schema_read.proofs.Unlimited.{gl}
+use Rattle.schema_read.proofs.spelled.StatementKnown.{known}
+use Rattle.schema_read.proofs.spelled.Unlimited.{gl}
 use Rattle.scope_core.specs.declared.fault.ScopeFault.{ScopeFault}
 use Rattle.scope_core.specs.FirstFault.{first_fault, query_fault, relations_fault}
 use Rattle.scope_core.specs.Relations.{known_relations}

@@ -4,7 +4,7 @@ use Rattle.std.specs.Prelude.{IfSome, Result}
 use Rattle.std.specs.Option.{option_or}
 use Rattle.udp_io.specs.Faults.{Rose}
 use Rattle.sql_model.specs.declared.schema.Schema.{Schema}
-use Rattle.schema_read.proofs.FactsLaws.{facts_ok, same_databases}
+use Rattle.schema_read.proofs.built.FactsLaws.{facts_ok, same_databases}
 use Rattle.scope_core.specs.Width.{width}
 use Rattle.scope_core.proofs.SoundTrees.{tree-width}
 use Rattle.u_terms.specs.declared.term.U.{U}

@@ -3,17 +3,17 @@ ghost use Rattle.sql_read.specs.Eating.{Extends};
 ghost use Rattle.sql_read.specs.Reading as reading;
 ghost use Rattle.sql_read.specs.Reading.{Does, Gives};
 
-use super::MOST_SEPARATORS;
 use super::entry::entries;
 use super::expr::expr;
 use super::item::item;
 use super::primary::reference;
+use super::{MOST_SEPARATORS, accept};
 use crate::fault::ReadFault;
 use crate::growing::push;
 use crate::tokens::Tokens;
 use plain_data::{Boxed, List};
 use sql_grammar::Kind;
-use sql_model::{Block, Expr, Item, Query};
+use sql_model::{Block, Entry, Expr, Item, Query};
 use std::alloc::Global;
 
 /// `SELECT [DISTINCT] items FROM entries [WHERE expr] [GROUP BY columns] [HAVING expr]`
@@ -24,13 +24,30 @@ pub fn block(alloc: Global, tokens: &mut Tokens<'_>, levels: u8) -> Result<Query
     ensures extends { Extends tokens.old tokens.new }
 {
     tokens.expect(alloc, Kind::Select)?;
-    let distinct = tokens.eat(Kind::Distinct).is_some();
+    let distinct = accept(tokens, Kind::Distinct);
     let items = items(alloc, tokens, levels)?;
     tokens.expect(alloc, Kind::From)?;
     let entries = entries(alloc, tokens, levels)?;
-    let cond = filter(alloc, tokens, levels)?;
+    clauses(alloc, tokens, levels, distinct, items, entries)
+}
+
+/// What follows the entries of a block, which is made of it and of what stands before it.
+#[tactic(auto, unfolding(crate::specs::Reading::clauses))]
+#[cycle(read)]
+fn clauses(
+    alloc: Global,
+    tokens: &mut Tokens<'_>,
+    levels: u8,
+    distinct: bool,
+    items: List<Item>,
+    entries: List<Entry>,
+) -> Result<Query, ReadFault>
+    ensures does { Does (λ levels deeper. reading.clauses levels deeper distinct items entries) levels tokens.old result tokens.new }
+    ensures extends { Extends tokens.old tokens.new }
+{
+    let cond = condition(alloc, tokens, levels, Kind::Where)?;
     let groups = group_by(alloc, tokens)?;
-    let having = having(alloc, tokens, levels)?;
+    let having = condition(alloc, tokens, levels, Kind::Having)?;
     let block = Block {
         distinct,
         items,
@@ -63,27 +80,19 @@ fn items(alloc: Global, tokens: &mut Tokens<'_>, levels: u8) -> Result<List<Item
     Ok(items)
 }
 
-/// The condition of WHERE, if it stands next.
-#[tactic(auto, unfolding(crate::specs::Reading::filter))]
+/// The condition behind this word, if it stands next.
+#[tactic(auto, unfolding(crate::specs::Reading::condition))]
 #[cycle(read)]
-fn filter(alloc: Global, tokens: &mut Tokens<'_>, levels: u8) -> Result<Option<Expr>, ReadFault>
-    ensures does { Does reading.filter levels tokens.old result tokens.new }
+fn condition(
+    alloc: Global,
+    tokens: &mut Tokens<'_>,
+    levels: u8,
+    word: Kind,
+) -> Result<Option<Expr>, ReadFault>
+    ensures does { Does (λ levels deeper. reading.condition levels deeper word) levels tokens.old result tokens.new }
     ensures extends { Extends tokens.old tokens.new }
 {
-    match tokens.eat(Kind::Where) {
-        Some(_) => Ok(Some(expr(alloc, tokens, levels)?)),
-        None => Ok(None),
-    }
-}
-
-/// The condition of HAVING, if it stands next.
-#[tactic(auto, unfolding(crate::specs::Reading::having))]
-#[cycle(read)]
-fn having(alloc: Global, tokens: &mut Tokens<'_>, levels: u8) -> Result<Option<Expr>, ReadFault>
-    ensures does { Does reading.having levels tokens.old result tokens.new }
-    ensures extends { Extends tokens.old tokens.new }
-{
-    match tokens.eat(Kind::Having) {
+    match tokens.eat(word) {
         Some(_) => Ok(Some(expr(alloc, tokens, levels)?)),
         None => Ok(None),
     }

@@ -5,10 +5,10 @@ ghost use Rattle.sql_read.specs.Eating.{Extends, allowed_entry};
 ghost use Rattle.sql_read.specs.Reading as reading;
 ghost use Rattle.sql_read.specs.Reading.{Does, Gives};
 
-use super::MOST_SEPARATORS;
+use super::deeper::deeper_query;
 use super::expr::expr;
 use super::item::{NAME_KINDS, alias, optional_alias};
-use super::query::query;
+use super::{MOST_SEPARATORS, accept};
 use crate::fault::{LimitKind, ReadFault};
 use crate::growing::push;
 use crate::listed::{entry_of, listed_query, listed_table};
@@ -78,10 +78,26 @@ fn joined_entry(
         let listed = entry(alloc, tokens, levels, count)?;
         return Ok(Some(entry_of(listed, true, None)));
     }
-    if !tokens.sees_any(&[Kind::Inner, Kind::Join]) {
-        return Ok(None);
+    if tokens.sees_any(&[Kind::Inner, Kind::Join]) {
+        return joined_on(alloc, tokens, levels, count);
     }
-    let _inner = tokens.eat(Kind::Inner);
+    Ok(None)
+}
+
+/// `[INNER] JOIN entry ON expr`
+#[tactic(auto, unfolding(crate::specs::Reading::joined_on))]
+#[cycle(read)]
+fn joined_on(
+    alloc: Global,
+    tokens: &mut Tokens<'_>,
+    levels: u8,
+    count: usize,
+) -> Result<Option<Entry>, ReadFault>
+    ensures does { Does (λ levels deeper. reading.joined_on levels deeper count) levels tokens.old result tokens.new }
+    ensures fits { IfOk result (λ found. IfSome found (λ entry. count < most_entries)) }
+    ensures extends { Extends tokens.old tokens.new }
+{
+    accept(tokens, Kind::Inner);
     tokens.expect(alloc, Kind::Join)?;
     let listed = entry(alloc, tokens, levels, count)?;
     tokens.expect(alloc, Kind::On)?;
@@ -106,7 +122,7 @@ fn entry(
     let Some(_) = tokens.eat_within(&[Kind::Open], levels)? else {
         return table_entry(alloc, tokens);
     };
-    let inside = query(alloc, tokens, levels - 1)?;
+    let inside = deeper_query(alloc, tokens, levels)?;
     tokens.expect(alloc, Kind::Close)?;
     let alias = alias(alloc, tokens)?;
     Ok(listed_query(alloc, inside, &alias)?)

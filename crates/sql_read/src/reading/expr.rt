@@ -3,6 +3,7 @@ ghost use Rattle.sql_read.specs.Eating.{Extends, IsBehind};
 ghost use Rattle.sql_read.specs.Reading as reading;
 ghost use Rattle.sql_read.specs.Reading.{Does};
 
+use super::deeper::{deeper_neg, deeper_unary};
 use super::primary::primary;
 use super::test::{test, tested};
 use super::{MOST_OPERATORS, MOST_SEPARATORS};
@@ -39,13 +40,13 @@ fn conj(alloc: Global, tokens: &mut Tokens<'_>, levels: u8) -> Result<Expr, Read
 /// `NOT neg`, or a test.
 #[tactic(auto, unfolding(crate::specs::Reading::neg))]
 #[cycle(read)]
-fn neg(alloc: Global, tokens: &mut Tokens<'_>, levels: u8) -> Result<Expr, ReadFault>
+pub fn neg(alloc: Global, tokens: &mut Tokens<'_>, levels: u8) -> Result<Expr, ReadFault>
     ensures does { Does reading.neg levels tokens.old result tokens.new }
     ensures extends { Extends tokens.old tokens.new }
 {
     match tokens.eat_within(&[Kind::Not], levels)? {
         Some(word) => {
-            let part = neg(alloc, tokens, levels - 1)?;
+            let part = deeper_neg(alloc, tokens, levels)?;
             Ok(not_at(alloc, part, place(&word))?)
         }
         None => test(alloc, tokens, levels),
@@ -77,7 +78,7 @@ fn term(alloc: Global, tokens: &mut Tokens<'_>, levels: u8) -> Result<Expr, Read
 /// `- unary`, or a primary expression.
 #[tactic(auto, unfolding(crate::specs::Reading::unary))]
 #[cycle(read)]
-fn unary(alloc: Global, tokens: &mut Tokens<'_>, levels: u8) -> Result<Expr, ReadFault>
+pub fn unary(alloc: Global, tokens: &mut Tokens<'_>, levels: u8) -> Result<Expr, ReadFault>
     ensures does { Does reading.unary levels tokens.old result tokens.new }
     ensures extends { Extends tokens.old tokens.new }
 {
@@ -95,7 +96,7 @@ fn negative(alloc: Global, tokens: &mut Tokens<'_>, levels: u8) -> Result<Expr, 
     ensures extends { Extends tokens.old tokens.new }
 {
     let sign = tokens.expect_within(alloc, &[Kind::Minus], levels)?;
-    let part = unary(alloc, tokens, levels - 1)?;
+    let part = deeper_unary(alloc, tokens, levels)?;
     Ok(minus(alloc, part, place(&sign))?)
 }
 

@@ -6,6 +6,7 @@ ghost use Rattle.sql_read.specs.Reading as reading;
 ghost use Rattle.sql_read.specs.Reading.{Does};
 
 use super::block::block;
+use super::deeper::deeper_inner;
 use super::expr::{expr, expr_tail};
 use super::query::set_tail;
 use super::test::{Sought, members};
@@ -78,7 +79,7 @@ fn in_parentheses(alloc: Global, tokens: &mut Tokens<'_>, levels: u8) -> Result<
     ensures extends { Extends tokens.old tokens.new }
 {
     let open = tokens.expect_within(alloc, &[Kind::Open], levels)?;
-    let inside = inner(alloc, tokens, levels - 1)?;
+    let inside = deeper_inner(alloc, tokens, levels)?;
     tokens.expect(alloc, Kind::Close)?;
     Ok(with_parentheses(inside, place(&open)))
 }
@@ -95,7 +96,7 @@ fn with_parentheses(inside: Inside, at: u32) -> Grouped
 
 #[tactic(auto, unfolding(crate::specs::Reading::inner))]
 #[cycle(read)]
-fn inner(alloc: Global, tokens: &mut Tokens<'_>, levels: u8) -> Result<Inside, ReadFault>
+pub fn inner(alloc: Global, tokens: &mut Tokens<'_>, levels: u8) -> Result<Inside, ReadFault>
     ensures does { Does reading.inner levels tokens.old result tokens.new }
     ensures extends { Extends tokens.old tokens.new }
 {
@@ -107,7 +108,24 @@ fn inner(alloc: Global, tokens: &mut Tokens<'_>, levels: u8) -> Result<Inside, R
         return Ok(Inside::Expr(expr(alloc, tokens, levels)?));
     }
     let start = tokens.mark();
-    match in_parentheses(alloc, tokens, levels)? {
+    let group = in_parentheses(alloc, tokens, levels)?;
+    after_group(alloc, tokens, levels, start, group)
+}
+
+/// What follows what stands in parentheses, which began at the mark.
+#[cycle(read)]
+fn after_group(
+    alloc: Global,
+    tokens: &mut Tokens<'_>,
+    levels: u8,
+    start: Mark,
+    group: Grouped,
+) -> Result<Inside, ReadFault>
+    requires { IsBehind start tokens.old }
+    ensures does { Does (λ levels deeper. reading.after_group levels deeper start group) levels tokens.old result tokens.new }
+    ensures extends { Extends tokens.old tokens.new }
+{
+    match group {
         Grouped::Query { query, at } => after_query(alloc, tokens, levels, start, query, at),
         Grouped::Expr(first) => {
             let whole = expr_tail(alloc, tokens, levels, start, first)?;
@@ -164,7 +182,25 @@ pub fn in_inner(
         return members(alloc, tokens, levels, sought, first);
     }
     let start = tokens.mark();
-    match in_parentheses(alloc, tokens, levels)? {
+    let group = in_parentheses(alloc, tokens, levels)?;
+    in_after_group(alloc, tokens, levels, sought, start, group)
+}
+
+/// The same, behind what stands in parentheses, which began at the mark.
+#[cycle(read)]
+fn in_after_group(
+    alloc: Global,
+    tokens: &mut Tokens<'_>,
+    levels: u8,
+    sought: Sought,
+    start: Mark,
+    group: Grouped,
+) -> Result<Expr, ReadFault>
+    requires { IsBehind start tokens.old }
+    ensures does { Does (λ levels deeper. reading.in_after_group levels deeper sought start group) levels tokens.old result tokens.new }
+    ensures extends { Extends tokens.old tokens.new }
+{
+    match group {
         Grouped::Query { query, at } => {
             in_after_query(alloc, tokens, levels, sought, start, query, at)
         }

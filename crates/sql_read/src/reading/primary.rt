@@ -6,10 +6,11 @@ ghost use Rattle.sql_read.specs.Eating.{Extends};
 ghost use Rattle.sql_read.specs.Reading as reading;
 ghost use Rattle.sql_read.specs.Reading.{Does, Gives};
 
-use super::MOST_SEPARATORS;
+use super::deeper::{deeper_argument, deeper_exprs};
 use super::expr::expr;
 use super::inside::enclosed;
 use super::item::{CALLED_KINDS, NAME_KINDS, OTHER_AGGREGATES};
+use super::{MOST_SEPARATORS, accept};
 use crate::fault::ReadFault;
 use crate::tokens::{Tokens, place};
 use crate::trees::{bare_column, qualified_column};
@@ -147,7 +148,7 @@ pub fn arguments(
 {
     tokens.expect_within(alloc, &[Kind::Open], levels)?;
     let sym = tokens.symbol_number(name_in(alloc, word)?)?;
-    let args = exprs(alloc, tokens, levels - 1)?;
+    let args = deeper_exprs(alloc, tokens, levels)?;
     tokens.expect(alloc, Kind::Close)?;
     Ok(Expr::Call {
         sym,
@@ -159,7 +160,7 @@ pub fn arguments(
 /// Expressions with commas between them, or none.
 #[tactic(auto, unfolding(crate::specs::Reading::exprs))]
 #[cycle(read)]
-fn exprs(alloc: Global, tokens: &mut Tokens<'_>, levels: u8) -> Result<List<Expr>, ReadFault>
+pub fn exprs(alloc: Global, tokens: &mut Tokens<'_>, levels: u8) -> Result<List<Expr>, ReadFault>
     ensures does { Does reading.exprs levels tokens.old result tokens.new }
     ensures extends { Extends tokens.old tokens.new }
 {
@@ -199,7 +200,7 @@ pub fn count_arguments(
             at: place(word),
         });
     }
-    let found = argument(alloc, tokens, levels - 1, word)?;
+    let found = deeper_argument(alloc, tokens, levels, word)?;
     tokens.expect(alloc, Kind::Close)?;
     Ok(found)
 }
@@ -218,7 +219,7 @@ pub fn aggregate(
     ensures extends { Extends tokens.old tokens.new }
 {
     tokens.expect_within(alloc, &[Kind::Open], levels)?;
-    let found = argument(alloc, tokens, levels - 1, word)?;
+    let found = deeper_argument(alloc, tokens, levels, word)?;
     tokens.expect(alloc, Kind::Close)?;
     Ok(found)
 }
@@ -226,7 +227,7 @@ pub fn aggregate(
 /// The aggregate of an argument, with or without DISTINCT.
 #[tactic(auto, unfolding(crate::specs::Reading::argument))]
 #[cycle(read)]
-fn argument(
+pub fn argument(
     alloc: Global,
     tokens: &mut Tokens<'_>,
     levels: u8,
@@ -236,7 +237,7 @@ fn argument(
     ensures does { Does (λ levels deeper. reading.argument levels deeper (lexeme_of word.now)) levels tokens.old result tokens.new }
     ensures extends { Extends tokens.old tokens.new }
 {
-    let distinct = tokens.eat(Kind::Distinct).is_some();
+    let distinct = accept(tokens, Kind::Distinct);
     let arg = expr(alloc, tokens, levels)?;
     Ok(Expr::Agg {
         fun: aggregate_function(kind_of(word)),

@@ -6,6 +6,7 @@ ghost use Rattle.sql_read.specs.Reading.{Does, Gives};
 
 use super::MOST_OPERATORS;
 use super::block::block;
+use super::deeper::deeper_query;
 use crate::fault::ReadFault;
 use crate::tokens::{Tokens, place};
 use crate::trees::set_query;
@@ -44,7 +45,7 @@ fn operand(alloc: Global, tokens: &mut Tokens<'_>, levels: u8) -> Result<Query, 
 {
     match tokens.eat_within(&[Kind::Open], levels)? {
         Some(_) => {
-            let inside = query(alloc, tokens, levels - 1)?;
+            let inside = deeper_query(alloc, tokens, levels)?;
             tokens.expect(alloc, Kind::Close)?;
             Ok(inside)
         }

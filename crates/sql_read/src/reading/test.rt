@@ -4,9 +4,8 @@ ghost use Rattle.sql_read.specs.Reading as reading;
 ghost use Rattle.sql_read.specs.Reading.{Does, Gives};
 
 use super::MOST_SEPARATORS;
+use super::deeper::{deeper_in_inner, deeper_query};
 use super::expr::{expr, value};
-use super::inside::in_inner;
-use super::query::query;
 use crate::fault::ReadFault;
 use crate::tokens::{Mark, Tokens, place};
 use crate::trees::{between, compared, equal, like, negated, place_of};
@@ -56,7 +55,7 @@ pub fn test(alloc: Global, tokens: &mut Tokens<'_>, levels: u8) -> Result<Expr, 
 {
     if let Some(word) = tokens.eat(Kind::Exists) {
         tokens.expect_within(alloc, &[Kind::Open], levels)?;
-        let query = query(alloc, tokens, levels - 1)?;
+        let query = deeper_query(alloc, tokens, levels)?;
         tokens.expect(alloc, Kind::Close)?;
         return Ok(Expr::Exists {
             query: Boxed::new(alloc, query)?,
@@ -133,7 +132,7 @@ fn by_word(
             weight,
             in_at: place(&word),
         };
-        let found = in_inner(alloc, tokens, levels - 1, value)?;
+        let found = deeper_in_inner(alloc, tokens, levels, value)?;
         tokens.expect(alloc, Kind::Close)?;
         return Ok(found);
     }

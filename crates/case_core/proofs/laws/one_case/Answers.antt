@@ -1,8 +1,5 @@
 use Rattle.case_core.proofs.CaseFronts.{case_known, one_case}
 use Rattle.case_core.proofs.laws.one_case.Goals as goal
 
-pub returns-clause-texts : goal.returns-clause-texts
-returns-clause-texts c = one_case
-
-pub returns-clause-values : goal.returns-clause-values
-returns-clause-values c room = (case_known room).unique
+pub returns : goal.returns
+returns c = record { texts = one_case; values = λ room. (case_known room).unique }

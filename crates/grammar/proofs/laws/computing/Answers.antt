@@ -1,4 +1,4 @@
-use Rattle.grammar.proofs.ParsesSound.{computed, computed_front}
+use Rattle.grammar.proofs.languages.ParsesSound.{computed, computed_front}
 use Rattle.grammar.proofs.laws.computing.Goals as goal
 
 pub returns-clause-spelled : goal.returns-clause-spelled

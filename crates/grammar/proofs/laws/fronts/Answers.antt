@@ -1,4 +1,4 @@
-use Rattle.grammar.proofs.Heights.{name_fronts}
+use Rattle.grammar.proofs.languages.Heights.{name_fronts}
 use Rattle.grammar.proofs.laws.fronts.Goals as goal
 
 pub returns : goal.returns

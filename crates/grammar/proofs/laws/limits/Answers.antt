@@ -1,4 +1,4 @@
-use Rattle.grammar.proofs.Heights.{name_grows}
+use Rattle.grammar.proofs.languages.Heights.{name_grows}
 use Rattle.grammar.proofs.laws.limits.Goals as goal
 
 pub returns : goal.returns

@@ -1,4 +1,4 @@
-use Rattle.grammar.proofs.Longest.{took_longest, failed_longest}
+use Rattle.grammar.proofs.readers.Longest.{took_longest, failed_longest}
 use Rattle.grammar.proofs.laws.longest.Goals as goal
 
 pub returns-clause-read : goal.returns-clause-read

@@ -1,4 +1,4 @@
-use Rattle.grammar.proofs.Predictions.{named}
+use Rattle.grammar.proofs.readers.Predictions.{named}
 use Rattle.grammar.proofs.laws.lookahead.Goals as goal
 
 pub returns : goal.returns

@@ -1,4 +1,4 @@
-use Rattle.grammar.proofs.Predictions.{read_once, refused_once, passed_once, read_or_refused, read_or_passed, refused_or_passed}
+use Rattle.grammar.proofs.readers.Predictions.{read_once, refused_once, passed_once, read_or_refused, read_or_passed, refused_or_passed}
 use Rattle.grammar.proofs.laws.one_outcome.Goals as goal
 
 pub returns-clause-read_once : goal.returns-clause-read_once

@@ -1,4 +1,4 @@
-use Rattle.grammar.proofs.Heights.{to_rule, from_rule}
+use Rattle.grammar.proofs.languages.Heights.{to_rule, from_rule}
 use Rattle.grammar.proofs.laws.productions.Goals as goal
 
 pub returns-clause-there : goal.returns-clause-there

@@ -1,7 +1,7 @@
 use Rattle.std.proofs.Common.{◌<◌, sym, ap, subst, ◌∙◌}
 use Rattle.data_model.specs.Lists.{Each}
 use Rattle.schema_read.specs.Keys.{places_in}
-use Rattle.schema_read.proofs.Places.{places_low}
+use Rattle.schema_read.proofs.built.Places.{places_low}
 use Rattle.schema_read.proofs.foreign.written_key.Goals as goal
 
 pub is_key-requires-clause-columns : goal.is_key-requires-clause-columns

@@ -1,7 +1,7 @@
 use Rattle.std.proofs.Common.{◌++◌, [], map, sym, ap, ◌∙◌, unwrap_or}
 use Rattle.std.proofs.lemmas.List.{map-append, append-nil}
 use Rattle.schema_read.specs.Indexes.{column_item, added_columns}
-use Rattle.schema_read.proofs.IndexLaws.{items_with_key-added}
+use Rattle.schema_read.proofs.built.IndexLaws.{items_with_key-added}
 use Rattle.schema_read.proofs.indexes.shown_items.Goals as goal
 
 pub returns-in_ok-add_key_items-in-Some : goal.returns-in_ok-add_key_items-in-Some

@@ -1,6 +1,6 @@
 use Rattle.std.proofs.Common.{sym, ap, ◌∙◌, ◌++◌, ◌∷◌, [], map}
 use Rattle.schema_read.specs.Sets.{column_set}
-use Rattle.schema_read.proofs.SetLaws.{told, key_added, key_kept, numbers-after}
+use Rattle.schema_read.proofs.built.SetLaws.{told, key_added, key_kept, numbers-after}
 use Rattle.schema_read.proofs.keys.add_key.Goals as goal
 
 pub returns-in_ok-push-clause-added : goal.returns-in_ok-push-clause-added

@@ -1,6 +1,6 @@
 use Rattle.std.proofs.Common.{◌<◌, sym, subst}
 use Rattle.data_model.specs.Lists.{Each}
-use Rattle.schema_read.proofs.Places.{places_low}
+use Rattle.schema_read.proofs.built.Places.{places_low}
 use Rattle.schema_read.proofs.keys.add_rule_key.Goals as goal
 
 pub add_key-requires-clause-columns : goal.add_key-requires-clause-columns

@@ -1,8 +1,8 @@
 use Rattle.std.proofs.Common.{◌∙◌, ap, sym, subst}
 use Rattle.schema_read.specs.Tables.{table_of, written_keys}
-use Rattle.schema_read.proofs.KeyLaws.{built_table-is}
+use Rattle.schema_read.proofs.built.KeyLaws.{built_table-is}
 use Rattle.schema_read.specs.Building.{IsNarrow}
-use Rattle.schema_read.proofs.Steps.{own_narrow}
+use Rattle.schema_read.proofs.built.Steps.{own_narrow}
 use Rattle.schema_read.proofs.keys.own_table.Goals as goal
 
 pub returns-clause-table : goal.returns-clause-table

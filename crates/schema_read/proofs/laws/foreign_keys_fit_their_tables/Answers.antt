@@ -1,4 +1,4 @@
-use Rattle.schema_read.proofs.FkeysFit.{fkeys_fit}
+use Rattle.schema_read.proofs.built.FkeysFit.{fkeys_fit}
 use Rattle.schema_read.proofs.laws.foreign_keys_fit_their_tables.Goals as goal
 
 pub returns : goal.returns

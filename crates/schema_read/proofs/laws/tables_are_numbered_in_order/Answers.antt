@@ -1,4 +1,4 @@
-use Rattle.schema_read.proofs.TableNumbers.{numbered}
+use Rattle.schema_read.proofs.built.TableNumbers.{numbered}
 use Rattle.schema_read.proofs.laws.tables_are_numbered_in_order.Goals as goal
 
 pub returns : goal.returns

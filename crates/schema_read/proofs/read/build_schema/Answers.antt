@@ -1,7 +1,7 @@
 use Rattle.std.proofs.Common.{◌≡◌, ◌≤◌, ◌<◌, ◌+◌, ◌∷◌, drop, length, arith}
 use Rattle.schema_read.specs.Building.{no_statements, fault_from, built_from}
 use Rattle.schema_read.specs.Views.{seen}
-use Rattle.schema_read.proofs.Steps.{split_at, fault_step, built_step, small_step, narrow_step, tables_step}
+use Rattle.schema_read.proofs.built.Steps.{split_at, fault_step, built_step, small_step, narrow_step, tables_step}
 use Rattle.schema_read.proofs.read.build_schema.Goals as goal
 
 pub loop-statement-preserved : goal.loop-statement-preserved

@@ -1,4 +1,4 @@
-use Rattle.schema_read.proofs.ReadLaws.{builds, refuses}
+use Rattle.schema_read.proofs.built.ReadLaws.{builds, refuses}
 use Rattle.schema_read.proofs.read.read_schema.Goals as goal
 
 pub returns-clause-built : goal.returns-clause-built

@@ -1,5 +1,5 @@
-use Rattle.schema_read.proofs.StatementsAgree.{all_given}
-use Rattle.schema_read.proofs.WholeStatements.{statements_read, statements_refused}
+use Rattle.schema_read.proofs.agree.StatementsAgree.{all_given}
+use Rattle.schema_read.proofs.agree.WholeStatements.{statements_read, statements_refused}
 use Rattle.schema_read.proofs.reading.read_statements.Goals as goal
 
 pub returns-clause-read : goal.returns-clause-read

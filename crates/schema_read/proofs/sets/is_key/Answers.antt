@@ -1,5 +1,5 @@
 use Rattle.std.proofs.Common.{sym, ◌∙◌}
-use Rattle.schema_read.proofs.KnownLaws.{known_key}
+use Rattle.schema_read.proofs.built.KnownLaws.{known_key}
 use Rattle.schema_read.proofs.sets.is_key.Goals as goal
 
 pub returns-in-Some-clause-value : goal.returns-in-Some-clause-value

@@ -3,7 +3,7 @@ use Rattle.std.specs.Map.{lookup}
 use Rattle.sql_model.specs.Columns.{same_name}
 use Rattle.indexmap.proofs.CallerLemmas.{insert_entry-new}
 use Rattle.schema_read.specs.Known.{AreSetsOf, Learns}
-use Rattle.schema_read.proofs.KnownLaws.{known_key, learns_push}
+use Rattle.schema_read.proofs.built.KnownLaws.{known_key, learns_push}
 use Rattle.schema_read.proofs.sets.learn.Goals as goal
 
 pub returns-clause-value : goal.returns-clause-value

@@ -3,8 +3,8 @@ use Rattle.indexmap.specs.IndexSet.{insert_key}
 use Rattle.data_model.specs.Lists.{Each}
 use Rattle.schema_read.specs.Known.{AreSetsOf}
 use Rattle.schema_read.specs.Sets.{column_set}
-use Rattle.schema_read.proofs.KnownLaws.{sets_push, take_next}
-use Rattle.schema_read.proofs.Steps.{split_at}
+use Rattle.schema_read.proofs.built.KnownLaws.{sets_push, take_next}
+use Rattle.schema_read.proofs.built.Steps.{split_at}
 use Rattle.schema_read.proofs.sets.sets_of.Goals as goal
 
 pub loop-key-preserved : goal.loop-key-preserved

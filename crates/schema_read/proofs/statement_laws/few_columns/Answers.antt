@@ -1,8 +1,5 @@
-use Rattle.schema_read.proofs.StatementColumns.{narrow, narrow_again}
+use Rattle.schema_read.proofs.spelled.StatementColumns.{narrow, narrow_again}
 use Rattle.schema_read.proofs.statement_laws.few_columns.Goals as goal
 
-pub returns-clause-few : goal.returns-clause-few
-returns-clause-few c = narrow
-
-pub returns-clause-others : goal.returns-clause-others
-returns-clause-others c = narrow_again
+pub returns : goal.returns
+returns c = record { few = narrow; others = narrow_again }

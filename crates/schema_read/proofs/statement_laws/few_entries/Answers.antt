@@ -1,4 +1,4 @@
-use Rattle.schema_read.proofs.StatementCounts.{few_entries_spelled}
+use Rattle.schema_read.proofs.counts.StatementCounts.{few_entries_spelled}
 use Rattle.schema_read.proofs.statement_laws.few_entries.Goals as goal
 
 pub returns : goal.returns

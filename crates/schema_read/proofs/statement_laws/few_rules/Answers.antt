@@ -1,4 +1,4 @@
-use Rattle.schema_read.proofs.StatementCounts.{few_rules_spelled}
+use Rattle.schema_read.proofs.counts.StatementCounts.{few_rules_spelled}
 use Rattle.schema_read.proofs.statement_laws.few_rules.Goals as goal
 
 pub returns : goal.returns

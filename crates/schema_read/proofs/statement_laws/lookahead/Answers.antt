@@ -1,4 +1,4 @@
-use Rattle.schema_read.proofs.StatementKnown.{statements_known}
+use Rattle.schema_read.proofs.spelled.StatementKnown.{statements_known}
 use Rattle.schema_read.proofs.statement_laws.lookahead.Goals as goal
 
 pub returns : goal.returns

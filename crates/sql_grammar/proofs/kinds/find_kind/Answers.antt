@@ -1,5 +1,5 @@
 use Rattle.std.proofs.Common.{sym, ◌∙◌, arith}
-use Rattle.sql_grammar.proofs.KindRows.{row_found, row_passed, no_row}
+use Rattle.sql_grammar.proofs.lists.KindRows.{row_found, row_passed, no_row}
 use Rattle.sql_grammar.proofs.kinds.find_kind.Goals as goal
 
 pub returns-then-is_same_word-clause-some : goal.returns-then-is_same_word-clause-some

@@ -1,5 +1,5 @@
 use Rattle.std.proofs.Common.{drop}
-use Rattle.sql_grammar.proofs.KindRows.{SameKind}
+use Rattle.sql_grammar.proofs.lists.KindRows.{SameKind}
 use Rattle.sql_grammar.proofs.kinds.find_kind.Given as goal
 
 abbrev pub invariant-loop-word : goal.invariant-loop-word

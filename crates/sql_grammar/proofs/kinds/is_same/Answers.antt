@@ -1,5 +1,5 @@
 use Rattle.std.proofs.Common.{refl}
-use Rattle.sql_grammar.proofs.KindNumbers.{tag_is_number}
+use Rattle.sql_grammar.proofs.lists.KindNumbers.{tag_is_number}
 use Rattle.sql_grammar.proofs.kinds.is_same.Goals as goal
 
 pub returns : goal.returns

@@ -1,5 +1,5 @@
 use Rattle.std.proofs.Common.{sym, ◌∙◌}
-use Rattle.sql_grammar.proofs.KindRows.{left_out, not_left_out}
+use Rattle.sql_grammar.proofs.lists.KindRows.{left_out, not_left_out}
 use Rattle.sql_grammar.proofs.kinds.word_kind.Goals as goal
 
 pub returns-in-Some : goal.returns-in-Some

@@ -1,7 +1,8 @@
 use Rattle.std.proofs.Common.{None}
-use Rattle.grammar.proofs.ParsesSound.{computed}
+use Rattle.grammar.proofs.languages.ParsesSound.{computed}
 use Rattle.sql_grammar.specs.Kinds.{kind_of}
-use Rattle.sql_grammar.specs.QueryGrammar.{query, rules}
+use Rattle.sql_grammar.specs.QueryGrammar.{query}
+use Rattle.sql_grammar.specs.Queries.{rules}
 use Rattle.sql_grammar.proofs.laws.computing.Goals as goal
 
 pub returns : goal.returns

@@ -1,6 +1,6 @@
-use Rattle.grammar.proofs.Limits.{costs_at_beyond, kept_within_cost, first_beyond, cost_passed_once}
+use Rattle.grammar.proofs.languages.Limits.{costs_at_beyond, kept_within_cost, first_beyond, cost_passed_once}
 use Rattle.sql_grammar.specs.QueryCopies.{most_copies}
-use Rattle.sql_grammar.proofs.CopyOnce.{query_costs}
+use Rattle.sql_grammar.proofs.copies.CopyOnce.{query_costs}
 use Rattle.sql_grammar.proofs.laws.copied_too_much_once.Goals as goal
 
 pub returns-clause-once : goal.returns-clause-once

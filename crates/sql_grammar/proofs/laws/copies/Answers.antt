@@ -1,5 +1,5 @@
-use Rattle.grammar.proofs.Limits.{completed_begins, grows, one_cost, whole_completed}
-use Rattle.sql_grammar.proofs.CopyOnce.{query_costs}
+use Rattle.grammar.proofs.languages.Limits.{completed_begins, grows, one_cost, whole_completed}
+use Rattle.sql_grammar.proofs.copies.CopyOnce.{query_costs}
 use Rattle.sql_grammar.proofs.laws.copies.Goals as goal
 
 pub returns-clause-begins : goal.returns-clause-begins

@@ -1,8 +1,8 @@
 use Rattle.std.proofs.Common.{None, arith}
 use Rattle.sql_grammar.specs.QueryEntries.{most_further}
 use Rattle.sql_grammar.specs.QueryGrammar.{query}
-use Rattle.sql_grammar.proofs.EntryLists.{few_included}
-use Rattle.sql_grammar.proofs.EntryTexts.{few_spell}
+use Rattle.sql_grammar.proofs.entries.EntryLists.{few_included}
+use Rattle.sql_grammar.proofs.entries.EntryTexts.{few_spell}
 use Rattle.sql_grammar.proofs.laws.few_entries.Goals as goal
 
 pub returns-clause-included : goal.returns-clause-included

@@ -1,6 +1,6 @@
 use Rattle.std.proofs.Common.{arith}
 use Rattle.sql_grammar.specs.QueryEntries.{most_further}
-use Rattle.sql_grammar.proofs.FewPlan.{few_plan_includes, few_planned, few_rules_include}
+use Rattle.sql_grammar.proofs.entries.FewPlan.{few_plan_includes, few_planned, few_rules_include}
 use Rattle.sql_grammar.proofs.laws.few_languages.Goals as goal
 
 pub returns-clause-planned : goal.returns-clause-planned

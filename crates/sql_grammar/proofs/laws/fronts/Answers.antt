@@ -1,7 +1,7 @@
-use Rattle.grammar.proofs.Heights.{name_fronts}
+use Rattle.grammar.proofs.languages.Heights.{name_fronts}
 use Rattle.sql_grammar.specs.Kinds.{kind_of}
-use Rattle.sql_grammar.specs.QueryGrammar.{rules}
-use Rattle.sql_grammar.proofs.QueryFronts.{query_fronts}
+use Rattle.sql_grammar.specs.Queries.{rules}
+use Rattle.sql_grammar.proofs.queries.QueryFronts.{query_fronts}
 use Rattle.sql_grammar.proofs.laws.fronts.Goals as goal
 
 pub returns-clause-empty : goal.returns-clause-empty

@@ -1,4 +1,4 @@
-use Rattle.sql_grammar.proofs.QueryKnown.{production_known}
+use Rattle.sql_grammar.proofs.queries.QueryKnown.{production_known}
 use Rattle.sql_grammar.proofs.laws.lookahead.Goals as goal
 
 pub returns : goal.returns

@@ -1,4 +1,4 @@
-use Rattle.sql_grammar.proofs.QueryKnown.{one_query, production_known}
+use Rattle.sql_grammar.proofs.queries.QueryKnown.{one_query, production_known}
 use Rattle.sql_grammar.proofs.laws.one_query.Goals as goal
 
 pub returns-clause-queries : goal.returns-clause-queries

@@ -1,11 +1,11 @@
 use Rattle.std.proofs.Common.{None}
 use Rattle.grammar.specs.Form.{ref}
-use Rattle.grammar.proofs.Limits.{completed_in}
+use Rattle.grammar.proofs.languages.Limits.{completed_in}
 use Rattle.sql_grammar.specs.QueryGrammar.{query}
-use Rattle.sql_grammar.proofs.CopyLimits.{too_many_here}
-use Rattle.sql_grammar.proofs.CopyOnce.{query_costs}
-use Rattle.sql_grammar.proofs.PlanKnown.{grammar_includes}
-use Rattle.sql_grammar.proofs.QueryKnown.{plan_includes}
+use Rattle.sql_grammar.proofs.copies.CopyLimits.{too_many_here}
+use Rattle.sql_grammar.proofs.copies.CopyOnce.{query_costs}
+use Rattle.sql_grammar.proofs.plan.Known.{grammar_includes}
+use Rattle.sql_grammar.proofs.queries.QueryKnown.{plan_includes}
 use Rattle.sql_grammar.proofs.laws.plan_copies.Goals as goal
 
 pub returns-clause-there : goal.returns-clause-there

@@ -1,5 +1,5 @@
-use Rattle.sql_grammar.proofs.QueryKnown.{plan_includes}
-use Rattle.sql_grammar.proofs.PlanKnown.{grammar_includes}
+use Rattle.sql_grammar.proofs.queries.QueryKnown.{plan_includes}
+use Rattle.sql_grammar.proofs.plan.Known.{grammar_includes}
 use Rattle.sql_grammar.proofs.laws.same_languages.Goals as goal
 
 pub returns-clause-planned : goal.returns-clause-planned

@@ -1,4 +1,4 @@
-use Rattle.sql_read.proofs.Unquoting.{quoted_is, no_quoted}
+use Rattle.sql_read.proofs.code.Unquoting.{quoted_is, no_quoted}
 use Rattle.sql_read.proofs.names.name_of.Goals as goal
 
 pub returns-in-Quoted-clause-name : goal.returns-in-Quoted-clause-name

@@ -9,6 +9,27 @@ use Rattle.sql_read.specs.Reading as r
 use Rattle.sql_read.specs.Reading.{◌>>=◌, any_of, at, comma, done, one_more, repeated}
 use Rattle.sql_read.proofs.reading.+read.Given as goal
 
+abbrev pub decreases-deeper::deeper_query : goal.decreases-deeper::deeper_query
+decreases-deeper::deeper_query l = 32 * l.levels
+
+abbrev pub decreases-deeper::deeper_neg : goal.decreases-deeper::deeper_neg
+decreases-deeper::deeper_neg l = 32 * l.levels
+
+abbrev pub decreases-deeper::deeper_unary : goal.decreases-deeper::deeper_unary
+decreases-deeper::deeper_unary l = 32 * l.levels
+
+abbrev pub decreases-deeper::deeper_exprs : goal.decreases-deeper::deeper_exprs
+decreases-deeper::deeper_exprs l = 32 * l.levels
+
+abbrev pub decreases-deeper::deeper_argument : goal.decreases-deeper::deeper_argument
+decreases-deeper::deeper_argument l = 32 * l.levels
+
+abbrev pub decreases-deeper::deeper_inner : goal.decreases-deeper::deeper_inner
+decreases-deeper::deeper_inner l = 32 * l.levels
+
+abbrev pub decreases-deeper::deeper_in_inner : goal.decreases-deeper::deeper_in_inner
+decreases-deeper::deeper_in_inner l = 32 * l.levels
+
 abbrev pub decreases-entry::entry : goal.decreases-entry::entry
 decreases-entry::entry l = 32 * l.levels + 1
 
@@ -87,14 +108,14 @@ decreases-expr::expr l = 32 * l.levels + 18
 abbrev pub decreases-expr::expr_tail : goal.decreases-expr::expr_tail
 decreases-expr::expr_tail l = 32 * l.levels + 18
 
-abbrev pub decreases-block::filter : goal.decreases-block::filter
-decreases-block::filter l = 32 * l.levels + 19
+abbrev pub decreases-block::condition : goal.decreases-block::condition
+decreases-block::condition l = 32 * l.levels + 19
 
-abbrev pub decreases-block::having : goal.decreases-block::having
-decreases-block::having l = 32 * l.levels + 19
+abbrev pub decreases-entry::joined_on : goal.decreases-entry::joined_on
+decreases-entry::joined_on l = 32 * l.levels + 19
 
 abbrev pub decreases-entry::joined_entry : goal.decreases-entry::joined_entry
-decreases-entry::joined_entry l = 32 * l.levels + 19
+decreases-entry::joined_entry l = 32 * l.levels + 20
 
 abbrev pub decreases-primary::exprs : goal.decreases-primary::exprs
 decreases-primary::exprs l = 32 * l.levels + 19
@@ -106,10 +127,10 @@ abbrev pub decreases-test::members : goal.decreases-test::members
 decreases-test::members l = 32 * l.levels + 19
 
 abbrev pub decreases-entry::from : goal.decreases-entry::from
-decreases-entry::from l = 32 * l.levels + 20
+decreases-entry::from l = 32 * l.levels + 21
 
 abbrev pub decreases-entry::entries : goal.decreases-entry::entries
-decreases-entry::entries l = 32 * l.levels + 21
+decreases-entry::entries l = 32 * l.levels + 22
 
 abbrev pub decreases-item::named_item : goal.decreases-item::named_item
 decreases-item::named_item l = 32 * l.levels + 20
@@ -119,6 +140,9 @@ decreases-item::item l = 32 * l.levels + 21
 
 abbrev pub decreases-block::items : goal.decreases-block::items
 decreases-block::items l = 32 * l.levels + 22
+
+abbrev pub decreases-block::clauses : goal.decreases-block::clauses
+decreases-block::clauses l = 32 * l.levels + 20
 
 abbrev pub decreases-block::block : goal.decreases-block::block
 decreases-block::block l = 32 * l.levels + 23
@@ -147,11 +171,17 @@ decreases-inside::after_query l = 32 * l.levels + 29
 abbrev pub decreases-inside::in_after_query : goal.decreases-inside::in_after_query
 decreases-inside::in_after_query l = 32 * l.levels + 29
 
+abbrev pub decreases-inside::after_group : goal.decreases-inside::after_group
+decreases-inside::after_group l = 32 * l.levels + 30
+
+abbrev pub decreases-inside::in_after_group : goal.decreases-inside::in_after_group
+decreases-inside::in_after_group l = 32 * l.levels + 30
+
 abbrev pub decreases-inside::inner : goal.decreases-inside::inner
-decreases-inside::inner l = 32 * l.levels + 30
+decreases-inside::inner l = 32 * l.levels + 31
 
 abbrev pub decreases-inside::in_inner : goal.decreases-inside::in_inner
-decreases-inside::in_inner l = 32 * l.levels + 30
+decreases-inside::in_inner l = 32 * l.levels + 31
 
 abbrev pub decreases-query::intersects-more : goal.decreases-query::intersects-more
 decreases-query::intersects-more l = l.room

@@ -1,4 +1,4 @@
-use Rattle.sql_read.proofs.AgreeAll.{copied_of, query_agrees, read_of}
+use Rattle.sql_read.proofs.agree.AgreeAll.{copied_of, query_agrees, read_of}
 use Rattle.sql_read.proofs.reading.read_inner_query.Goals as goal
 
 pub returns-clause-reads : goal.returns-clause-reads

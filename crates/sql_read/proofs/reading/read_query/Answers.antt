@@ -1,6 +1,6 @@
 use Rattle.sql_grammar.specs.Queries.{most_levels}
-use Rattle.sql_read.proofs.AgreeAll.{copied_of, query_agrees, read_of}
-use Rattle.sql_read.proofs.WholeQueries.{query_read, query_refused}
+use Rattle.sql_read.proofs.agree.AgreeAll.{copied_of, query_agrees, read_of}
+use Rattle.sql_read.proofs.whole.WholeQueries.{query_read, query_refused}
 use Rattle.sql_read.proofs.reading.read_query.Goals as goal
 
 pub returns-clause-read : goal.returns-clause-read

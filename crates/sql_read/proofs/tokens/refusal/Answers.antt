@@ -1,6 +1,6 @@
 use Rattle.std.proofs.Common.{sym}
 use Rattle.sql_lex.specs.Lexemes.{lexeme_of}
-use Rattle.sql_read.proofs.Cursors.{left_out_there}
+use Rattle.sql_read.proofs.code.Cursors.{left_out_there}
 use Rattle.sql_read.proofs.tokens.refusal.Goals as goal
 
 pub returns-in-Err-clause-memory : goal.returns-in-Err-clause-memory

@@ -1,7 +1,7 @@
 use Rattle.std.proofs.Common.{refl, sym, subst}
 use Rattle.std.proofs.lemmas.Result.{err_from_is_err_and}
 use Rattle.schema_read.specs.Order.{Refuses}
-use Rattle.schema_read.proofs.OrderLaws.{or_else-none}
+use Rattle.schema_read.proofs.built.OrderLaws.{or_else-none}
 use Rattle.schema_read.proofs.builder.Builder.add_table.Goals as goal
 
 pub returns-in_err-add_rules : goal.returns-in_err-add_rules

@@ -1,8 +1,8 @@
 use Rattle.std.proofs.Common.{rules, refl, sym, ◌∙◌}
 use Rattle.std.proofs.lemmas.List.{append-nil}
-use Rattle.sql_read.proofs.Extending.{◌⨟◌, extends_itself}
+use Rattle.sql_read.proofs.steps.Extending.{◌⨟◌, extends_itself}
 use Rattle.schema_read.specs.StatementReaders.{column_rules}
-use Rattle.schema_read.proofs.StatementLoops.{no_rule, rule_read, rule_shorter, rule_stops, ruling}
+use Rattle.schema_read.proofs.agree.StatementLoops.{no_rule, rule_read, rule_shorter, rule_stops, ruling}
 use Rattle.schema_read.proofs.reading.columns.column_rules.Goals as goal
 
 pub more-init : goal.more-init

@@ -1,23 +1,19 @@
 use Rattle.std.proofs.Common.{rules}
-use Rattle.sql_read.proofs.Extending.{◌⨟◌, extends_within}
-use Rattle.sql_read.proofs.Loops.{no_word, part_read, part_stops, word_stops}
-use Rattle.schema_read.specs.StatementReaders.{listed_elements}
+use Rattle.sql_read.proofs.steps.Extending.{◌⨟◌, extends_within}
+use Rattle.sql_read.proofs.code.Loops.{no_word, part_read, part_stops, word_stops}
 use Rattle.schema_read.proofs.reading.elements.listed_elements.Goals as goal
 
 pub returns-in_err-eat_within-clause-does : goal.returns-in_err-eat_within-clause-does
-unfolding listed_elements
 returns-in_err-eat_within-clause-does c =
     let e = word_stops _ _ _ _ _ _ c.more.invariant.same c.in_err-eat_within.field-0.0 c.eat_within.new.self c.in_err-eat_within.ensures.gives in search rules
 
 pub returns-in_err-elements-2-clause-does : goal.returns-in_err-elements-2-clause-does
-unfolding listed_elements
 returns-in_err-elements-2-clause-does c =
     let w = rw c.in-Some.is at c.in_ok-eat_within.ensures.gives in
     let q = rw c.in-Some.is at c.in_ok-eat_within.ensures.eats in
     let e = part_stops _ _ _ _ _ _ c.more.invariant.same _ _ w q.room_left c.in_err-elements-2.field-0.0 c.element.new.tokens c.in_err-elements-2.ensures.does in search rules
 
 pub more-preserved : goal.more-preserved
-unfolding listed_elements
 more-preserved c =
     let w = rw c.in-Some.is at c.in_ok-eat_within.ensures.gives in
     let q = rw c.in-Some.is at c.in_ok-eat_within.ensures.eats in
@@ -27,5 +23,4 @@ more-preserved c =
     }
 
 pub returns-clause-does : goal.returns-clause-does
-unfolding listed_elements
 returns-clause-does c = no_word _ _ _ _ _ _ c.more.invariant.same _ (rw c.in_default.is at c.in_ok-eat_within.ensures.gives)

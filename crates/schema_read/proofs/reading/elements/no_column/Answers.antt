@@ -1,6 +1,6 @@
 use Rattle.std.proofs.Common.{sym, ◌∙◌}
 use Rattle.schema_read.specs.StatementReaders.{no_column}
-use Rattle.schema_read.proofs.StatementLoops.{refused_given}
+use Rattle.schema_read.proofs.agree.StatementLoops.{refused_given}
 use Rattle.schema_read.proofs.reading.elements.no_column.Goals as goal
 
 pub returns : goal.returns

@@ -1,16 +1,13 @@
 use Rattle.std.proofs.Common.{rules, refl}
-use Rattle.sql_read.proofs.Extending.{◌⨟◌, extends_within}
-use Rattle.sql_read.proofs.Loops.{no_word, part_read, part_stops, stops_first, word_stops}
-use Rattle.schema_read.specs.StatementReaders.{listed_names}
+use Rattle.sql_read.proofs.steps.Extending.{◌⨟◌, extends_within}
+use Rattle.sql_read.proofs.code.Loops.{no_word, part_read, part_stops, stops_first, word_stops}
 use Rattle.schema_read.proofs.reading.names.listed_names.Goals as goal
 
 pub returns-in_err-eat_within-clause-does : goal.returns-in_err-eat_within-clause-does
-unfolding listed_names
 returns-in_err-eat_within-clause-does c =
     let e = word_stops _ _ _ _ _ _ c.more.invariant.same c.in_err-eat_within.field-0.0 c.eat_within.new.self c.in_err-eat_within.ensures.gives in search rules
 
 pub returns-in_err-next-clause-does : goal.returns-in_err-next-clause-does
-unfolding listed_names
 returns-in_err-next-clause-does c =
     let w = rw c.in-Some.is at c.in_ok-eat_within.ensures.gives in
     let q = rw c.in-Some.is at c.in_ok-eat_within.ensures.eats in
@@ -18,7 +15,6 @@ returns-in_err-next-clause-does c =
     let e = part_stops _ _ _ _ _ _ c.more.invariant.same _ _ w q.room_left c.in_err-next.field-0.0 c.name-in-Some.new.tokens s in search rules
 
 pub more-preserved : goal.more-preserved
-unfolding listed_names
 more-preserved c =
     let w = rw c.in-Some.is at c.in_ok-eat_within.ensures.gives in
     let q = rw c.in-Some.is at c.in_ok-eat_within.ensures.eats in
@@ -28,5 +24,4 @@ more-preserved c =
     }
 
 pub returns-clause-does : goal.returns-clause-does
-unfolding listed_names
 returns-clause-does c = no_word _ _ _ _ _ _ c.more.invariant.same _ (rw c.in_default.is at c.in_ok-eat_within.ensures.gives)

@@ -1,7 +1,7 @@
 use Rattle.std.proofs.Common.{rules, ◌<◌, [], ◌∷◌, length, length-append, refl, sym, ◌∙◌, arith}
-use Rattle.sql_read.proofs.Extending.{◌⨟◌, extends_itself}
+use Rattle.sql_read.proofs.steps.Extending.{◌⨟◌, extends_itself}
 use Rattle.schema_read.specs.StatementReaders.{statements}
-use Rattle.schema_read.proofs.StatementLoops.{none_begins, statement_read, statement_stops, too_many}
+use Rattle.schema_read.proofs.agree.StatementLoops.{none_begins, statement_read, statement_stops, too_many}
 use Rattle.schema_read.proofs.reading.statement.statements.Goals as goal
 
 pub more-init : goal.more-init

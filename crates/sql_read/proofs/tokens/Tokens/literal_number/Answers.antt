@@ -1,5 +1,5 @@
 use Rattle.std.proofs.Common.{refl}
-use Rattle.sql_read.proofs.Numbered.{literal_numbered, literal_extends, numbers_given}
+use Rattle.sql_read.proofs.code.Numbered.{literal_numbered, literal_extends, numbers_given}
 use Rattle.sql_read.proofs.tokens.Tokens.literal_number.Goals as goal
 
 pub returns-clause-number : goal.returns-clause-number

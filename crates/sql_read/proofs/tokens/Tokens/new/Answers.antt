@@ -1,5 +1,5 @@
 use Rattle.std.proofs.Common.{arith, ◌^◌}
-use Rattle.sql_read.proofs.Cursors.{sound_of, to_come-next, below_in_text, no_more_tokens}
+use Rattle.sql_read.proofs.code.Cursors.{sound_of, to_come-next, below_in_text, no_more_tokens}
 use Rattle.sql_read.proofs.tokens.Tokens.new.Goals as goal
 
 pub invariant_of-result : goal.invariant_of-result

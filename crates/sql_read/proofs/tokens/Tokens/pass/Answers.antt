@@ -1,5 +1,5 @@
 use Rattle.std.proofs.Common.{sym, ap, arith, ◌+◌, ◌^◌, ◌∙◌}
-use Rattle.sql_read.proofs.Cursors.{sound_of, to_come-next, below_held, passed}
+use Rattle.sql_read.proofs.code.Cursors.{sound_of, to_come-next, below_held, passed}
 use Rattle.sql_read.specs.Cursor.{Cursor, behind_next, numbers_of}
 use Rattle.sql_read.proofs.tokens.Tokens.pass.Goals as goal
 

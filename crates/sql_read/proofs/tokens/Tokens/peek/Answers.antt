@@ -1,5 +1,5 @@
 use Rattle.std.proofs.Common.{◌≡◌, ◌^◌, Ok}
-use Rattle.sql_read.proofs.Cursors.{below_given}
+use Rattle.sql_read.proofs.code.Cursors.{below_given}
 use Rattle.sql_read.proofs.tokens.Tokens.peek.Goals as goal
 
 pub returns-in-Some-Ok-clause-place : goal.returns-in-Some-Ok-clause-place

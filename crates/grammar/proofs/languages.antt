@@ -1,0 +1,10 @@
+pub mod Cut
+pub mod Sets
+pub mod Forms
+pub mod Fronts
+pub mod Heights
+pub mod Short
+pub mod Known
+pub mod Tables
+pub mod Limits
+pub mod ParsesSound

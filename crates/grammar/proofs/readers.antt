@@ -1,0 +1,9 @@
+pub mod Begun
+pub mod Choices
+pub mod Completing
+pub mod Longest
+pub mod Outcomes
+pub mod Predictions
+pub mod Remaining
+pub mod Repetitions
+pub mod Steps

@@ -1,0 +1,10 @@
+pub mod PlainSteps
+pub mod StatementSteps
+pub mod StatementLoops
+pub mod StatementNames
+pub mod StatementRules
+pub mod StatementTables
+pub mod StatementsAgree
+pub mod TableColumns
+pub mod Telling
+pub mod WholeStatements

@@ -1,0 +1,15 @@
+pub mod ColumnsFit
+pub mod FactsLaws
+pub mod FkeysFit
+pub mod IndexLaws
+pub mod KeyLaws
+pub mod KnownLaws
+pub mod Links
+pub mod Entries
+pub mod OrderLaws
+pub mod Places
+pub mod ReadLaws
+pub mod SetLaws
+pub mod Steps
+pub mod TableNumbers
+pub mod UniqueKeys

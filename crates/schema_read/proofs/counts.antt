@@ -1,0 +1,5 @@
+pub mod CopiedParts
+pub mod CountSteps
+pub mod CountsApart
+pub mod StatementCopies
+pub mod StatementCounts

@@ -1,0 +1,7 @@
+pub mod StatementParts
+pub mod StatementColumns
+pub mod StatementFronts
+pub mod StatementKnown
+pub mod FewColumns
+pub mod FewStatements
+pub mod Unlimited

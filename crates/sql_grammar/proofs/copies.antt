@@ -1,0 +1,9 @@
+pub mod CopyLimits
+pub mod CopyOnce
+pub mod CopyPrices
+pub mod CopySteps
+pub mod PlanPrices
+pub mod PlanSame
+pub mod QueryCompletions
+pub mod QueryFillings
+pub mod TestCopies

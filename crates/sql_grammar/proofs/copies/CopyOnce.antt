@@ -1,0 +1,100 @@
+-- A text that goes on from a front with tokens that copy nothing copies no more than one that goes on from there with others. So what such texts
+-- copy is one number, which grows along fronts, and the limit on copies is passed at no more than one token of a text.
+use Rattle.std.proofs.Common.{◌≡◌, ℕ, zero, suc, ◌≤◌, true, List, [], ◌∷◌, ◌++◌, refl, subst, None, arith}
+use Rattle.std.specs.List.{list_all}
+use Rattle.grammar.specs.Form.{empty, language_within, ref}
+use Rattle.grammar.specs.Lookahead.{is_predictive}
+use Rattle.grammar.proofs.languages.Heights.{spelled_at}
+use Rattle.grammar.proofs.languages.Limits.{CostsByCompletion}
+use Rattle.grammar.proofs.readers.Predictions.{named}
+use Rattle.grammar.proofs.completed.SameFronts.{SameOf, StillOf, alike, same_fronts, still_of, still_texts}
+use Rattle.grammar.proofs.languages.Sets.{and_both}
+use Rattle.sql_lex.specs.Lexemes.{Lexeme}
+use Rattle.sql_grammar.specs.Kinds.{every_kind, kind_of}
+use Rattle.sql_grammar.specs.QueryGrammar.{Production, Read, The, query, item, reference, test, rest, primary, agg, set_tail, and_tail, expr_tail, inner, in_inner}
+use Rattle.sql_grammar.specs.QueryTails.{commas}
+use Rattle.sql_grammar.specs.Queries.{of_form, queries}
+use Rattle.sql_grammar.specs.QueryCopies.{copies_nothing}
+use Rattle.sql_grammar.specs.QueryLookahead.{table}
+use Rattle.sql_grammar.specs.QueryPlan.{of_plan, plan}
+use Rattle.sql_grammar.proofs.copies.CopyPrices.{price_of}
+use Rattle.sql_grammar.proofs.copies.PlanPrices.{any, EvenIn, SameRead, StillRead, LooseRead, evenly, none, no_price, members_price, commas_even, set_tail_rule, and_tail_rule, expr_tail_rule}
+use Rattle.sql_grammar.proofs.copies.PlanSame.{test_rule, rest_rule, primary_rule, agg_rule, item_rule, insides_even}
+use Rattle.sql_grammar.proofs.copies.QueryCompletions.{completed, goes_on}
+use Rattle.sql_grammar.proofs.queries.QueryForms.{form_has_fronts, planned_includes}
+use Rattle.sql_grammar.proofs.queries.QueryTable.{planned}
+
+pub same_rule : (p : Production) (v w : Read p) → SameOf planned copies_nothing any SameRead StillRead LooseRead (plan p) v w → SameRead p v w
+same_rule item v w s = item_rule.same v w s
+same_rule reference v w s = none
+same_rule test v w s = test_rule.same v w s
+same_rule rest v w s = rest_rule.same v w s
+same_rule primary v w s = primary_rule.same v w s
+same_rule agg v w s = agg_rule.same v w s
+same_rule set_tail v w s = set_tail_rule.same v w s
+same_rule and_tail v w s = and_tail_rule.same v w s
+same_rule expr_tail v w s = expr_tail_rule.same v w s
+same_rule inner v w s = (insides_even empty no_price evenly.of_empty).same v w s
+same_rule in_inner v w s = λ left. (insides_even commas (members_price left) (commas_even left)).same v w s
+same_rule other v w s = (price_of evenly other refl).same v w s
+
+pub still_rule : (p : Production) (v : Read p) → StillOf planned copies_nothing StillRead (plan p) v → StillRead p v
+still_rule item v s = item_rule.still v s
+still_rule reference v s = refl
+still_rule test v s = test_rule.still v s
+still_rule rest v s = rest_rule.still v s
+still_rule primary v s = primary_rule.still v s
+still_rule agg v s = agg_rule.still v s
+still_rule set_tail v s = set_tail_rule.still v s
+still_rule and_tail v s = and_tail_rule.still v s
+still_rule expr_tail v s = expr_tail_rule.still v s
+still_rule inner v s = (insides_even empty no_price evenly.of_empty).still v s
+still_rule in_inner v s = λ left. (insides_even commas (members_price left) (commas_even left)).still v s
+still_rule other v s = (price_of evenly other refl).still v s
+
+pub loose_rule : (p : Production) (v : Read p) → StillOf planned any LooseRead (plan p) v → LooseRead p v
+loose_rule rest v s = rest_rule.loose v s
+loose_rule set_tail v s = set_tail_rule.loose v s
+loose_rule and_tail v s = and_tail_rule.loose v s
+loose_rule expr_tail v s = expr_tail_rule.loose v s
+loose_rule other v s = tt
+
+any_tokens : (ts : List Lexeme) → list_all any ts ≡ true
+any_tokens [] = refl
+any_tokens (t ∷ ts) = and_both true (list_all any ts) refl (any_tokens ts)
+
+still_name : (p : Production) (ts : List Lexeme) (v : Read p) → list_all copies_nothing ts ≡ true → (of_plan None p).spells ts v → StillRead p v
+still_name p ts v c s = still_texts planned copies_nothing any SameRead StillRead LooseRead still_rule loose_rule same_rule p ts v c s
+
+loose_at : (h : ℕ) (p : Production) (ts : List Lexeme) (v : Read p) → list_all any ts ≡ true → (language_within kind_of plan h None p).spells ts v → LooseRead p v
+loose_at zero p ts v c s = absurd s
+loose_at (suc h) p ts v c s = loose_rule p v (still_of planned any LooseRead (language_within kind_of plan h) (loose_at h) (plan p) ts v c s)
+
+loose_name : (p : Production) (ts : List Lexeme) (v : Read p) → list_all any ts ≡ true → (of_plan None p).spells ts v → LooseRead p v
+loose_name p ts v c s = let r = spelled_at kind_of plan None p ts v s in loose_at r.0 p ts v c r.1
+
+same_name : (p : Production) (b c x y z : List Lexeme) (v w : Read p) → b ≡ x ++ y → c ≡ x ++ z → (x ≡ [] → ⊥) → list_all copies_nothing y ≡ true → list_all any z ≡ true
+    → (of_plan None p).spells b v → (of_plan None p).spells c w → SameRead p v w
+same_name p b c x y z v w i j n d e s r =
+    same_fronts planned copies_nothing any SameRead StillRead LooseRead still_rule loose_rule same_rule p x y z v w n d e
+    (subst (λ k. (of_plan None p).spells k v) i s) (subst (λ k. (of_plan None p).spells k w) j r)
+
+-- ---- of a form
+
+module _ {A : Type 0} (f : The A) (o : is_predictive every_kind table f ≡ true) (price : A → ℕ) (l : EvenIn f price) where
+  no_less : (x y z : List Lexeme) (v w : A) → list_all copies_nothing y ≡ true → (of_form None f).spells (x ++ y) v → (of_form None f).spells (x ++ z) w → price v ≤ price w
+  no_less [] y z v w c s r =
+      least (price v) (price w) (l.still v (still_of planned copies_nothing StillRead of_plan still_name f y v c ((planned_includes None f).spells y v s)))
+    where
+      least : (a b : ℕ) → a ≡ 0 → a ≤ b
+      least a b i = omega (arith, i)
+  no_less (u ∷ x) y z v w c s r =
+      l.same v w (alike planned copies_nothing any SameRead StillRead LooseRead of_plan (λ room p. named planned room p) still_name loose_name same_name f o
+      (u ∷ (x ++ y)) (u ∷ (x ++ z)) (u ∷ x) y z v w refl refl (λ e. cc) c (any_tokens z)
+      ((planned_includes None f).spells (u ∷ (x ++ y)) v s) ((planned_includes None f).spells (u ∷ (x ++ z)) w r))
+
+  pub form_costs : goes_on f ≡ true → CostsByCompletion copies_nothing (of_form None f) price
+  form_costs e = record { fronts = form_has_fronts None f; completed = completed f e; least = no_less }
+
+pub query_costs : CostsByCompletion copies_nothing queries (λ read. read.copies)
+query_costs = form_costs (ref query) refl (λ read. read.copies) (evenly.of_ref query) refl

@@ -1,0 +1,8 @@
+pub mod EntryCounts
+pub mod EntryLists
+pub mod EntryTexts
+pub mod FewPlan
+pub mod FewSpelled
+pub mod EverywhereQueries
+pub mod EverywhereTrees
+pub mod Fits

@@ -1,0 +1,14 @@
+pub mod QueryBelow
+pub mod QueryFirsts
+pub mod QueryForms
+pub mod QueryFronts
+pub mod QueryInside
+pub mod QueryInsides
+pub mod QueryItems
+pub mod QueryKnown
+pub mod QueryRests
+pub mod QuerySplits
+pub mod QueryTable
+pub mod QueryWords
+pub mod NoSubqueries
+pub mod Variants

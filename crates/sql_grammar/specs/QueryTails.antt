@@ -1,0 +1,46 @@
+-- What one token of lookahead can read of queries, as names of its own: what follows a first part, and what stands in parentheses. The grammar
+-- has no need of them.
+use Rattle.std.specs.Prelude.{List, Some}
+use Rattle.std.proofs.Common.{inl, inr}
+use Rattle.grammar.specs.Form.{Rules, empty, seq, alt, star, map, only, nonempty, counted, ref}
+use Rattle.grammar.specs.Productions.{skip_then, optional}
+use Rattle.sql_model.specs.declared.tree.Expr.{Expr}
+use Rattle.sql_model.specs.declared.tree.Query.{Query}
+use Rattle.sql_lex.specs.Lexemes.{Lexeme}
+use Rattle.sql_grammar.specs.Kinds as k
+use Rattle.sql_grammar.specs.Kinds.{Kind}
+use Rattle.sql_grammar.specs.Numbering.{Built}
+use Rattle.sql_grammar.specs.QueryTrees.{not_sub}
+use Rattle.sql_grammar.specs.QueryTailTrees as t
+use Rattle.sql_grammar.specs.QueryTailTrees.{Inside}
+use Rattle.sql_grammar.specs.QueryGrammar.{Production, Read, The, a, in_parentheses, parens, intersects, unions, products, sums, ands, ors, query, block, expr, rest, set_tail, and_tail, expr_tail, inner, in_inner}
+
+-- a query that begins with a parenthesis, and goes on behind it
+abbrev pub longer_query : The (Built Query)
+longer_query = map (λ p. p.1 p.0) (seq (parens (ref query)) (nonempty (ref set_tail)))
+
+-- , expr
+abbrev pub next_comma : The (Built Expr)
+next_comma = skip_then (a k.Comma) (ref expr)
+
+-- {, expr}
+abbrev pub commas : The (List (Built Expr))
+commas = star (Some 255) next_comma
+
+-- what may stand behind a parenthesis, with what may follow an expression there
+abbrev pub insides : {M : Type 0} → The M → The (Inside M)
+insides more =
+    alt (map (λ q. inl q) (alt (map (λ p. p.1 p.0) (seq (ref block) (ref set_tail))) longer_query))
+    (alt (map (λ p. inr (inl p)) (seq (in_parentheses (ref query)) more))
+    (map (λ p. inr (inr p)) (seq (only not_sub (ref expr)) more)))
+
+-- the other names stand for themselves
+abbrev pub tail_rules : Rules Lexeme Kind Production Read
+tail_rules set_tail = map (λ p. t.combined p.0 p.1) (seq intersects unions)
+tail_rules and_tail = map (λ p. t.joined p.0 p.1) (seq ands ors)
+tail_rules expr_tail =
+    map (λ p. t.continued p.0 p.1.0 p.1.1.0 p.1.1.1)
+    (seq (counted (seq products sums)) (seq (optional (ref rest)) (seq ands ors)))
+tail_rules inner = insides empty
+tail_rules in_inner = insides commas
+tail_rules other = ref other

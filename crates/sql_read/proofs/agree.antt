@@ -1,0 +1,13 @@
+pub mod AgreeAll
+pub mod AgreeBlocks
+pub mod AgreeEntries
+pub mod AgreeExprs
+pub mod AgreeFewEntries
+pub mod AgreeGoingOn
+pub mod AgreeInsides
+pub mod AgreeItems
+pub mod AgreeMembers
+pub mod AgreeNames
+pub mod AgreePrimaries
+pub mod AgreeSets
+pub mod AgreeTests

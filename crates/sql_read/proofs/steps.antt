@@ -1,0 +1,14 @@
+pub mod Extending
+pub mod ReadSteps
+pub mod ReadPassing
+pub mod ReadForks
+pub mod ReadLoops
+pub mod ReadUnlimited
+pub mod ReadCopies
+pub mod ReadCopiedSteps
+pub mod RefusedNext
+pub mod Agreeing
+pub mod AgreeSteps
+pub mod AgreeLoops
+pub mod AgreeDeeper
+pub mod AgreeChains

@@ -1,0 +1,2 @@
+pub mod WholeQueries
+pub mod WholeTexts
