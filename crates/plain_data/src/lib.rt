@@ -1,14 +1,16 @@
-//! A list and a box that contracts see as what they hold.
+//! A list, a box and a box of several owners that contracts see as what they hold.
 //!
-//! In a clause a `Vec` and a `Box` show their pointer, so a copy of a tree over them is not equal to its
-//! source. A tree over these two types has no pointer in its value: equal trees are equal in clauses, and
+//! In a clause a `Vec`, a `Box` and an `Rc` show their pointer, so a copy of a tree over them is not equal to its
+//! source. A tree over these types has no pointer in its value: equal trees are equal in clauses, and
 //! definitions recurse on them.
 #![tactic(auto)]
 
 mod boxed;
 mod list;
+mod shared;
 #[cfg(test)]
 mod tests;
 
 pub use boxed::Boxed;
 pub use list::List;
+pub use shared::Shared;

@@ -1,4 +1,4 @@
-use crate::{Boxed, List};
+use crate::{Boxed, List, Shared};
 use std::test::Fail;
 
 /// A tree that holds itself through both types.
@@ -31,6 +31,15 @@ fn a_box_is_edited_in_place(rt: HostRuntime) -> Result<(), Fail> {
     *boxed.get_mut() += 1;
     assert_eq!(rt; *boxed.get(), 5);
     assert_eq!(rt; boxed.into_inner(), 5);
+    Ok(())
+}
+
+#[test]
+fn what_is_shared_outlives_its_first_owner(rt: HostRuntime) -> Result<(), Fail> {
+    let first = Shared::new(rt.alloc(), 4u8)?;
+    let second = first.share()?;
+    drop(first);
+    assert_eq!(rt; *second.get(), 4);
     Ok(())
 }
 

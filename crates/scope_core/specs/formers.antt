@@ -1,2 +1,1 @@
 pub mod items
-pub mod shared

@@ -3,8 +3,7 @@ ghost use Rattle.std.specs.Prelude.{◌≡◌, ◌++◌, ◌∷◌, [], length, 
 ghost use Rattle.scope_core.specs.Written.{written};
 
 use crate::NoMemory;
-use crate::shared::Shared;
-use plain_data::List;
+use plain_data::{List, Shared};
 use std::alloc::Global;
 use std::marker::Model;
 use std::mem;

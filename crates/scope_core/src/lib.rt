@@ -19,17 +19,15 @@ mod resolution;
 mod resolved;
 mod run;
 mod shape;
-pub mod shared;
 mod star;
 pub mod tree;
 mod views;
 
 pub use fault::{ScopeCode, ScopeFault};
 pub use items::Items;
-pub use plain_data::{Boxed, List};
+pub use plain_data::{Boxed, List, Shared};
 pub use resolved::{Resolved, Views};
 pub use shape::query_width;
-pub use shared::Shared;
 pub use sql_model::{AggFun, SetOp};
 pub use std::alloc::AllocError as NoMemory;
 pub use tree::{Grouping, RBlock, RCond, REntry, RQuery, RSource, RVal};

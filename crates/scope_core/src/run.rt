@@ -3,10 +3,9 @@ ghost use Rattle.std.specs.Prelude.{◌≡◌, IfOk, IsTrue};
 ghost use Rattle.scope_core.specs.Runs.{columns_of};
 
 use crate::NoMemory;
-use crate::shared::Shared;
 use crate::tree::RVal;
 use indexmap::IndexMap;
-use plain_data::List;
+use plain_data::{List, Shared};
 use std::alloc::Global;
 use std::cell::RefCell;
 use std::marker::Model;

@@ -6,9 +6,8 @@ ghost use Rattle.scope_core.specs.Plain.{is_grouping, is_plain_tree, is_table, i
 ghost use Rattle.scope_core.specs.Width.{width};
 
 use crate::items::Items;
-use crate::shared::Shared;
 use crate::tree::{Grouping, RBlock, RCond, REntry, RQuery, RSource, RVal};
-use plain_data::List;
+use plain_data::{List, Shared};
 
 /// How many columns the answer of a tree has.
 #[tactic(auto, using(crate::proofs::Shapes::widths))]

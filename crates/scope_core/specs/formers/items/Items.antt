@@ -19,8 +19,8 @@ use Rattle.std.specs.contracts.alloc.Global as global
 use Rattle.std.specs.contracts.impls.GlobalAllocator.TheImpl.{ghosts}
 use Rattle.plain_data.specs.formers.list.List as items
 use Rattle.plain_data.specs.contracts.list.List as items_contract
-use Rattle.scope_core.specs.formers.shared.Shared as shared
-use Rattle.scope_core.specs.contracts.shared.Shared as shared_contract
+use Rattle.plain_data.specs.formers.shared.Shared as shared
+use Rattle.plain_data.specs.contracts.shared.Shared as shared_contract
 use Rattle.scope_core.specs.Written.{written}
 use Rattle.scope_core.specs.declared.items.Items.TheInside.{Inside}
 use Rattle.scope_core.specs.declared.items.Items.TheView.{view, invariant}

@@ -1,8 +1,6 @@
-//! Values with several owners.
 ghost use Rattle.std.specs.Prelude.{◌≡◌, IfOk};
 
-use crate::NoMemory;
-use std::alloc::Global;
+use std::alloc::{AllocError, Global};
 use std::marker::Model;
 use std::rc::Rc;
 
@@ -31,7 +29,7 @@ impl<T> Shared<T> {
 
 impl<T: Drop> Shared<T> {
     /// A value with one owner. Where memory runs out the value is dropped.
-    pub fn new(alloc: Global, value: T) -> Result<Shared<T>, NoMemory>
+    pub fn new(alloc: Global, value: T) -> Result<Shared<T>, AllocError>
         ensures { IfOk result (λ shared. shared ≡ value) }
     {
         Ok(Shared {
@@ -40,7 +38,7 @@ impl<T: Drop> Shared<T> {
     }
 
     /// The same value for one owner more.
-    pub fn share(&self) -> Result<Shared<T>, NoMemory>
+    pub fn share(&self) -> Result<Shared<T>, AllocError>
         ensures { IfOk result (λ shared. shared ≡ self.now) }
     {
         Ok(Shared {

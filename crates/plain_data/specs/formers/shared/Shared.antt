@@ -17,10 +17,10 @@ use Rattle.std.specs.contracts.rc.Rc as rc
 use Rattle.std.specs.declared.alloc.Global.{Global}
 use Rattle.std.specs.contracts.alloc.Global as global
 use Rattle.std.specs.contracts.impls.GlobalAllocator.TheImpl.{ghosts}
-use Rattle.scope_core.specs.declared.shared.Shared.TheInside.{Inside}
-use Rattle.scope_core.specs.declared.shared.Shared.TheView.{view, invariant}
-use Rattle.scope_core.specs.contracts.shared.Shared as contract
-use Rattle.scope_core.specs.contracts.shared.Shared.TheInside as inside
+use Rattle.plain_data.specs.declared.shared.Shared.TheInside.{Inside}
+use Rattle.plain_data.specs.declared.shared.Shared.TheView.{view, invariant}
+use Rattle.plain_data.specs.contracts.shared.Shared as contract
+use Rattle.plain_data.specs.contracts.shared.Shared.TheInside as inside
 
 abbrev pub the_former : Former {0} → Former {0}
 the_former g = g
