@@ -20,6 +20,7 @@ use Rattle.schema_read.specs.Keys.{is_named, places_in, place_of_key, has_key, s
 use Rattle.schema_read.specs.Indexes.{bare_column, index_query}
 use Rattle.schema_read.specs.ForeignKeys.{foreign_key}
 use Rattle.schema_read.specs.Faults.{Relations, table_in, is_primary_rule, own_table, statement_fault}
+use Rattle.schema_read.specs.StatementLimits.{most_columns}
 
 -- ---- keys
 abbrev pub with_key : Option (List ℕ) → List (List ℕ) → List ℕ → List (List ℕ)
@@ -55,7 +56,7 @@ with_fkey fkeys (Some fkey) = fkeys ++ fkey ∷ []
 
 -- ---- widths, which fit their numbers
 abbrev pub IsNarrow : Table → Type 0
-IsNarrow table = (length table.columns ≤ 32) × Each (Each (λ column. column < 64)) table.keys
+IsNarrow table = (length table.columns ≤ most_columns) × Each (Each (λ column. column < 64)) table.keys
 
 abbrev pub IsNarrowRelation : Relation → Type 0
 IsNarrowRelation (relation.Table table) = IsNarrow table

@@ -17,6 +17,7 @@ use Rattle.schema_read.specs.Tables.{names_of, written_keys, table_of}
 use Rattle.schema_read.specs.Indexes.{index_query}
 use Rattle.schema_read.specs.Faults.{Relations, own_table}
 use Rattle.schema_read.specs.ForeignKeys.{foreign_keys}
+use Rattle.schema_read.specs.StatementLimits.{most_columns}
 
 abbrev pub declared_name : Statement → Name
 declared_name (statement.Table name columns rules) = name.name
@@ -95,6 +96,6 @@ fkeys_of statements = flat_map (λ fkeys. fkeys) (map_along declared_fkeys [] st
 -- ---- sizes
 -- what fits the numbers of a schema
 abbrev pub IsSmall : Statement → Type 0
-IsSmall (statement.Table name columns rules) = (length columns ≤ 32) × (length rules < 2 ^ 31)
+IsSmall (statement.Table name columns rules) = (length columns ≤ most_columns) × (length rules < 2 ^ 31)
 IsSmall (statement.View name query) = Unit {0}
 IsSmall (statement.Index name unique on columns) = Unit {0}

@@ -3,6 +3,7 @@ ghost use Rattle.std.specs.Prelude.{◌≡◌, ◌≤◌, ◌<◌, ◌^◌, ◌+
 ghost use Rattle.schema_read.specs.Faults.{rule_fault, rules_fault};
 ghost use Rattle.schema_read.specs.Building.{IsNarrow, AreNarrow, with_fkey, after_rule, after_rules};
 ghost use Rattle.schema_read.specs.Known.{AreKnown};
+ghost use Rattle.schema_read.specs.StatementLimits.{most_columns};
 ghost use Rattle.schema_read.specs.Views.{Gives};
 
 use crate::fault::{SchemaCode, SchemaFault};
@@ -114,7 +115,7 @@ impl Builder {
         rules: &List<TableRule>,
     ) -> Result<(), SchemaFault>
         requires few_tables { self.old.tables + 1 < 2 ^ 32 }
-        requires few_columns { length columns.now ≤ 32 }
+        requires few_columns { length columns.now ≤ most_columns }
         requires few_rules { length rules.now < 2 ^ 31 }
         requires narrow { AreNarrow self.old.relations.entries }
         ensures { Gives (λ _. seen self.new) result (state_fault (seen self.old) (ATable name.now columns.now rules.now))

@@ -7,6 +7,7 @@ ghost use Rattle.schema_read.specs.Indexes.{primary_columns};
 ghost use Rattle.schema_read.specs.Faults.{is_primary_rule, own_table};
 ghost use Rattle.schema_read.specs.Building.{IsNarrow, with_unique, with_key, with_rule, keys_after, first_primary, built_table};
 ghost use Rattle.schema_read.specs.Sets.{column_set};
+ghost use Rattle.schema_read.specs.StatementLimits.{most_columns};
 
 use crate::names::{names_of, places_in};
 use crate::sets::column_set;
@@ -121,7 +122,7 @@ fn add_rule_key(
     sets: &mut IndexSet<u64>,
     rule: &TableRule,
 ) -> Result<(), AllocError>
-    requires narrow { length columns.now ≤ 32 }
+    requires narrow { length columns.now ≤ most_columns }
     requires sets { sets.old.keys ≡ map column_set keys.old }
     ensures added { OnOk result (keys.new ≡ with_rule columns.now primary.now keys.old rule.now) }
     ensures longer { OnOk result (length keys.new ≤ length keys.old + 1) }
@@ -143,7 +144,7 @@ fn own_keys(
     primary: &Option<List<u32>>,
     rules: &[TableRule],
 ) -> Result<List<List<u32>>, AllocError>
-    requires { length columns.now ≤ 32 }
+    requires { length columns.now ≤ most_columns }
     ensures keys { IfOk result (λ keys. keys ≡ keys_after columns.now primary.now rules.now) }
     ensures few { IfOk result (λ keys. length keys ≤ length rules.now) }
 {
@@ -197,7 +198,7 @@ fn table_with_keys(
     columns: List<Name>,
     rules: &[TableRule],
 ) -> Result<Table, AllocError>
-    requires narrow { length columns ≤ 32 }
+    requires narrow { length columns ≤ most_columns }
     requires few { length rules.now < 2 ^ 31 }
     ensures { IfOk result (λ table. table ≡ built_table number columns rules.now) }
 {
@@ -219,7 +220,7 @@ pub(crate) fn own_table(
     columns: &[NameAt],
     rules: &[TableRule],
 ) -> Result<Table, AllocError>
-    requires narrow { length columns.now ≤ 32 }
+    requires narrow { length columns.now ≤ most_columns }
     requires few { length rules.now < 2 ^ 31 }
     ensures table { IfOk result (λ table. table ≡ own_table number columns.now rules.now) }
     ensures narrow { IfOk result (λ table. IsNarrow table) }

@@ -11,6 +11,7 @@ ghost use Rattle.schema_read.specs.Counting.{Counts, ReadsTelling, few_planned, 
 ghost use Rattle.schema_read.specs.Declarations.{IsSmall};
 ghost use Rattle.schema_read.specs.ReadingStatements.{IsRead, IsRefused};
 ghost use Rattle.schema_read.specs.StatementGrammar as g;
+ghost use Rattle.schema_read.specs.StatementLimits.{most_relations};
 
 mod columns;
 mod elements;
@@ -53,7 +54,7 @@ pub fn read_inner_statements(
     ensures relations { Counts limit.Relations g.statements few_planned tokens.old result tokens.new }
     ensures copied { Copied g.statements (λ read. read) tokens.old tokens.old result tokens.new }
     // What `read_schema` requires.
-    ensures few { IfOk result (λ statements. length statements ≤ 256) }
+    ensures few { IfOk result (λ statements. length statements ≤ most_relations) }
     ensures small { IfOk result (λ statements. length tokens.old.tokens < 2 ^ 31 → Each IsSmall statements) }
     ensures extends { Extends tokens.old tokens.new }
 {
