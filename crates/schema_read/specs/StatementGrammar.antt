@@ -10,7 +10,7 @@ use Rattle.sql_lex.specs.Lexemes.{Lexeme}
 use Rattle.sql_grammar.specs.declared.kinds.Kind.{Kind}
 use Rattle.sql_grammar.specs.declared.kinds.Kind.TheVariants as k
 use Rattle.sql_grammar.specs.Numbering.{Built, each}
-use Rattle.sql_grammar.specs.QueryGrammar.{The, a, one_of, name, parens, listed, query}
+use Rattle.sql_grammar.specs.QueryGrammar.{The, a, one_of, name, most_separators, parens, listed, query}
 use Rattle.schema_read.specs.StatementTrees as t
 use Rattle.schema_read.specs.StatementTrees.{Elements, Target}
 
@@ -90,7 +90,7 @@ element = alt column constraint
 
 -- {, element}
 abbrev pub elements : The (List Elements)
-elements = star (Some 255) (skip_then (a k.Comma) element)
+elements = star (Some most_separators) (skip_then (a k.Comma) element)
 
 -- ---- statements, with what may follow the first column of a table
 

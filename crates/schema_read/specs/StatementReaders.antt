@@ -9,6 +9,7 @@ use Rattle.sql_grammar.specs.declared.kinds.Kind.{Kind}
 use Rattle.sql_grammar.specs.declared.kinds.Kind.TheVariants as k
 use Rattle.sql_grammar.specs.Kinds.{among, name_kinds, same}
 use Rattle.sql_grammar.specs.Queries.{most_levels}
+use Rattle.sql_grammar.specs.QueryGrammar.{most_separators}
 use Rattle.sql_grammar.specs.QueryTrees.{is_given}
 use Rattle.sql_read.specs.declared.fault.LimitKind.TheVariants as limit
 use Rattle.sql_read.specs.declared.fault.ReadFault.TheVariants.{Limit}
@@ -117,7 +118,7 @@ abbrev pub next_element : Elements → Lexeme → Reader Elements
 next_element before word = element before
 
 unfoldable pub listed_elements : Reader Elements
-listed_elements c = column t.no_elements c >>= repeated comma next_element 255
+listed_elements c = column t.no_elements c >>= repeated comma next_element most_separators
 
 unfoldable pub table_elements : Reader Elements
 table_elements c = expected (same k.Open) c >>= λ open_ c. listed_elements c >>= λ elements c. expected (same k.Close) c >>= λ close. done elements

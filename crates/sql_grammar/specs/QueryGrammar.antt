@@ -1,7 +1,7 @@
 -- The grammar of queries, with the trees that it spells. `optional f` is [f], `star most f` is {f} and `listed f` is f {, f}. Each `(`,
--- prefix NOT and prefix minus opens a level; within the limits a chain of set operators, of `+ - ||` or of `* /` has at most 63 of them,
--- and one of AND or OR and a list at most 255.
-use Rattle.std.specs.Prelude.{List, [], ◌∷◌, Option, Some, None}
+-- prefix NOT and prefix minus opens a level; within the limits a chain of set operators, of `+ - ||` or of `* /` has at most `most_operators`
+-- of them, and one of AND or OR and a list at most `most_separators`.
+use Rattle.std.specs.Prelude.{ℕ, List, [], ◌∷◌, Option, Some, None}
 use Rattle.grammar.specs.Form.{Form, Rules, token, seq, alt, star, nest, map, only, counted, ref}
 use Rattle.grammar.specs.Productions.{skip_then, then_skip, optional, separated}
 use Rattle.sql_model.specs.declared.tree.Expr.{Expr}
@@ -92,6 +92,16 @@ called_word = one_of (k.Word ∷ k.Key ∷ k.View ∷ k.Index ∷ [])
 abbrev pub aggregate_word : The Lexeme
 aggregate_word = one_of (k.Count ∷ k.Sum ∷ k.Avg ∷ k.Min ∷ k.Max ∷ [])
 
+-- ---- lengths
+
+-- operators of a chain of set operators, of `+ - ||` or of `* /`: at most 64 operands, so one fewer
+abbrev pub most_operators : ℕ
+most_operators = 63
+
+-- ANDs, ORs or commas of a chain or a list: at most 256 parts, so one fewer
+abbrev pub most_separators : ℕ
+most_separators = 255
+
 -- ---- ways to write productions
 
 -- ( f ), with the parenthesis
@@ -104,7 +114,7 @@ parens f = map (λ p. p.1) (in_parentheses f)
 
 -- f {, f}
 abbrev pub listed : {A : Type 0} → The A → The (A × List A)
-listed f = separated (Some 255) (a k.Comma) f
+listed f = separated (Some most_separators) (a k.Comma) f
 
 -- [AS] name
 abbrev pub alias : The Lexeme
@@ -171,7 +181,7 @@ next_intersect = seq intersect (ref operand)
 
 -- {INTERSECT operand}
 abbrev pub intersects : The (List (SetWord × Built Query))
-intersects = star (Some 63) next_intersect
+intersects = star (Some most_operators) next_intersect
 
 -- (UNION [ALL] | EXCEPT) part
 abbrev pub next_union : The (SetWord × Built Query)
@@ -179,7 +189,7 @@ next_union = seq union_or_except (ref part)
 
 -- {(UNION [ALL] | EXCEPT) part}
 abbrev pub unions : The (List (SetWord × Built Query))
-unions = star (Some 63) next_union
+unions = star (Some most_operators) next_union
 
 -- (* | /) unary
 abbrev pub next_product : The (Lexeme × Built Expr)
@@ -187,7 +197,7 @@ next_product = seq (one_of (k.Star ∷ k.Slash ∷ [])) (ref unary)
 
 -- {(* | /) unary}
 abbrev pub products : The (List (Lexeme × Built Expr))
-products = star (Some 63) next_product
+products = star (Some most_operators) next_product
 
 -- (+ | - | ||) term
 abbrev pub next_sum : The (Lexeme × Built Expr)
@@ -195,7 +205,7 @@ next_sum = seq (one_of (k.Plus ∷ k.Minus ∷ k.Concat ∷ [])) (ref term)
 
 -- {(+ | - | ||) term}
 abbrev pub sums : The (List (Lexeme × Built Expr))
-sums = star (Some 63) next_sum
+sums = star (Some most_operators) next_sum
 
 -- AND neg
 abbrev pub next_and : The (Built Expr)
@@ -203,7 +213,7 @@ next_and = skip_then (a k.And) (ref neg)
 
 -- {AND neg}
 abbrev pub ands : The (List (Built Expr))
-ands = star (Some 255) next_and
+ands = star (Some most_separators) next_and
 
 -- OR conj
 abbrev pub next_or : The (Built Expr)
@@ -211,7 +221,7 @@ next_or = skip_then (a k.Or) (ref conj)
 
 -- {OR conj}
 abbrev pub ors : The (List (Built Expr))
-ors = star (Some 255) next_or
+ors = star (Some most_separators) next_or
 
 -- NOT neg
 abbrev pub not_neg : The (Built Expr)

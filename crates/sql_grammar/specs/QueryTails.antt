@@ -13,7 +13,7 @@ use Rattle.sql_grammar.specs.Numbering.{Built}
 use Rattle.sql_grammar.specs.QueryTrees.{not_sub}
 use Rattle.sql_grammar.specs.QueryTailTrees as t
 use Rattle.sql_grammar.specs.QueryTailTrees.{Inside}
-use Rattle.sql_grammar.specs.QueryGrammar.{Production, Read, The, a, in_parentheses, parens, intersects, unions, products, sums, ands, ors, query, block, expr, rest, set_tail, and_tail, expr_tail, inner, in_inner}
+use Rattle.sql_grammar.specs.QueryGrammar.{Production, Read, The, a, most_separators, in_parentheses, parens, intersects, unions, products, sums, ands, ors, query, block, expr, rest, set_tail, and_tail, expr_tail, inner, in_inner}
 
 -- a query that begins with a parenthesis, and goes on behind it
 abbrev pub longer_query : The (Built Query)
@@ -25,7 +25,7 @@ next_comma = skip_then (a k.Comma) (ref expr)
 
 -- {, expr}
 abbrev pub commas : The (List (Built Expr))
-commas = star (Some 255) next_comma
+commas = star (Some most_separators) next_comma
 
 -- what may stand behind a parenthesis, with what may follow an expression there
 abbrev pub insides : {M : Type 0} → The M → The (Inside M)

@@ -19,6 +19,7 @@ use Rattle.sql_grammar.specs.Kinds.{among, kind_of, name_kinds, same}
 use Rattle.sql_grammar.specs.Numbering.{Built, literal_number, symbol_number}
 use Rattle.sql_grammar.specs.QueryCopies.{most_copies}
 use Rattle.sql_grammar.specs.QueryEntries.{most_entries}
+use Rattle.sql_grammar.specs.QueryGrammar.{most_operators, most_separators}
 use Rattle.sql_grammar.specs.QueryTrees as t
 use Rattle.sql_grammar.specs.TokenValues.{name_of}
 use Rattle.sql_read.specs.declared.fault.LimitKind.TheVariants as limit
@@ -163,7 +164,7 @@ one_more f xs w c = f c >>= λ x. done (xs ++ x ∷ [])
 
 -- f {, f}
 abbrev pub listed : {A : Type 0} → Reader A → Reader (List A)
-listed f c = f c >>= λ first. repeated comma (one_more f) 255 (first ∷ [])
+listed f c = f c >>= λ first. repeated comma (one_more f) most_separators (first ∷ [])
 
 -- ---- names
 
@@ -353,13 +354,13 @@ module _ (levels : ℕ) (deeper : Deeper) where
   unary = seen (same k.Minus) negative primary
 
   unfoldable pub products : Expr → Reader Expr
-  products left = repeated product_sign (operated unary) 63 left
+  products left = repeated product_sign (operated unary) most_operators left
 
   unfoldable pub term : Reader Expr
   term c = unary c >>= products
 
   unfoldable pub sums : Expr → Reader Expr
-  sums left = repeated sum_sign (operated term) 63 left
+  sums left = repeated sum_sign (operated term) most_operators left
 
   unfoldable pub value : Reader Expr
   value c = term c >>= sums
@@ -403,13 +404,13 @@ module _ (levels : ℕ) (deeper : Deeper) where
   neg c = eaten_within (among (k.Not ∷ [])) levels c >>= on negated tested_value
 
   unfoldable pub ands : Expr → Reader Expr
-  ands first = seen (same k.And) (λ c. repeated and_word (one_more neg) 255 (first ∷ []) c >>= λ parts. done (an_expr.And parts (t.place first))) (done first)
+  ands first = seen (same k.And) (λ c. repeated and_word (one_more neg) most_separators (first ∷ []) c >>= λ parts. done (an_expr.And parts (t.place first))) (done first)
 
   unfoldable pub conj : Reader Expr
   conj c = neg c >>= ands
 
   unfoldable pub ors : Expr → Reader Expr
-  ors first = seen (same k.Or) (λ c. repeated or_word (one_more conj) 255 (first ∷ []) c >>= λ parts. done (an_expr.Or parts (t.place first))) (done first)
+  ors first = seen (same k.Or) (λ c. repeated or_word (one_more conj) most_separators (first ∷ []) c >>= λ parts. done (an_expr.Or parts (t.place first))) (done first)
 
   unfoldable pub expr : Reader Expr
   expr c = conj c >>= ors
@@ -436,7 +437,7 @@ module _ (levels : ℕ) (deeper : Deeper) where
   -- the members of a list of IN behind the first
   unfoldable pub members : Sought → Expr → Reader Expr
   members sought first c =
-      repeated comma (next_member sought) 255 ([], first) c >>= λ found. done (any_of sought.value found.0 (an_expr.Eq sought.value found.1 (t.place sought.value)))
+      repeated comma (next_member sought) most_separators ([], first) c >>= λ found. done (any_of sought.value found.0 (an_expr.Eq sought.value found.1 (t.place sought.value)))
 
   -- ---- items
 
@@ -496,7 +497,7 @@ module _ (levels : ℕ) (deeper : Deeper) where
   next_from entries word = from entries
 
   unfoldable pub entries : Reader (List Entry)
-  entries c = from [] c >>= repeated comma next_from 255
+  entries c = from [] c >>= repeated comma next_from most_separators
 
   -- ---- blocks
 
@@ -524,7 +525,7 @@ module _ (levels : ℕ) (deeper : Deeper) where
   intersected left word c = operand c >>= λ right. done (a_query.Set s.Intersect left right word.start)
 
   unfoldable pub intersects : Query → Reader Query
-  intersects left = repeated intersect_word intersected 63 left
+  intersects left = repeated intersect_word intersected most_operators left
 
   unfoldable pub part : Reader Query
   part c = operand c >>= intersects
@@ -533,7 +534,7 @@ module _ (levels : ℕ) (deeper : Deeper) where
   united left word c = part c >>= λ right. done (a_query.Set word.0 left right word.1)
 
   unfoldable pub unions : Query → Reader Query
-  unions left = repeated set_word united 63 left
+  unions left = repeated set_word united most_operators left
 
   unfoldable pub query : Reader Query
   query c = part c >>= unions
