@@ -10,6 +10,8 @@ use Rattle.sql_model.specs.Syntax.{Name}
 use Rattle.schema_read.specs.declared.fault.SchemaCode.{SchemaCode}
 use Rattle.schema_read.specs.declared.fault.SchemaCode.TheVariants as code
 use Rattle.schema_read.specs.Order.{Fault}
+use Rattle.schema_read.specs.Indexes.{shown_columns}
+use Rattle.schema_read.specs.Faults.{own_table}
 use Rattle.schema_read.specs.Declarations.{table_named, fkeys_of}
 use Rattle.schema_read.specs.Builds.{schema_fault}
 
@@ -143,3 +145,8 @@ a_primary_key_for_an_older_key = refl
 -- a unique index is a key for later statements
 a_key_of_an_index : schema_fault (table_r [] ∷ index_on true r (b ∷ []) ∷ statement.Table (at_ (codes "t") 8) (a ∷ []) (to_r (a ∷ []) (Some (b ∷ [])) ∷ []) ∷ []) ≡ None
 a_key_of_an_index = refl
+
+-- ---- what an index shows
+-- the columns that it names, and then those of the primary key that it does not name
+an_index_shows_the_key : shown_columns (a ∷ []) 9 (own_table 0 (a ∷ b ∷ []) (primary (b ∷ a ∷ []) 5 ∷ [])) ≡ a ∷ at_ (codes "b") 9 ∷ []
+an_index_shows_the_key = refl
