@@ -14,7 +14,7 @@ use Rattle.sql_grammar.specs.declared.kinds.Kind.{Kind}
 use Rattle.sql_grammar.specs.Kinds.{name_kinds, same, among}
 use Rattle.sql_grammar.specs.Numbering.{literal_number, plain}
 use Rattle.sql_grammar.specs.QueryGrammar as grammar
-use Rattle.sql_grammar.specs.QueryPlan.{column_of, dot_name}
+use Rattle.sql_grammar.specs.QueryPlan.{column_of, column_or, dot_name}
 use Rattle.sql_grammar.specs.QueryPlan as plan
 use Rattle.sql_grammar.specs.QueryTrees as t
 use Rattle.sql_grammar.proofs.copies.QueryFillings.{fill_absent, fill_seq, fill_token_of, word as spelled, word}
@@ -67,10 +67,6 @@ module _ {X : Type 0} (P : Reading X → Type 0) (next : Option Expr → Reader 
       found of word mid n agrees = by_numbered (λ r. P (r >>= next)) mid (literal_number (of word)) _ (λ lit end u. some (an_expr.Lit lit word.start) end n (λ levels. agrees levels lit end u))
 
 -- ---- columns
-
-abbrev column_or : Lexeme → Option Lexeme → Expr
-column_or word None = t.column (None, word)
-column_or word (Some name) = t.column (Some word, name)
 
 column_built : (word : Lexeme) (v : Option Lexeme) {x : Expr} {start end : Cursor} → Builds (column_of word v) start x end → Builds (plain (column_or word v)) start x end
 column_built word None u = u
