@@ -1,5 +1,5 @@
 //! What comes of a run.
-ghost use Rattle.std.specs.Prelude.{◌≡◌, [], IfOk};
+ghost use Rattle.std.specs.Prelude.{◌≡◌, []};
 
 use crate::row::Text;
 use row_text::Outcome;

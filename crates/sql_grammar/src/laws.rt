@@ -15,7 +15,7 @@ ghost use Rattle.sql_grammar.specs.QueryCopies.{IsCopyTooMany, copies_nothing, m
 ghost use Rattle.sql_grammar.specs.QueryEntries.{IsEntryTooMany, few_queries, few_rules, most_further};
 ghost use Rattle.sql_grammar.specs.QueryPlan.{few_plan, of_plan};
 ghost use Rattle.sql_grammar.specs.QueryLookahead.{table};
-ghost use Rattle.sql_grammar.specs.QueryGrammar.{Production, Read, query};
+ghost use Rattle.sql_grammar.specs.QueryGrammar.{Production, query};
 
 /// A text may go on after no tokens, after fewer tokens than it may go on after, and after a query.
 pub fn fronts()

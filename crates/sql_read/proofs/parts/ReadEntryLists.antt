@@ -22,7 +22,7 @@ use Rattle.sql_grammar.specs.declared.kinds.Kind.TheVariants as k
 use Rattle.sql_grammar.specs.Kinds.{kind_of, same, among}
 use Rattle.sql_grammar.specs.Numbering.{Built}
 use Rattle.sql_grammar.specs.QueryEntries.{Further, before_entry, further_entries, most_entries, most_further, next_entry}
-use Rattle.sql_grammar.specs.QueryGrammar.{The, a, cross_join, entry, expr, join_on}
+use Rattle.sql_grammar.specs.QueryGrammar.{The, a, entry, expr}
 use Rattle.sql_grammar.specs.QueryPlan.{of_plan, plan}
 use Rattle.sql_grammar.specs.QueryTrees as t
 use Rattle.sql_grammar.specs.declared.listed.Listed.{Listed}
