@@ -2,8 +2,6 @@
 use Rattle.std.proofs.Common.{ℕ, zero, suc, ◌+◌, ◌-◌, List, [], ◌∷◌, ◌++◌, length, Result, ◌<◌, ◌≡◌, ◌==◌, ◌∙◌, sym, subst, ap, add-one, length-append, Some, None, Option, Ok, Err, OnOk, refl, arith, inl, inr, Bool, true, false, ◌&&◌, ◌||◌, nat_lt, if◌then◌else◌}
 use Rattle.std.proofs.Math.Dec.{eqb-suc-zero}
 use Rattle.std.proofs.lemmas.Bool.{cases_Bool, eqb-true, ltb-true}
-use Rattle.std.proofs.lemmas.Result.{err_from_is_err_and}
-use Rattle.std.specs.Result.{IsErrAnd}
 use native.Mathlib.Numerals.{unary_clauses}
 use Rattle.sql_grammar.specs.Kinds.{among, name_kinds, same}
 use Rattle.sql_grammar.specs.QueryEntries.{most_entries}
@@ -12,7 +10,6 @@ use Rattle.sql_grammar.specs.declared.kinds.Kind.{Kind}
 use Rattle.sql_grammar.specs.declared.kinds.Kind.TheVariants as k
 use Rattle.sql_grammar.specs.declared.listed.Listed.{Listed}
 use Rattle.sql_lex.specs.Lexemes.{Lexeme}
-use Rattle.sql_lex.specs.declared.token.Token.{Token}
 use Rattle.sql_model.specs.declared.tree.Entry.{Entry}
 use Rattle.sql_model.specs.declared.tree.Expr.{Expr}
 use Rattle.sql_model.specs.declared.tree.Expr.TheVariants.{Or}
@@ -23,24 +20,12 @@ use Rattle.sql_read.specs.declared.tokens.counting.Mark.{Mark}
 use Rattle.sql_read.specs.Cursor.{Cursor}
 use Rattle.sql_read.specs.Eating.{PassesWithin, Stays, allowed_entry, is_next}
 use Rattle.sql_read.specs.Refusals.{refusal}
-use Rattle.sql_read.proofs.parts.ReadBlocks.{seen}
-use Rattle.sql_read.specs.Reading.{Gives, Reader, Reading, Stops, ◌>>=◌, any_of, eaten, eaten_within, expected, lexeme_if_any, mark, table_entry, repeated, joined, joined_entry, at, deeper_than}
+use Rattle.sql_read.specs.Reading.{Gives, Reader, Reading, Stops, ◌>>=◌, any_of, eaten, eaten_within, expected, mark, table_entry, repeated, joined, joined_entry, at, deeper_than}
 
 -- what stops stops what would go on behind it
 pub stops_first : {A B : Type 0} (fault : ReadFault) (here : Cursor) (reading : Reading A) (next : A → Reader B) → Stops fault here reading → Stops fault here (reading >>= next)
 stops_first NoMemory here reading next s = tt
 stops_first other here reading next s = rw s refl
-
--- what stops code is what it answers
-pub gives_stop : {A : Type 0} (result : Result A ReadFault) (fault : ReadFault) (here : Cursor) (reading : Reading A) → IsErrAnd result (λ y. y ≡ fault) → Stops fault here reading → Gives result here reading
-gives_stop result fault here reading i s =
-    let p = err_from_is_err_and result i in
-    subst (λ z. Gives z here reading) (sym p.1) (subst (λ z. Stops z here reading) (sym p.2) s)
-
--- a token that may stand next, where code does not ask whether it did
-pub eaten_or_not : (p : Kind → Bool) (c d : Cursor) (found : Option Token) → Gives (lexeme_if_any (Ok found)) d (eaten p c) → eaten p c ≡ (Ok (seen found), d)
-eaten_or_not p c d None e = e
-eaten_or_not p c d (Some t) e = e
 
 -- a word that was passed was found
 pub eaten_some : {p : Kind → Bool} {room : ℕ} {a b : Cursor} {t : Lexeme} → PassesWithin p room a t b → eaten_within p room a ≡ (Ok (Some t), b)

@@ -1,10 +1,9 @@
 -- Blocks, from what is read of their clauses.
-use Rattle.std.proofs.Common.{◌≡◌, Bool, List, Option, Some, None, refl, sym, ◌∙◌, ap, arith}
-use Rattle.std.specs.Option.{is_some}
+use Rattle.std.proofs.Common.{◌≡◌, Bool, List, Option, Some, None, sym, ◌∙◌, ap, arith}
 use Rattle.grammar.specs.Form.{seq, ref}
 use Rattle.grammar.specs.Productions.{optional, skip_then}
 use Rattle.sql_lex.specs.declared.token.Token.{Token}
-use Rattle.sql_lex.specs.Lexemes.{Lexeme, lexeme_of}
+use Rattle.sql_lex.specs.Lexemes.{Lexeme}
 use Rattle.sql_model.specs.declared.tree.Expr.{Expr}
 use Rattle.sql_model.specs.declared.tree.Item.{Item}
 use Rattle.sql_model.specs.declared.tree.Entry.{Entry}
@@ -26,14 +25,6 @@ use Rattle.sql_read.proofs.steps.Extending.{extends_passes, extends_stays}
 use Rattle.sql_read.proofs.steps.ReadPassing.{Alike, ◌then◌}
 
 -- ---- a token that may be left out
-
-abbrev pub seen : Option Token → Option Lexeme
-seen None = None
-seen (Some t) = Some (lexeme_of t)
-
-pub seen_given : (found : Option Token) → is_some found ≡ is_given (seen found)
-seen_given None = refl
-seen_given (Some t) = refl
 
 pub extends_eats : (p : Kind → Bool) (a b : Cursor) (found : Option Token) → Eats p a found b → Extends a b
 extends_eats p a b None q = extends_stays q
