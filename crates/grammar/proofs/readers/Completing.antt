@@ -4,7 +4,7 @@ use Rattle.std.proofs.lemmas.List.{append-nil}
 use Rattle.std.proofs.lemmas.List.Folds.{list_all-append}
 use Rattle.std.specs.List.{list_all}
 use Rattle.grammar.specs.Language.{Language}
-use Rattle.grammar.specs.Form.{Form, token, seq, alt, star, nest, map, counted, fork, ref}
+use Rattle.grammar.specs.Form.{Form, seq, alt, star, nest, map, counted, fork, ref}
 use Rattle.grammar.specs.Lookahead.{PredictiveGrammar}
 use Rattle.grammar.specs.Reading.{Took}
 use Rattle.grammar.specs.Completions.{Fills, Reaches, Continues, Overspends}
