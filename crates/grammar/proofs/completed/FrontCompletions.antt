@@ -67,7 +67,8 @@ module _ {T K N : Type 0} {V : N → Type 0} {kind : T → K} {chosen : T → Bo
       go x e (inr s) = as_text (alt f g) (λ v. v) (λ ts v r. inr r) x (n.completion x e s)
 
   -- what is behind a front of the first is filled
-  pub completable_seq : {A B : Type 0} {f : Form T K N V A} {g : Form T K N V B} {w : B} → Completable kind chosen E Q up f → Completable kind chosen E Q up g → Filled kind E chosen g w → Completable kind chosen E Q up (seq f g)
+  pub completable_seq : {A B : Type 0} {f : Form T K N V A} {g : Form T K N V B} {w : B} → Completable kind chosen E Q up f
+      → Completable kind chosen E Q up g → Filled kind E chosen g w → Completable kind chosen E Q up (seq f g)
   completable_seq {A = A} {f = f} {g = g} {w = w} m n l = record { completion = go }
     where
       filled : (x : List T) → Completion kind chosen E Q up f x → Completion kind chosen E Q up (seq f g) x

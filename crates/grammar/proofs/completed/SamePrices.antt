@@ -45,7 +45,8 @@ module _ {T K N : Type 0} {V : N → Type 0} {g : PredictiveGrammar T K N V} {ch
   even_same : {A : Type 0} {f : Form T K N V A} {a : A → ℕ} (b : A → ℕ) → Even g chosen others Same Still Loose f a → ((v : A) → b v ≡ a v) → Even g chosen others Same Still Loose f b
   even_same {a = a} b l i = record { same = λ v w s. between (b v) (a v) (a w) (b w) (i v) (l.same v w s) (i w); still = λ v s. i v ∙ l.still v s }
 
-  even_seq : {A B : Type 0} {f : Form T K N V A} {e : Form T K N V B} {a : A → ℕ} {b : B → ℕ} → Even g chosen others Same Still Loose f a → Even g chosen others Same Still Loose e b → Even g chosen others Same Still Loose (seq f e) (λ v. a v.0 + b v.1)
+  even_seq : {A B : Type 0} {f : Form T K N V A} {e : Form T K N V B} {a : A → ℕ} {b : B → ℕ} → Even g chosen others Same Still Loose f a
+      → Even g chosen others Same Still Loose e b → Even g chosen others Same Still Loose (seq f e) (λ v. a v.0 + b v.1)
   even_seq {f = f} {e = e} {a = a} {b = b} l m = record { same = same; still = λ v s. zero_sum (a v.0) (b v.1) (l.still v.0 s.0) (m.still v.1 s.1) }
     where
       same : (v w : _ × _) → SameOf g chosen others Same Still Loose (seq f e) v w → a v.0 + b v.1 ≤ a w.0 + b w.1
@@ -122,7 +123,8 @@ module _ {T K N : Type 0} {V : N → Type 0} {g : PredictiveGrammar T K N V} {ch
     loose = λ v s y. between (base y) (b (at y)) (m s.0 (at y)) (measure v y) (j y) (l.loose s.0 s.1 (at y)) (ap (λ z. measure z y) s.2 ∙ i s.0 y);
   }
 
-  pub adds_alt : {B X : Type 0} {f e : Form T K N V B} {m : B → X → ℕ} {b : X → ℕ} → Adds g chosen others Same Still Loose f m b → Adds g chosen others Same Still Loose e m b → Adds g chosen others Same Still Loose (alt f e) m b
+  pub adds_alt : {B X : Type 0} {f e : Form T K N V B} {m : B → X → ℕ} {b : X → ℕ} → Adds g chosen others Same Still Loose f m b
+      → Adds g chosen others Same Still Loose e m b → Adds g chosen others Same Still Loose (alt f e) m b
   adds_alt l n = record {
     same = λ v w s x. elim s [ inl r ↦ l.same v w r x | inr r ↦ n.same v w r x ];
     still = λ v s x. elim s [ inl r ↦ l.still v r x | inr r ↦ n.still v r x ];
@@ -149,7 +151,8 @@ module _ {T K N : Type 0} {V : N → Type 0} {g : PredictiveGrammar T K N V} {ch
       same v w (inr (i, s)) x = sum_grows (m v.0 x) (price v.1) (m w.0 x) (price w.1) (equals (m v.0 x) (m w.0 x) (ap (λ z. m z x) i)) (n.same v.1 w.1 s)
 
   -- behind something that has a price, and moves the X
-  pub adds_behind : {A B C X Y : Type 0} {f : Form T K N V A} {e : Form T K N V B} {price : A → ℕ} {m : B → X → ℕ} {b : X → ℕ} → Even g chosen others Same Still Loose f price → Adds g chosen others Same Still Loose e m b
+  pub adds_behind : {A B C X Y : Type 0} {f : Form T K N V A} {e : Form T K N V B} {price : A → ℕ} {m : B → X → ℕ} {b : X → ℕ}
+      → Even g chosen others Same Still Loose f price → Adds g chosen others Same Still Loose e m b
       → (h : A × B → C) (measure : C → Y → ℕ) (base : Y → ℕ) (at : A → Y → X)
       → ((u : A × B) (y : Y) → measure (h u) y ≡ m u.1 (at u.0 y)) → ((u : A) (y : Y) → b (at u y) ≡ base y + price u) → Adds g chosen others Same Still Loose (map h (seq f e)) measure base
   adds_behind {A = A} {B = B} {C = C} {Y = Y} {f = f} {e = e} {price = price} {m = m} {b = b} l n h measure base at i j = record { same = same; still = still; loose = loose }
@@ -177,7 +180,8 @@ module _ {T K N : Type 0} {V : N → Type 0} {g : PredictiveGrammar T K N V} {ch
       still v (u, (r, s), k) y = ap (λ z. measure z y) k ∙ just_base (measure (h u) y) (base y) (price u.0) (at_rest u s y) (l.still u.0 r)
 
   -- a function and what it is applied to
-  pub applied : {A B C : Type 0} {f : Form T K N V A} {e : Form T K N V B} {price : A → ℕ} {m : B → A → ℕ} {b : A → ℕ} → Even g chosen others Same Still Loose f price → Adds g chosen others Same Still Loose e m b → (h : A × B → C) (total : C → ℕ)
+  pub applied : {A B C : Type 0} {f : Form T K N V A} {e : Form T K N V B} {price : A → ℕ} {m : B → A → ℕ} {b : A → ℕ}
+      → Even g chosen others Same Still Loose f price → Adds g chosen others Same Still Loose e m b → (h : A × B → C) (total : C → ℕ)
       → ((u : A × B) → total (h u) ≡ m u.1 u.0) → ((u : A) → b u ≡ price u) → Even g chosen others Same Still Loose (map h (seq f e)) total
   applied {price = price} l n h total i j =
       let r = adds_behind {Y = Unit {0}} l n h (λ c y. total c) (λ y. 0) (λ u y. u) (λ u y. i u) (λ u y. j u ∙ from_zero (price u)) in

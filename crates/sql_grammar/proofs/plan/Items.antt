@@ -39,9 +39,12 @@ module _ (variant : Variant) where
   starred_planned : Below (G variant) (starred_words variant) star_or_named
   starred_planned =
       either (through (of_alike (star_parts (grammar.a k.Quoted))) (of_kinds (same k.Quoted) (quoted_name variant) (at_first _ (itself (with_dot dot_name column_of (grammar.a k.Quoted))))))
-      (either (through (of_alike (starred_parts called_word arguments)) (of_kinds (among (k.Word ∷ k.Key ∷ k.View ∷ k.Index ∷ [])) (called_name variant) (at_second _ (at_first _ (itself (plain_word variant called_word arguments))))))
-      (either (through (of_alike (starred_parts (grammar.a k.Count) count_arguments)) (of_kinds (same k.Count) (count_name variant) (at_second _ (at_second _ (at_first _ (itself (plain_word variant (grammar.a k.Count) count_arguments)))))))
-      (through (of_alike (starred_parts other_aggregate (parens one_argument))) (of_kinds (among (k.Sum ∷ k.Avg ∷ k.Min ∷ k.Max ∷ [])) (other_name variant) (at_second _ (at_second _ (at_second _ (itself (plain_word variant other_aggregate (parens one_argument))))))))))
+      (either (through (of_alike (starred_parts called_word arguments))
+      (of_kinds (among (k.Word ∷ k.Key ∷ k.View ∷ k.Index ∷ [])) (called_name variant) (at_second _ (at_first _ (itself (plain_word variant called_word arguments))))))
+      (either (through (of_alike (starred_parts (grammar.a k.Count) count_arguments))
+      (of_kinds (same k.Count) (count_name variant) (at_second _ (at_second _ (at_first _ (itself (plain_word variant (grammar.a k.Count) count_arguments)))))))
+      (through (of_alike (starred_parts other_aggregate (parens one_argument)))
+      (of_kinds (among (k.Sum ∷ k.Avg ∷ k.Min ∷ k.Max ∷ [])) (other_name variant) (at_second _ (at_second _ (at_second _ (itself (plain_word variant other_aggregate (parens one_argument))))))))))
 
   -- ---- items
 

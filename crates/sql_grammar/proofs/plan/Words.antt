@@ -81,7 +81,8 @@ module _ (variant : Variant) where
     dotted_first = through (below_map (λ u. column_of u.0 u.1) (below_seq (token_below p (among name_kinds) in_names) (itself dot_name))) name_first
 
     -- or with arguments
-    word_first : (args : The (Lexeme → Built Expr)) → Below (G variant) (map applied_to (seq (token p) args)) (rules primary) → Below (G variant) (word_with (token p) args dot_name column_of (λ x. x)) (rules primary)
+    word_first : (args : The (Lexeme → Built Expr)) → Below (G variant) (map applied_to (seq (token p) args)) (rules primary)
+        → Below (G variant) (word_with (token p) args dot_name column_of (λ x. x)) (rules primary)
     word_first args m = through (of_alike (word_parts dot_name column_of (λ x. x) (token p) args)) (either dotted_first m)
 
   -- what a name's production is stands for the name

@@ -154,7 +154,8 @@ module _ {E : Names} where
   star_parts word =
       both_below (record { holds = λ room. record { spells = spells room; front = front room } }) (record { holds = λ room. record { spells = spelled_back room; front = front_back room } })
     where
-      spells : (room : Room) (ts : List Lexeme) (v : Starred) → (el E room (with_dot dot_star_or_name star_or_column word)).spells ts v → (el E room (star_or_first word (with_dot dot_name column_of word))).spells ts v
+      spells : (room : Room) (ts : List Lexeme) (v : Starred) → (el E room (with_dot dot_star_or_name star_or_column word)).spells ts v
+          → (el E room (star_or_first word (with_dot dot_name column_of word))).spells ts v
       spells room ts v (u, (x, y, e, w, inl (c, (p, (x1, y1, e1, d, inl (sign, s, l)), j), m)), i) =
           inl (u.0, ((u.0, (p.0, sign)), (x, y, e, w, (x1, y1, e1, d, s)), refl), i ∙ ap (star_or_column u.0) (m ∙ ap (λ z. Some z) (j ∙ l)))
       spells room ts v (u, (x, y, e, w, inl (c, (p, (x1, y1, e1, d, inr (n, s, l)), j), m)), i) =
@@ -168,7 +169,8 @@ module _ {E : Names} where
       front room ts (inr (x, y, u, e, w, inl (inr (x1, y1, c, e1, d, inr s)))) = inr (inr (x, y, u, e, w, inl (inr (x1, y1, c, e1, d, s))))
       front room ts (inr (x, y, u, e, w, inr n)) = inr (inr (x, y, u, e, w, inr n))
 
-      spelled_back : (room : Room) (ts : List Lexeme) (v : Starred) → (el E room (star_or_first word (with_dot dot_name column_of word))).spells ts v → (el E room (with_dot dot_star_or_name star_or_column word)).spells ts v
+      spelled_back : (room : Room) (ts : List Lexeme) (v : Starred) → (el E room (star_or_first word (with_dot dot_name column_of word))).spells ts v
+          → (el E room (with_dot dot_star_or_name star_or_column word)).spells ts v
       spelled_back room ts v (inl (z, (p, (x, y, e, w, (x1, y1, e1, d, s)), j), i)) =
           ((p.0, Some (inl p.1.1)), (x, y, e, w, inl (inl p.1.1, ((p.1.0, inl p.1.1), (x1, y1, e1, d, inl (p.1.1, s, refl)), refl), refl)), i ∙ ap left_of j)
       spelled_back room ts v (inr (z, (u, (x, y, e, w, inl (n, (p, (x1, y1, e1, d, s), j), m)), l), i)) =
