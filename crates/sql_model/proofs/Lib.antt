@@ -1,3 +1,5 @@
+pub mod Names
+pub mod SameTrees
 pub mod SetOperators
 pub mod Existence
 pub mod Relations

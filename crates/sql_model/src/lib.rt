@@ -4,6 +4,7 @@
 #![tactic(auto)]
 
 mod copying;
+mod equality;
 pub mod laws;
 pub mod name;
 pub mod schema;
