@@ -1,4 +1,4 @@
-//! Equal trees in memory of their own.
+//! Equal trees, in memory of their own but for what is shared.
 //!
 //! A chain of operators is as deep as it is long, so the functions on the way down keep small frames: what needs room of its own is
 //! kept out of them by `inline(never)`.
@@ -12,7 +12,7 @@ use plain_data::{Boxed, List};
 use std::alloc::Global;
 
 impl Expr {
-    /// An equal tree in memory of its own.
+    /// An equal tree. What stands to the left of `=` and of IN shares the memory of this one's.
     #[cycle(copy)]
     pub fn copy(&self, alloc: Global) -> Result<Expr, NoMemory>
         ensures { IfOk result (λ copy. copy ≡ self.now) }
@@ -51,7 +51,7 @@ impl Expr {
                 at: *at,
             }),
             Expr::Eq { left, right, at } => Ok(Expr::Eq {
-                left: copy_expr(alloc, left)?,
+                left: left.share()?,
                 right: copy_expr(alloc, right)?,
                 at: *at,
             }),
@@ -77,7 +77,7 @@ impl Expr {
                 at,
                 in_at,
             } => Ok(Expr::In {
-                value: copy_expr(alloc, value)?,
+                value: value.share()?,
                 query: copy_query(alloc, query)?,
                 at: *at,
                 in_at: *in_at,
@@ -87,7 +87,7 @@ impl Expr {
 }
 
 impl Query {
-    /// An equal tree in memory of its own.
+    /// An equal tree. What stands to the left of `=` and of IN shares the memory of this one's.
     pub fn copy(&self, alloc: Global) -> Result<Query, NoMemory>
         ensures { IfOk result (λ copy. copy ≡ self.now) }
     {

@@ -2,7 +2,7 @@
 //! the text of its first token, unless its comment says otherwise.
 
 use crate::name::Name;
-use plain_data::{Boxed, List};
+use plain_data::{Boxed, List, Shared};
 
 /// A set function (SQL, ISO/IEC 9075-2, 6.9). Its number in a reading is its place here, from 0.
 #[derive(Clone, Copy, Debug, PartialEq, Eq)]
@@ -70,8 +70,9 @@ pub enum Expr {
         query: Boxed<Query>,
         at: u32,
     },
+    /// `left = right`. The equalities that a list of IN stands for share their left side, the value before it.
     Eq {
-        left: Boxed<Expr>,
+        left: Shared<Expr>,
         right: Boxed<Expr>,
         at: u32,
     },
@@ -93,7 +94,7 @@ pub enum Expr {
     },
     /// `value IN (query)`. `in_at` is the place of its word `IN`.
     In {
-        value: Boxed<Expr>,
+        value: Shared<Expr>,
         query: Boxed<Query>,
         at: u32,
         in_at: u32,

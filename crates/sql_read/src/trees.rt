@@ -7,7 +7,7 @@ ghost use Rattle.sql_grammar.specs.QueryTrees.{bounds, column, compared, operato
 
 use crate::tokens::place;
 use crate::values::name_in;
-use plain_data::{Boxed, List};
+use plain_data::{Boxed, List, Shared};
 use sql_grammar::Kind;
 use sql_lex::Token;
 use sql_model::{Expr, NoMemory, Query, SetOp};
@@ -75,16 +75,23 @@ fn two_parts(alloc: Global, left: Expr, right: Expr) -> Result<List<Expr>, NoMem
     Ok(List::from_vec(parts))
 }
 
-/// `left = right`
-pub fn equal(alloc: Global, left: Expr, right: Expr) -> Result<Expr, NoMemory>
+/// `left = right`, where others may have the same left side.
+pub fn equal(alloc: Global, left: Shared<Expr>, right: Expr) -> Result<Expr, NoMemory>
     ensures { IfOk result (λ expr. expr ≡ an_expr.Eq left right (place left)) }
 {
-    let at = place_of(&left);
+    let at = place_of(left.get());
     Ok(Expr::Eq {
-        left: Boxed::new(alloc, left)?,
+        left,
         right: Boxed::new(alloc, right)?,
         at,
     })
+}
+
+/// `left = right`
+fn equality(alloc: Global, left: Expr, right: Expr) -> Result<Expr, NoMemory>
+    ensures { IfOk result (λ expr. expr ≡ an_expr.Eq left right (place left)) }
+{
+    equal(alloc, Shared::new(alloc, left)?, right)
 }
 
 /// The predicate of this number on the two in this order, at the place of one of them.
@@ -133,8 +140,8 @@ pub fn compared(alloc: Global, sign: Kind, left: Expr, right: Expr) -> Result<Ex
 {
     let at = place_of(&left);
     match sign {
-        Kind::Equals => equal(alloc, left, right),
-        Kind::Differs => not_at(alloc, equal(alloc, left, right)?, at),
+        Kind::Equals => equality(alloc, left, right),
+        Kind::Differs => not_at(alloc, equality(alloc, left, right)?, at),
         Kind::Less => predicate(alloc, 0, left, right, at),
         Kind::AtMost => predicate(alloc, 1, left, right, at),
         Kind::Greater => predicate(alloc, 0, right, left, at),
@@ -208,12 +215,17 @@ pub fn subquery(alloc: Global, query: Query, at: u32) -> Result<Expr, NoMemory>
 }
 
 /// `value IN (query)`, with the place of its word.
-pub fn in_query(alloc: Global, value: Expr, query: Query, in_at: u32) -> Result<Expr, NoMemory>
+pub fn in_query(
+    alloc: Global,
+    value: Shared<Expr>,
+    query: Query,
+    in_at: u32,
+) -> Result<Expr, NoMemory>
     ensures { IfOk result (λ expr. expr ≡ an_expr.In value query (place value) in_at) }
 {
-    let at = place_of(&value);
+    let at = place_of(value.get());
     Ok(Expr::In {
-        value: Boxed::new(alloc, value)?,
+        value,
         query: Boxed::new(alloc, query)?,
         at,
         in_at,

@@ -22,11 +22,11 @@ use Rattle.sql_grammar.specs.QueryTrees.{Listed}
 abbrev pub row_of : (exprs : List Expr) → n.Exprs (n.long (node.shape-the_row-Expr-0 exprs))
 row_of exprs = node.hidden-the_row-Expr-0 exprs
 
-abbrev items_row : (items : List Item) → n.Items (n.long (node.shape-the_row-Item-4 items))
-items_row items = node.hidden-the_row-Item-4 items
+abbrev items_row : (items : List Item) → n.Items (n.long (node.shape-the_row-Item-5 items))
+items_row items = node.hidden-the_row-Item-5 items
 
-abbrev entries_row : (entries : List Entry) → n.Entries (n.long (node.shape-the_row-Entry-5 entries))
-entries_row entries = node.hidden-the_row-Entry-5 entries
+abbrev entries_row : (entries : List Entry) → n.Entries (n.long (node.shape-the_row-Entry-6 entries))
+entries_row entries = node.hidden-the_row-Entry-6 entries
 
 -- P holds of it, where it is there
 abbrev pub Perhaps : {X : Type 0} → (X → Type 0) → Option X → Type 0

@@ -9,7 +9,7 @@ use super::expr::{expr, value};
 use crate::fault::ReadFault;
 use crate::tokens::{Mark, Tokens, place};
 use crate::trees::{between, compared, equal, like, negated, place_of};
-use plain_data::{Boxed, List};
+use plain_data::{Boxed, List, Shared};
 use sql_grammar::kinds::{Kind, kind_of};
 use sql_model::Expr;
 use std::alloc::Global;
@@ -41,7 +41,7 @@ const TEST_KINDS: [Kind; 10] = [
 /// A value that IN seeks, with the weight of a copy of it and the place of the word.
 #[derive(Drop)]
 pub struct Sought {
-    pub value: Expr,
+    pub value: Shared<Expr>,
     pub weight: u32,
     pub in_at: u32,
 }
@@ -128,7 +128,7 @@ fn by_word(
     if let Some(word) = tokens.eat(Kind::In) {
         tokens.expect_within(alloc, &[Kind::Open], levels)?;
         let value = Sought {
-            value: left,
+            value: Shared::new(alloc, left)?,
             weight,
             in_at: place(&word),
         };
@@ -165,7 +165,7 @@ fn bounds(
     Ok(between(alloc, left, copy, low, high)?)
 }
 
-/// The value compared with a member: a copy of the value, which is counted.
+/// The value compared with a member. It shares the value's memory, but counts as a copy.
 #[tactic(auto, unfolding(crate::specs::Reading::compared_copy))]
 fn compared_copy(
     alloc: Global,
@@ -177,11 +177,11 @@ fn compared_copy(
     ensures extends { Extends tokens.old tokens.new }
 {
     tokens.add_copy(sought.weight)?;
-    let copy = sought.value.copy(alloc)?;
-    Ok(equal(alloc, copy, member)?)
+    let value = sought.value.share()?;
+    Ok(equal(alloc, value, member)?)
 }
 
-/// The members of a list of IN behind the first; the value before the list is copied at each comma.
+/// The members of a list of IN behind the first; the value before the list counts as a copy at each comma.
 #[tactic(auto, unfolding(crate::specs::Reading::members))]
 #[cycle(read)]
 pub fn members(
@@ -194,7 +194,7 @@ pub fn members(
     ensures does { Does (λ levels deeper. reading.members levels deeper sought first) levels tokens.old result tokens.new }
     ensures extends { Extends tokens.old tokens.new }
 {
-    let at = place_of(&sought.value);
+    let at = place_of(sought.value.get());
     let mut parts = List::new(alloc);
     let mut last = first;
     let mut room = MOST_SEPARATORS;

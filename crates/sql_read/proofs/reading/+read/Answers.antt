@@ -261,7 +261,7 @@ pub test::members-returns-clause-does : goal.test::members-returns-clause-does
 test::members-returns-clause-does t c =
     let e = made_no_word _ _ _ _ _ _ _ c.more.invariant.same _ (rw c.in_default.is at c.in_ok-eat_within.ensures.gives) in
     let s = several c.args.sought.value c.more.parts (an_expr.Eq c.args.sought.value c.more.last (place c.args.sought.value)) (λ none. let no : true ≡ false = sym (c.is_empty.ensures.1 none) ∙ c.if-is_empty.false in cc) in
-    rw (c.in_ok-push-2.ensures.ok, c.in_ok-last-2.ensures, c.place_of-at.ensures, ← s) e
+    rw (c.in_ok-push-2.ensures.ok, c.in_ok-last-2.ensures, c.place_of-at.ensures, c.get.ensures, ← s) e
 
 pub entry::entries-returns-in_err-eat_within-clause-does : goal.entry::entries-returns-in_err-eat_within-clause-does
 entry::entries-returns-in_err-eat_within-clause-does t c =
