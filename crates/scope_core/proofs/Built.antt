@@ -40,17 +40,17 @@ argument_given None counting w env = literal_value w.reading 0
 argument_given (Some e) counting w env = if counting then literal_value w.reading 0 else value e w env
 
 module _ (w : World) (env : Environment) where
-  listed-values : (es : List RVal) → values (t.hidden-the_row-RVal-0 es) w env ≡ values_of es w env
+  listed-values : (es : List RVal) → values (t.hidden-the_row-RVal-1 es) w env ≡ values_of es w env
   unfolding everything
   listed-values [] = refl
   listed-values (e ∷ es) = ap (λ r. value e w env ∷ r) (listed-values es)
 
-  listed-every : (cs : List RCond) → all_hold (t.hidden-the_row-RCond-1 cs) w env ≡ every cs w env
+  listed-every : (cs : List RCond) → all_hold (t.hidden-the_row-RCond-2 cs) w env ≡ every cs w env
   unfolding everything
   listed-every [] = refl
   listed-every (c ∷ cs) = ap (λ r. truth c w env && r) (listed-every cs)
 
-  listed-some : (cs : List RCond) → some_hold (t.hidden-the_row-RCond-1 cs) w env ≡ some cs w env
+  listed-some : (cs : List RCond) → some_hold (t.hidden-the_row-RCond-2 cs) w env ≡ some cs w env
   unfolding everything
   listed-some [] = refl
   listed-some (c ∷ cs) = ap (λ r. truth c w env || r) (listed-some cs)
@@ -129,7 +129,7 @@ module _ (w : World) (env : Environment) where
   rows_each [] = []
   rows_each (e ∷ es) = source_rows e.0 w env ∷ rows_each es
 
-  listed-choices : (es : List (RSource × ℕ)) → choices (t.hidden-the_row-REntry-6 (map entry_of es)) w env ≡ rows_each es
+  listed-choices : (es : List (RSource × ℕ)) → choices (t.hidden-the_row-REntry-7 (map entry_of es)) w env ≡ rows_each es
   unfolding everything
   listed-choices [] = refl
   listed-choices (e ∷ es) = ap (λ r. source_rows e.0 w env ∷ r) (listed-choices es)

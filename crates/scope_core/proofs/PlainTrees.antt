@@ -39,17 +39,17 @@ tables : List (RSource × ℕ) → Bool
 tables [] = true
 tables (e ∷ es) = is_table e.0 && tables es
 
-listed-points : (es : List RVal) → are_tree_points (t.hidden-the_row-RVal-0 es) ≡ points es
+listed-points : (es : List RVal) → are_tree_points (t.hidden-the_row-RVal-1 es) ≡ points es
 unfolding everything points
 listed-points [] = refl
 listed-points (e ∷ es) = ap (λ b. is_tree_point e && b) (listed-points es)
 
-listed-equalities : (cs : List RCond) → are_tree_equalities (t.hidden-the_row-RCond-1 cs) ≡ equalities cs
+listed-equalities : (cs : List RCond) → are_tree_equalities (t.hidden-the_row-RCond-2 cs) ≡ equalities cs
 unfolding everything equalities
 listed-equalities [] = refl
 listed-equalities (c ∷ cs) = ap (λ b. is_tree_equality c && b) (listed-equalities cs)
 
-listed-tables : (es : List (RSource × ℕ)) → are_tree_tables (t.hidden-the_row-REntry-6 (map entry_of es)) ≡ tables es
+listed-tables : (es : List (RSource × ℕ)) → are_tree_tables (t.hidden-the_row-REntry-7 (map entry_of es)) ≡ tables es
 unfolding everything tables
 listed-tables [] = refl
 listed-tables (e ∷ es) = ap (λ b. is_table e.0 && b) (listed-tables es)

@@ -17,7 +17,7 @@ use Rattle.scope_core.specs.Width.{count_values, width}
 use Rattle.scope_core.specs.Compute.{everything}
 
 -- ---- widths
-counted : (es : List RVal) → count_values (t.hidden-the_row-RVal-0 es) ≡ length es
+counted : (es : List RVal) → count_values (t.hidden-the_row-RVal-1 es) ≡ length es
 unfolding everything
 counted [] = refl
 counted (e ∷ es) = ap (λ n. suc n) (counted es)
@@ -73,6 +73,7 @@ unfolding everything
 point-Sub b = refl
 
 pub equality-Eq : (left right : RVal) → is_tree_equality (c.Eq left right) ≡ (is_tree_point left && is_tree_point right)
+unfolding everything
 equality-Eq left right = refl
 
 pub equality-Pred : (sym : ℕ) (args : List RVal) → is_tree_equality (c.Pred sym args) ≡ false
@@ -119,17 +120,17 @@ pub ruleset kinds = (
 )
 
 -- ---- plain blocks
-all-points : (es : List RVal) → are_tree_points (t.hidden-the_row-RVal-0 es) ≡ list_all (λ e. is_tree_point e) es
+all-points : (es : List RVal) → are_tree_points (t.hidden-the_row-RVal-1 es) ≡ list_all (λ e. is_tree_point e) es
 unfolding everything
 all-points [] = refl
 all-points (e ∷ es) = ap (λ b. is_tree_point e && b) (all-points es)
 
-all-equalities : (cs : List RCond) → are_tree_equalities (t.hidden-the_row-RCond-1 cs) ≡ list_all (λ c. is_tree_equality c) cs
+all-equalities : (cs : List RCond) → are_tree_equalities (t.hidden-the_row-RCond-2 cs) ≡ list_all (λ c. is_tree_equality c) cs
 unfolding everything
 all-equalities [] = refl
 all-equalities (c ∷ cs) = ap (λ b. is_tree_equality c && b) (all-equalities cs)
 
-all-tables : (es : List REntry) → are_tree_tables (t.hidden-the_row-REntry-6 es) ≡ list_all (λ e. is_table e.source) es
+all-tables : (es : List REntry) → are_tree_tables (t.hidden-the_row-REntry-7 es) ≡ list_all (λ e. is_table e.source) es
 unfolding everything
 all-tables [] = refl
 all-tables (e ∷ es) = ap (λ b. is_table e.source && b) (all-tables es)

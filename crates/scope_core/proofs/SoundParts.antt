@@ -138,27 +138,27 @@ module _ (IsTable IsView : ℕ → ℕ → Type 0) where
       go (AsGroup columns) (SeenGroup m ks) a (Some p) f' further = sound-Key m ks shape (index_of p columns) (let b = index-below p columns f' in omega (arith, a.0, b))
 
   -- ---- of lists
-  pub listed-values : (shape : SeenBlocks) (es : List RVal) → Each (OkVal shape) es → AreSoundValues IsTable IsView shape (t.hidden-the_row-RVal-0 es)
+  pub listed-values : (shape : SeenBlocks) (es : List RVal) → Each (OkVal shape) es → AreSoundValues IsTable IsView shape (t.hidden-the_row-RVal-1 es)
   unfolding everything
   listed-values shape [] h = tt
   listed-values shape (e ∷ es) h = (h.0, listed-values shape es h.1)
 
-  pub listed-conditions : (shape : SeenBlocks) (cs : List RCond) → Each (OkCond shape) cs → AreSoundConditions IsTable IsView shape (t.hidden-the_row-RCond-1 cs)
+  pub listed-conditions : (shape : SeenBlocks) (cs : List RCond) → Each (OkCond shape) cs → AreSoundConditions IsTable IsView shape (t.hidden-the_row-RCond-2 cs)
   unfolding everything
   listed-conditions shape [] h = tt
   listed-conditions shape (e ∷ es) h = (h.0, listed-conditions shape es h.1)
 
-  pub listed-entries : (shape : SeenBlocks) (es : List (RSource × ℕ)) → Each (λ e. IsSoundSource IsTable IsView shape e.0 e.1) es → AreSoundEntries IsTable IsView shape (t.hidden-the_row-REntry-6 (map entry_of es))
+  pub listed-entries : (shape : SeenBlocks) (es : List (RSource × ℕ)) → Each (λ e. IsSoundSource IsTable IsView shape e.0 e.1) es → AreSoundEntries IsTable IsView shape (t.hidden-the_row-REntry-7 (map entry_of es))
   unfolding everything
   listed-entries shape [] h = tt
   listed-entries shape (e ∷ es) h = (h.0, listed-entries shape es h.1)
 
-  pub listed-widths : (es : List (RSource × ℕ)) → widths (t.hidden-the_row-REntry-6 (map entry_of es)) ≡ map (λ e. e.1) es
+  pub listed-widths : (es : List (RSource × ℕ)) → widths (t.hidden-the_row-REntry-7 (map entry_of es)) ≡ map (λ e. e.1) es
   unfolding everything
   listed-widths [] = refl
   listed-widths (e ∷ es) = ap (λ l. e.1 ∷ l) (listed-widths es)
 
-  pub listed-count : (es : List RVal) → count_values (t.hidden-the_row-RVal-0 es) ≡ length es
+  pub listed-count : (es : List RVal) → count_values (t.hidden-the_row-RVal-1 es) ≡ length es
   unfolding everything
   listed-count [] = refl
   listed-count (e ∷ es) = ap suc (listed-count es)
@@ -169,11 +169,11 @@ module _ (IsTable IsView : ℕ → ℕ → Type 0) where
   OkHaving shape (Some c) = SeesGroup shape × OkCond shape c
 
   listed-having : (shape : SeenBlocks) (d : Bool) (es : List (RSource × ℕ)) (cs : List RCond) (gr : Grouping) (h : Option RCond) (items : List RVal)
-      → AreSoundEntries IsTable IsView shape (t.hidden-the_row-REntry-6 (map entry_of es))
-      → AreSoundConditions IsTable IsView (SeenRows (widths (t.hidden-the_row-REntry-6 (map entry_of es))) ∷ shape) (t.hidden-the_row-RCond-1 cs)
-      → OkHaving (output_seen gr (widths (t.hidden-the_row-REntry-6 (map entry_of es))) ∷ shape) h
-      → AreSoundValues IsTable IsView (output_seen gr (widths (t.hidden-the_row-REntry-6 (map entry_of es))) ∷ shape) (t.hidden-the_row-RVal-0 items)
-      → AreKeys gr (widths (t.hidden-the_row-REntry-6 (map entry_of es)))
+      → AreSoundEntries IsTable IsView shape (t.hidden-the_row-REntry-7 (map entry_of es))
+      → AreSoundConditions IsTable IsView (SeenRows (widths (t.hidden-the_row-REntry-7 (map entry_of es))) ∷ shape) (t.hidden-the_row-RCond-2 cs)
+      → OkHaving (output_seen gr (widths (t.hidden-the_row-REntry-7 (map entry_of es))) ∷ shape) h
+      → AreSoundValues IsTable IsView (output_seen gr (widths (t.hidden-the_row-REntry-7 (map entry_of es))) ∷ shape) (t.hidden-the_row-RVal-1 items)
+      → AreKeys gr (widths (t.hidden-the_row-REntry-7 (map entry_of es)))
       → IsSoundBlock IsTable IsView shape (roll-RBlock (record { distinct = d; entries = map entry_of es; conds = cs; grouping = gr; having = h; items = items }))
   unfolding everything
   listed-having shape d es cs gr None items a b h k col = (a, b, tt, k, col)
@@ -185,7 +185,7 @@ module _ (IsTable IsView : ℕ → ℕ → Type 0) where
   block-sound shape ks d es cs gr h items e a b hh k col =
       let w = sym (listed-widths es ∙ e) in
       listed-having shape d es cs gr h items (listed-entries shape es a)
-      (subst (λ q. AreSoundConditions IsTable IsView (SeenRows q ∷ shape) (t.hidden-the_row-RCond-1 cs)) w (listed-conditions (SeenRows ks ∷ shape) cs b))
+      (subst (λ q. AreSoundConditions IsTable IsView (SeenRows q ∷ shape) (t.hidden-the_row-RCond-2 cs)) w (listed-conditions (SeenRows ks ∷ shape) cs b))
       (subst (λ q. OkHaving (output_seen gr q ∷ shape) h) w hh)
-      (subst (λ q. AreSoundValues IsTable IsView (output_seen gr q ∷ shape) (t.hidden-the_row-RVal-0 items)) w (listed-values (output_seen gr ks ∷ shape) items k))
+      (subst (λ q. AreSoundValues IsTable IsView (output_seen gr q ∷ shape) (t.hidden-the_row-RVal-1 items)) w (listed-values (output_seen gr ks ∷ shape) items k))
       (subst (AreKeys gr) w col)

@@ -150,17 +150,17 @@ module _ (IsTable IsView : ℕ → ℕ → Type 0) (known : List Known) where
   width-Set op a b = refl
 
   scalar-listed : (shape : SeenBlocks) (ks : List ℕ) (d : Bool) (es : List (RSource × ℕ)) (cs : List RCond) (items : List RVal) → map (λ e. e.1) es ≡ ks
-      → Each (λ e. IsSoundSource IsTable IsView shape e.0 e.1) es → Each (OkC (SeenRows ks ∷ shape)) cs → IsSoundAggregate IsTable IsView (SeenGroup 0 ks ∷ shape) (t.hidden-the_row-RVal-0 items)
+      → Each (λ e. IsSoundSource IsTable IsView shape e.0 e.1) es → Each (OkC (SeenRows ks ∷ shape)) cs → IsSoundAggregate IsTable IsView (SeenGroup 0 ks ∷ shape) (t.hidden-the_row-RVal-1 items)
       → IsSoundScalar IsTable IsView shape (roll-RBlock (record { distinct = d; entries = map entry_of es; conds = cs; grouping = g.One; having = None; items = items }))
   unfolding everything
   scalar-listed shape ks d es cs items e a b k =
       let w = sym (listed-widths IsTable IsView es ∙ e) in (
         listed-entries IsTable IsView shape es a,
-        subst (λ q. AreSoundConditions IsTable IsView (SeenRows q ∷ shape) (t.hidden-the_row-RCond-1 cs)) w (listed-conditions IsTable IsView (SeenRows ks ∷ shape) cs b),
-        subst (λ q. IsSoundAggregate IsTable IsView (SeenGroup 0 q ∷ shape) (t.hidden-the_row-RVal-0 items)) w k,
+        subst (λ q. AreSoundConditions IsTable IsView (SeenRows q ∷ shape) (t.hidden-the_row-RCond-2 cs)) w (listed-conditions IsTable IsView (SeenRows ks ∷ shape) cs b),
+        subst (λ q. IsSoundAggregate IsTable IsView (SeenGroup 0 q ∷ shape) (t.hidden-the_row-RVal-1 items)) w k,
       )
 
-  aggregate-listed : (shape : SeenBlocks) (fun : _) (d : Bool) (e : Option RVal) → ((x : RVal) → e ≡ Some x → Ok (member_seen shape) x) → IsSoundAggregate IsTable IsView shape (t.hidden-the_row-RVal-0 (v.Agg fun d e ∷ []))
+  aggregate-listed : (shape : SeenBlocks) (fun : _) (d : Bool) (e : Option RVal) → ((x : RVal) → e ≡ Some x → Ok (member_seen shape) x) → IsSoundAggregate IsTable IsView shape (t.hidden-the_row-RVal-1 (v.Agg fun d e ∷ []))
   unfolding everything
   aggregate-listed shape fun d None h = tt
   aggregate-listed shape fun d (Some x) h = h x refl
@@ -337,7 +337,7 @@ module _ (IsTable IsView : ℕ → ℕ → Type 0) (known : List Known) where
       scalar-sound _ ls shape f i h = absurd (no (sym i))
 
       pub aggregate-sound : {k : _} (items : n.Items k) (H : List Heading) (ls : Levels) (ks : List ℕ) (shape : SeenBlocks) → AtWidths 0 H ks → ResolvableItems items hs (out H (AsGroup []) ∷ ls) → is_one_aggregate items ≡ true → ShapedOuter ls shape
-          → IsSoundAggregate IsTable IsView (SeenGroup 0 ks ∷ shape) (t.hidden-the_row-RVal-0 (resolved_items items known (out H (AsGroup []) ∷ ls)))
+          → IsSoundAggregate IsTable IsView (SeenGroup 0 ks ∷ shape) (t.hidden-the_row-RVal-1 (resolved_items items known (out H (AsGroup []) ∷ ls)))
       aggregate-sound (n.ItemThen (n.Value (n.Agg fun is_distinct argument at) name) n.NoItems) H ls ks shape w f i h =
           aggregate-listed (SeenGroup 0 ks ∷ shape) fun is_distinct (resolved_argument argument known (member_levels (out H (AsGroup []) ∷ ls)))
           (λ x e. argument-sound argument (member_levels (out H (AsGroup []) ∷ ls)) (SeenMember ks ∷ shape) f.0.1 (w, h) x e)

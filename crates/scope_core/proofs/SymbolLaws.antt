@@ -37,17 +37,17 @@ module _ (count : ℕ) where
   C = TreeConditionFits count
 
   -- ---- of lists
-  values-fit : (es : List RVal) → Each V es → TreeValuesFit count (t.hidden-the_row-RVal-0 es)
+  values-fit : (es : List RVal) → Each V es → TreeValuesFit count (t.hidden-the_row-RVal-1 es)
   unfolding everything TreeFits
   values-fit [] h = tt
   values-fit (e ∷ es) h = (h.0, values-fit es h.1)
 
-  conditions-fit : (cs : List RCond) → Each C cs → TreeConditionsFit count (t.hidden-the_row-RCond-1 cs)
+  conditions-fit : (cs : List RCond) → Each C cs → TreeConditionsFit count (t.hidden-the_row-RCond-2 cs)
   unfolding everything TreeFits
   conditions-fit [] h = tt
   conditions-fit (e ∷ es) h = (h.0, conditions-fit es h.1)
 
-  entries-fit : (es : List (RSource × ℕ)) → Each (λ e. TreeSourceFits count e.0) es → TreeEntriesFit count (t.hidden-the_row-REntry-6 (map entry_of es))
+  entries-fit : (es : List (RSource × ℕ)) → Each (λ e. TreeSourceFits count e.0) es → TreeEntriesFit count (t.hidden-the_row-REntry-7 (map entry_of es))
   unfolding everything TreeFits
   entries-fit [] h = tt
   entries-fit (e ∷ es) h = (h.0, entries-fit es h.1)

@@ -3,11 +3,12 @@ unfoldable pub everything : Unit {0}
 unfolding
     Rattle.scope_core.specs.Evaluation.rows Rattle.scope_core.specs.Width.width Rattle.scope_core.specs.Sound.IsSound
     Rattle.scope_core.specs.declared.tree.RBlock.roll-RBlock denote.Hole.Carrier.roll denote.Hole.Carrier.hidden
-    Rattle.scope_core.specs.declared.tree.RCond.TheBlock.shape-the_row-RVal-0 Rattle.scope_core.specs.declared.tree.RCond.TheBlock.hidden-the_row-RVal-0
-    Rattle.scope_core.specs.declared.tree.RCond.TheBlock.shape-the_row-RCond-1 Rattle.scope_core.specs.declared.tree.RCond.TheBlock.hidden-the_row-RCond-1
-    Rattle.scope_core.specs.declared.tree.RCond.TheBlock.hidden-the_row-RCond-2 Rattle.scope_core.specs.declared.tree.RCond.TheBlock.hidden-the_row-RQuery-3
-    Rattle.scope_core.specs.declared.tree.RCond.TheBlock.hidden-the_row-RBlock-4 Rattle.scope_core.specs.declared.tree.RCond.TheBlock.hidden-the_row-RVal-5
-    Rattle.scope_core.specs.declared.tree.RCond.TheBlock.shape-the_row-REntry-6 Rattle.scope_core.specs.declared.tree.RCond.TheBlock.hidden-the_row-REntry-6
+    Rattle.scope_core.specs.declared.tree.RCond.TheBlock.hidden-the_row-RVal-0
+    Rattle.scope_core.specs.declared.tree.RCond.TheBlock.shape-the_row-RVal-1 Rattle.scope_core.specs.declared.tree.RCond.TheBlock.hidden-the_row-RVal-1
+    Rattle.scope_core.specs.declared.tree.RCond.TheBlock.shape-the_row-RCond-2 Rattle.scope_core.specs.declared.tree.RCond.TheBlock.hidden-the_row-RCond-2
+    Rattle.scope_core.specs.declared.tree.RCond.TheBlock.hidden-the_row-RCond-3 Rattle.scope_core.specs.declared.tree.RCond.TheBlock.hidden-the_row-RQuery-4
+    Rattle.scope_core.specs.declared.tree.RCond.TheBlock.hidden-the_row-RBlock-5 Rattle.scope_core.specs.declared.tree.RCond.TheBlock.hidden-the_row-RVal-6
+    Rattle.scope_core.specs.declared.tree.RCond.TheBlock.shape-the_row-REntry-7 Rattle.scope_core.specs.declared.tree.RCond.TheBlock.hidden-the_row-REntry-7
 everything = tt
 
 -- the same, and all that unfolds when a query that is written out is resolved, or its sites are gone through

@@ -116,7 +116,7 @@ Sub b = v.Sub' tt (query.more_of-RBlock b query.end_of-RBlock)
 
 -- ---- conditions
 pattern abbrev pub Eq : RVal → RVal → RCond
-Eq left right = c.Eq left right
+Eq left right = c.Eq' tt (block.more_of-RVal left block.end_of-RVal) right
 
 pattern abbrev pub Pred : ℕ → (s : Shape) → Values (long s) → RCond
 Pred sym s args = c.Pred' sym s args

@@ -83,7 +83,7 @@ fn is_equality(condition: &RCond) -> bool
     ensures { result ≡ is_tree_equality condition.now }
 {
     match condition {
-        RCond::Eq { left, right } => is_point(left) && is_point(right),
+        RCond::Eq { left, right } => is_point(left.get()) && is_point(right),
         RCond::Pred { .. } => false,
         RCond::And { .. } => false,
         RCond::Or { .. } => false,

@@ -2,7 +2,7 @@
 //! of an entry, columns of a group, base tables and views are counted from 0.
 
 use crate::items::Items;
-use plain_data::{Boxed, List};
+use plain_data::{Boxed, List, Shared};
 use sql_model::{AggFun, SetOp};
 
 /// A value.
@@ -45,7 +45,8 @@ pub enum RVal {
 #[cycle(resolved)]
 #[derive(Debug, Drop)]
 pub enum RCond {
-    Eq { left: RVal, right: RVal },
+    /// `left = right`. The equalities that a list of IN stands for share their left side.
+    Eq { left: Shared<RVal>, right: RVal },
     /// A predicate or a called name, by its number in `Symbols`.
     Pred { sym: u32, args: List<RVal> },
     And { parts: List<RCond> },

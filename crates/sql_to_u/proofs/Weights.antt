@@ -73,13 +73,13 @@ module _ (views : List ℕ) where
 
   -- ---- at lists as code has them
   unfoldable pub entries_left : List REntry → ℕ
-  entries_left es = entries_weight (t.hidden-the_row-REntry-6 es)
+  entries_left es = entries_weight (t.hidden-the_row-REntry-7 es)
 
   unfoldable pub conditions_left : List RCond → ℕ
-  conditions_left cs = conditions_weight (t.hidden-the_row-RCond-1 cs)
+  conditions_left cs = conditions_weight (t.hidden-the_row-RCond-2 cs)
 
   unfoldable pub values_left : List RVal → ℕ
-  values_left es = values_weight (t.hidden-the_row-RVal-0 es)
+  values_left es = values_weight (t.hidden-the_row-RVal-1 es)
 
   abbrev pub having_left : Option RCond → ℕ
   having_left None = 0

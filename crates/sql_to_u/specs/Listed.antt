@@ -12,7 +12,7 @@ use Rattle.sql_to_u.specs.Scopes.{count_columns}
 use Rattle.sql_to_u.specs.Sizes.{condition_sizes, item_sizes, source_sizes, values_size, having_sizes, value_size, leaf, leaves, no_members}
 
 unfoldable pub columns_listed : List REntry → ℕ
-columns_listed entries = count_columns (t.hidden-the_row-REntry-6 entries)
+columns_listed entries = count_columns (t.hidden-the_row-REntry-7 entries)
 
 -- the sizes of the values of a row
 abbrev pub row_sizes : Row → List Size
@@ -21,16 +21,16 @@ row_sizes (row.One size) = size ∷ []
 
 module _ (views : List Size) where
   unfoldable pub source_sizes_listed : List REntry → List Size
-  source_sizes_listed entries = source_sizes views (t.hidden-the_row-REntry-6 entries)
+  source_sizes_listed entries = source_sizes views (t.hidden-the_row-REntry-7 entries)
 
   unfoldable pub condition_sizes_listed : GroupSize → List RCond → List Size
-  condition_sizes_listed members cs = condition_sizes views (t.hidden-the_row-RCond-1 cs) members
+  condition_sizes_listed members cs = condition_sizes views (t.hidden-the_row-RCond-2 cs) members
 
   unfoldable pub item_sizes_listed : GroupSize → List RVal → List Size → List Size
-  item_sizes_listed members es row = item_sizes views (t.hidden-the_row-RVal-0 es) members row
+  item_sizes_listed members es row = item_sizes views (t.hidden-the_row-RVal-1 es) members row
 
   unfoldable pub values_size_listed : GroupSize → List RVal → Size → Size
-  values_size_listed members es before = values_size views (t.hidden-the_row-RVal-0 es) members before
+  values_size_listed members es before = values_size views (t.hidden-the_row-RVal-1 es) members before
 
   -- what may be left out
   abbrev pub having_sizes_written : GroupSize → Option RCond → List Size

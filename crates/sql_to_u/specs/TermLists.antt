@@ -19,7 +19,7 @@ use Rattle.sql_to_u.specs.declared.scope.Scope.{Scope as LentScope}
 use Rattle.sql_to_u.specs.declared.scope.Scope.TheVariants as around
 
 unfoldable pub firsts_listed : List REntry → ℕ → List ℕ
-firsts_listed entries first = firsts (t.hidden-the_row-REntry-6 entries) first
+firsts_listed entries first = firsts (t.hidden-the_row-REntry-7 entries) first
 
 -- the terms of these views
 unfoldable pub terms_of : List RQuery → List TermAt
@@ -27,16 +27,16 @@ terms_of trees = view_terms [] trees
 
 module _ (views : List TermAt) where
   unfoldable pub source_terms_listed : Scope → List REntry → ℕ → ℕ → List U
-  source_terms_listed scope entries first next = source_terms views (t.hidden-the_row-REntry-6 entries) scope first next
+  source_terms_listed scope entries first next = source_terms views (t.hidden-the_row-REntry-7 entries) scope first next
 
   unfoldable pub condition_terms_listed : Scope → List RCond → ℕ → List U
-  condition_terms_listed scope cs next = condition_terms views (t.hidden-the_row-RCond-1 cs) scope next
+  condition_terms_listed scope cs next = condition_terms views (t.hidden-the_row-RCond-2 cs) scope next
 
   unfoldable pub item_factors_listed : Scope → List RVal → List Val → ℕ → List U
-  item_factors_listed scope es row next = item_factors views (t.hidden-the_row-RVal-0 es) scope row next
+  item_factors_listed scope es row next = item_factors views (t.hidden-the_row-RVal-1 es) scope row next
 
   unfoldable pub value_terms_listed : Scope → List RVal → ℕ → List Val
-  value_terms_listed scope es next = value_terms views (t.hidden-the_row-RVal-0 es) scope next
+  value_terms_listed scope es next = value_terms views (t.hidden-the_row-RVal-1 es) scope next
 
   -- what may be left out
   abbrev pub having_written : Scope → Option RCond → ℕ → List U

@@ -1,24 +1,43 @@
 //! Conditions, and the lists of their conjuncts.
-ghost use Rattle.std.specs.Prelude.{◌≡◌, ◌++◌, OnOk, IfOk, IfErr, None};
+ghost use Rattle.std.specs.Prelude.{◌≡◌, ◌++◌, OnOk, IfOk, IfErr, IfSome, None};
 ghost use Rattle.sql_model.specs.declared.tree.Expr.TheVariants as expr;
 ghost use Rattle.scope_core.specs.declared.tree.RCond.TheVariants as condition;
 ghost use Rattle.scope_core.specs.Answer.{IsCause};
 ghost use Rattle.scope_core.specs.Lent.{levels_of, relations_of};
-ghost use Rattle.scope_core.specs.Parts.{conditions_listed, conjuncts_listed, truth_fault, truths_fault, values_fault, values_listed, written_fault, written_listed, having_listed};
-ghost use Rattle.scope_core.specs.Resolving.{conjunction, conjuncts, resolved};
+ghost use Rattle.scope_core.specs.Parts.{conditions_listed, conjuncts_listed, truth_fault, truths_fault, value_fault, values_fault, values_listed, written_fault, written_listed, having_listed};
+ghost use Rattle.scope_core.specs.Resolving.{conjunction, conjuncts, resolved, resolved_value};
 
 use super::check_subquery;
 use super::queries::resolve_query;
 use super::values::{resolve_value, resolve_values};
+use crate::NoMemory;
 use crate::checks::{check_widths, conjuncts_of};
 use crate::fault::{ScopeCode, ScopeFault, refused};
 use crate::grouping::conjunction;
 use crate::heading::Known;
 use crate::level::Levels;
-use crate::tree::RCond;
-use plain_data::{Boxed, List};
+use crate::tree::{RCond, RVal};
+use plain_data::{Boxed, List, Shared};
 use sql_model::{Expr, Query};
 use std::alloc::Global;
+
+/// The left side of an equality, and what it resolved to.
+#[derive(Drop)]
+struct Operand {
+    expr: Shared<Expr>,
+    value: Shared<RVal>,
+}
+
+impl Operand {
+    fn share(&self) -> Result<Operand, NoMemory>
+        ensures { IfOk result (λ operand. operand ≡ self.now) }
+    {
+        Ok(Operand {
+            expr: self.expr.share()?,
+            value: self.value.share()?,
+        })
+    }
+}
 
 /// A condition: an AND of its conjuncts, where it has more than one.
 #[cycle(resolve)]
@@ -37,7 +56,7 @@ fn resolve_condition<'k, 'a>(
         Expr::Pred { sym, args, .. } => predicate(alloc, *sym, args.as_slice(), known, levels),
         Expr::Call { sym, args, .. } => predicate(alloc, *sym, args.as_slice(), known, levels),
         Expr::Eq { left, right, .. } => {
-            let left = resolve_value(alloc, left.get(), known, levels)?;
+            let left = Shared::new(alloc, resolve_value(alloc, left.get(), known, levels)?)?;
             let right = resolve_value(alloc, right.get(), known, levels)?;
             Ok(RCond::Eq { left, right })
         }
@@ -148,6 +167,65 @@ fn resolve_part<'k, 'a>(
     Ok(Boxed::new(alloc, part)?)
 }
 
+/// The left side of an equality. Where the equality before has the same one, as in a list of IN, it is not resolved again.
+#[cycle(resolve)]
+#[inline(never)]
+#[tactic(auto, using(crate::proofs::Conditions::laws))]
+fn resolve_operand<'k, 'a>(
+    alloc: Global,
+    expr: &'a Shared<Expr>,
+    before: &Option<Operand>,
+    known: &'k [Known<'a>],
+    levels: &Levels<'_, 'k, 'a>,
+) -> Result<Operand, ScopeFault>
+    requires fine { IfSome before.now (λ o. value_fault (relations_of known.now) (levels_of levels.now) o.expr ≡ None) }
+    requires value { IfSome before.now (λ o. o.value ≡ resolved_value o.expr (relations_of known.now) (levels_of levels.now)) }
+    ensures fine { IfOk result (λ o. value_fault (relations_of known.now) (levels_of levels.now) expr.now ≡ None) }
+    ensures value { IfOk result (λ o. o.value ≡ resolved_value expr.now (relations_of known.now) (levels_of levels.now)) }
+    ensures expr { IfOk result (λ o. o.expr ≡ expr.now) }
+    ensures err { IfErr result (λ f. IsCause f (value_fault (relations_of known.now) (levels_of levels.now) expr.now)) }
+{
+    if let Some(operand) = before {
+        if operand.expr.get().is_same(expr.get()) {
+            return Ok(operand.share()?);
+        }
+    }
+    let value = Shared::new(alloc, resolve_value(alloc, expr.get(), known, levels)?)?;
+    Ok(Operand {
+        expr: expr.share()?,
+        value,
+    })
+}
+
+/// A part of an OR. `before` is the left side of the last equality before it, and then that of its own.
+#[cycle(resolve)]
+#[inline(never)]
+#[tactic(auto, using(crate::proofs::Conditions::laws))]
+fn resolve_alternative<'k, 'a>(
+    alloc: Global,
+    part: &'a Expr,
+    before: &mut Option<Operand>,
+    known: &'k [Known<'a>],
+    levels: &Levels<'_, 'k, 'a>,
+) -> Result<RCond, ScopeFault>
+    requires fine { IfSome before.old (λ o. value_fault (relations_of known.now) (levels_of levels.now) o.expr ≡ None) }
+    requires value { IfSome before.old (λ o. o.value ≡ resolved_value o.expr (relations_of known.now) (levels_of levels.now)) }
+    ensures fine { IfOk result (λ v. truth_fault (relations_of known.now) (levels_of levels.now) part.now ≡ None) }
+    ensures value { IfOk result (λ v. v ≡ conjunction (conjuncts part.now (relations_of known.now) (levels_of levels.now))) }
+    ensures before_fine { OnOk result (IfSome before.new (λ o. value_fault (relations_of known.now) (levels_of levels.now) o.expr ≡ None)) }
+    ensures before_value { OnOk result (IfSome before.new (λ o. o.value ≡ resolved_value o.expr (relations_of known.now) (levels_of levels.now))) }
+    ensures err { IfErr result (λ f. IsCause f (truth_fault (relations_of known.now) (levels_of levels.now) part.now)) }
+{
+    let Expr::Eq { left, right, .. } = part else {
+        return resolve_condition(alloc, part, known, levels);
+    };
+    let operand = resolve_operand(alloc, left, &*before, known, levels)?;
+    let left = operand.value.share()?;
+    *before = Some(operand);
+    let right = resolve_value(alloc, right.get(), known, levels)?;
+    Ok(RCond::Eq { left, right })
+}
+
 #[cycle(resolve)]
 #[tactic(auto, using(crate::proofs::Conditions::laws))]
 fn resolve_conditions<'k, 'a>(
@@ -161,8 +239,9 @@ fn resolve_conditions<'k, 'a>(
     ensures err { IfErr result (λ f. IsCause f (truths_fault (relations_of known.now) (levels_of levels.now) parts.now)) }
 {
     let mut conditions = Vec::with_capacity(alloc, parts.len())?;
+    let mut before = None;
     for part in parts {
-        let condition = resolve_condition(alloc, part, known, levels)?;
+        let condition = resolve_alternative(alloc, part, &mut before, known, levels)?;
         conditions.push(condition)?;
     }
     Ok(List::from_vec(conditions))

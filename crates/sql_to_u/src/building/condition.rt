@@ -47,7 +47,7 @@ fn condition_term(
 {
     match condition {
         RCond::Eq { left, right } => Ok(U::Eq(
-            value_term(alloc, left, scope, next, views)?,
+            value_term(alloc, left.get(), scope, next, views)?,
             value_term(alloc, right, scope, next, views)?,
         )),
         RCond::Pred { sym, args } => Ok(U::Pred(

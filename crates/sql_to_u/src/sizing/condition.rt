@@ -34,7 +34,7 @@ fn condition_size(condition: &RCond, group: GroupSize, views: &[Size]) -> Size
 {
     match condition {
         RCond::Eq { left, right } => {
-            let left = value_size(left, group, views);
+            let left = value_size(left.get(), group, views);
             let right = value_size(right, group, views);
             both(left, right)
         }

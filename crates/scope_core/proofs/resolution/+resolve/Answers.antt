@@ -106,6 +106,8 @@ conditions::resolve_conditions-loop-part-preserved t c =
       fault-step (truths_fault K L) xs i _ c.part-item.result _ next c.in_ok-condition.ensures.fine c.loop-part.invariant.0,
       walk-step (conditions_listed K L) xs i c.part-item.result _ _ (conjunction (conjuncts c.part-item.result K L) ∷ []) _ c.loop-part-test.true c.part-item.is (conditions-cons K L c.part-item.result _)
           (c.in_ok-push.ensures.items ∙ ap (λ p. c.loop-part.conditions.items ++ p ∷ []) c.in_ok-condition.ensures.value) c.loop-part.invariant.1,
+      c.in_ok-condition.ensures.before_fine,
+      c.in_ok-condition.ensures.before_value,
     )
 
 pub conditions::resolve_conditions-returns-clause-fine : goal.conditions::resolve_conditions-returns-clause-fine

@@ -1,6 +1,8 @@
-use Rattle.std.proofs.Common.{◌≡◌, ◌++◌, ◌≤◌, [], drop, take, length, map}
+use Rattle.std.proofs.Common.{◌≡◌, ◌++◌, ◌≤◌, [], None, drop, take, length, map}
+use Rattle.std.specs.Prelude.{IfSome}
 use Rattle.scope_core.specs.Lent.{entries_headings, headings_of, levels_of, relations_of}
-use Rattle.scope_core.specs.Parts.{conditions_listed, conjuncts_listed, entries_fault, entries_listed, items_fault, items_listed, on_fault, on_listed, truths_fault, values_fault, values_listed}
+use Rattle.scope_core.specs.Parts.{conditions_listed, conjuncts_listed, entries_fault, entries_listed, items_fault, items_listed, on_fault, on_listed, truths_fault, value_fault, values_fault, values_listed}
+use Rattle.scope_core.specs.Resolving.{resolved_value}
 use Rattle.scope_core.specs.Scope.{Level, no_entry, AsRows}
 use Rattle.scope_core.proofs.resolution.+resolve.Given as goal
 
@@ -13,6 +15,8 @@ abbrev pub invariant-conditions::resolve_conditions-loop-part : goal.invariant-c
 invariant-conditions::resolve_conditions-loop-part l =
     (truths_fault (relations_of l.known) (levels_of l.levels) (drop l.part-index l.parts) ≡ truths_fault (relations_of l.known) (levels_of l.levels) l.parts)
     × (l.conditions.items ++ conditions_listed (relations_of l.known) (levels_of l.levels) (drop l.part-index l.parts) ≡ conditions_listed (relations_of l.known) (levels_of l.levels) l.parts)
+    × IfSome l.before (λ o. value_fault (relations_of l.known) (levels_of l.levels) o.expr ≡ None)
+    × IfSome l.before (λ o. o.value ≡ resolved_value o.expr (relations_of l.known) (levels_of l.levels))
 
 abbrev pub invariant-conditions::add_conjuncts_of_each-loop-part : goal.invariant-conditions::add_conjuncts_of_each-loop-part
 invariant-conditions::add_conjuncts_of_each-loop-part l =
