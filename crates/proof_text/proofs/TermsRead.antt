@@ -1,5 +1,5 @@
 -- Terms and values are read as the grammar takes them.
-use Rattle.std.proofs.Common.{◌≡◌, ℕ, zero, suc, ◌-◌, Bool, true, false, List, [], ◌∷◌, inl, inr, None, Ok, Err, refl}
+use Rattle.std.proofs.Common.{◌≡◌, ℕ, zero, suc, ◌-◌, Bool, true, false, true≢false, List, [], ◌∷◌, inl, inr, None, Ok, Err, refl, sym}
 use Rattle.std.specs.Prelude.{◌==◌, if◌then◌else◌}
 use Rattle.std.proofs.Math.Dec.{eqb-suc-zero}
 use Rattle.grammar.specs.Form.{seq, ref}
@@ -32,14 +32,6 @@ term_front byte h = go (sign byte) refl h
     go : (k : Sign) → sign byte ≡ k → begins_term k ≡ true → (free (rules term)).front (byte ∷ [])
     go s.Digit0 e h = inl (inr (byte, refl, rw e refl))
     go s.Digit1 e h = inr (inl (inr (byte, refl, rw e refl)))
-    go s.Digit2 e h = cc
-    go s.Digit3 e h = cc
-    go s.Digit4 e h = cc
-    go s.Digit5 e h = cc
-    go s.Digit6 e h = cc
-    go s.Digit7 e h = cc
-    go s.Digit8 e h = cc
-    go s.Digit9 e h = cc
     go s.Plus e h = inr (inr (inl (inl (inr (byte, refl, rw e refl)))))
     go s.Star e h = inr (inr (inr (inl (inl (inr (byte, refl, rw e refl))))))
     go s.Hash e h = inr (inr (inr (inr (inl (inl (inr (byte, refl, rw e refl)))))))
@@ -48,103 +40,18 @@ term_front byte h = go (sign byte) refl h
     go s.UpperR e h = inr (inr (inr (inr (inr (inr (inr (inl (inl (inr (byte, refl, rw e refl))))))))))
     go s.Equals e h = inr (inr (inr (inr (inr (inr (inr (inr (inl (inl (inr (byte, refl, rw e refl)))))))))))
     go s.UpperP e h = inr (inr (inr (inr (inr (inr (inr (inr (inr (inl (inr (byte, refl, rw e refl)))))))))))
-    go s.UpperF e h = cc
-    go s.UpperG e h = cc
-    go s.Open e h = cc
-    go s.Close e h = cc
-    go s.Comma e h = cc
-    go s.Space e h = cc
-    go s.Newline e h = cc
-    go s.Slash e h = cc
-    go s.Forward e h = cc
-    go s.Backward e h = cc
-    go s.OpenBrace e h = cc
-    go s.CloseBrace e h = cc
-    go s.Low e h = cc
-    go s.SmallA e h = cc
-    go s.SmallB e h = cc
-    go s.SmallC e h = cc
-    go s.SmallD e h = cc
-    go s.SmallE e h = cc
-    go s.SmallF e h = cc
-    go s.SmallI e h = cc
-    go s.SmallK e h = cc
-    go s.SmallL e h = cc
-    go s.SmallM e h = cc
-    go s.SmallN e h = cc
-    go s.SmallO e h = cc
-    go s.SmallP e h = cc
-    go s.SmallQ e h = cc
-    go s.SmallR e h = cc
-    go s.SmallS e h = cc
-    go s.SmallT e h = cc
-    go s.SmallU e h = cc
-    go s.SmallW e h = cc
-    go s.SmallX e h = cc
-    go s.SmallY e h = cc
-    go s.SmallZ e h = cc
-    go s.Other e h = cc
-    go s.End e h = cc
+    go k e h = absurd (true≢false (sym h))
 
 pub value_front : (byte : ℕ) → begins_value (sign byte) ≡ true → (free (rules value)).front (byte ∷ [])
 value_front byte h = go (sign byte) refl h
   where
     go : (k : Sign) → sign byte ≡ k → begins_value k ≡ true → (free (rules value)).front (byte ∷ [])
-    go s.Digit0 e h = cc
-    go s.Digit1 e h = cc
-    go s.Digit2 e h = cc
-    go s.Digit3 e h = cc
-    go s.Digit4 e h = cc
-    go s.Digit5 e h = cc
-    go s.Digit6 e h = cc
-    go s.Digit7 e h = cc
-    go s.Digit8 e h = cc
-    go s.Digit9 e h = cc
-    go s.Plus e h = cc
-    go s.Star e h = cc
-    go s.Hash e h = cc
-    go s.Bang e h = cc
-    go s.UpperS e h = cc
-    go s.UpperR e h = cc
-    go s.Equals e h = cc
-    go s.UpperP e h = cc
     go s.UpperF e h = inr (inr (inr (inl (inl (inr (byte, refl, rw e refl))))))
     go s.UpperG e h = inr (inr (inr (inr (inl (inr (byte, refl, rw e refl))))))
-    go s.Open e h = cc
-    go s.Close e h = cc
-    go s.Comma e h = cc
-    go s.Space e h = cc
-    go s.Newline e h = cc
-    go s.Slash e h = cc
-    go s.Forward e h = cc
-    go s.Backward e h = cc
-    go s.OpenBrace e h = cc
-    go s.CloseBrace e h = cc
-    go s.Low e h = cc
-    go s.SmallA e h = cc
     go s.SmallB e h = inl (inl (inr (byte, refl, rw e refl)))
     go s.SmallC e h = inr (inr (inl (inl (inr (byte, refl, rw e refl)))))
-    go s.SmallD e h = cc
-    go s.SmallE e h = cc
     go s.SmallF e h = inr (inl (inl (inr (byte, refl, rw e refl))))
-    go s.SmallI e h = cc
-    go s.SmallK e h = cc
-    go s.SmallL e h = cc
-    go s.SmallM e h = cc
-    go s.SmallN e h = cc
-    go s.SmallO e h = cc
-    go s.SmallP e h = cc
-    go s.SmallQ e h = cc
-    go s.SmallR e h = cc
-    go s.SmallS e h = cc
-    go s.SmallT e h = cc
-    go s.SmallU e h = cc
-    go s.SmallW e h = cc
-    go s.SmallX e h = cc
-    go s.SmallY e h = cc
-    go s.SmallZ e h = cc
-    go s.Other e h = cc
-    go s.End e h = cc
+    go k e h = absurd (true≢false (sym h))
 
 pub term_begins : (byte : ℕ) → begins_term (sign byte) ≡ true → (free (ref term)).front (byte ∷ [])
 term_begins byte h = (produced grammar None term).there.front (byte ∷ []) (term_front byte h)
@@ -254,14 +161,6 @@ module _ (levels : ℕ) (term_read : Rest → Reading U) (value_read : Rest → 
     pub reads_term_with : (k : Sign) → sign byte ≡ k → begins_term k ≡ true → Outcome (ref term) (suc levels) (byte ∷ text) (term_with term_read value_read k here)
     reads_term_with s.Digit0 e h = (mapped {k = λ t. u.Zero} {f = of_code 0} (first term_inner refl (rw e refl))).deep.took byte text (takes levels (λ x. code x == 0) byte text (rw e refl))
     reads_term_with s.Digit1 e h = (mapped {k = λ t. u.One} {f = of_code 1} (first (other term_inner refl (rw e refl)) refl (rw e refl))).deep.took byte text (takes levels (λ x. code x == 1) byte text (rw e refl))
-    reads_term_with s.Digit2 e h = cc
-    reads_term_with s.Digit3 e h = cc
-    reads_term_with s.Digit4 e h = cc
-    reads_term_with s.Digit5 e h = cc
-    reads_term_with s.Digit6 e h = cc
-    reads_term_with s.Digit7 e h = cc
-    reads_term_with s.Digit8 e h = cc
-    reads_term_with s.Digit9 e h = cc
     reads_term_with s.Plus e h = ends_in (second (mapped {k = λ p. p.1} {f = seq (of_code 10) (pair (ref term))} (mapped {k = λ p. u.Add p.0 p.1} {f = skip_then (of_code 10) (pair (ref term))} (first (other (other term_inner refl (rw e refl)) refl (rw e refl)) refl (rw e refl)))) refl byte text (takes levels (λ x. code x == 10) byte text (rw e refl))) (pair_of term_read here) (reads_within (seq (ref term) (skip_then (of_code 22) (ref term))) levels (both term_read) (reads_both (ref term) levels term_read terms refl refl) refl refl here)
     reads_term_with s.Star e h = ends_in (second (mapped {k = λ p. p.1} {f = seq (of_code 11) (pair (ref term))} (mapped {k = λ p. u.Mul p.0 p.1} {f = skip_then (of_code 11) (pair (ref term))} (first (other (other (other term_inner refl (rw e refl)) refl (rw e refl)) refl (rw e refl)) refl (rw e refl)))) refl byte text (takes levels (λ x. code x == 11) byte text (rw e refl))) (pair_of term_read here) (reads_within (seq (ref term) (skip_then (of_code 22) (ref term))) levels (both term_read) (reads_both (ref term) levels term_read terms refl refl) refl refl here)
     reads_term_with s.Hash e h = ends_in (second (mapped {k = λ p. p.1} {f = seq (of_code 12) (g.within (ref term))} (mapped {k = λ a. u.Squash a} {f = skip_then (of_code 12) (g.within (ref term))} (first (other (other (other (other term_inner refl (rw e refl)) refl (rw e refl)) refl (rw e refl)) refl (rw e refl)) refl (rw e refl)))) refl byte text (takes levels (λ x. code x == 12) byte text (rw e refl))) (within term_read here) (reads_within (ref term) levels term_read terms refl refl here)
@@ -270,43 +169,7 @@ module _ (levels : ℕ) (term_read : Rest → Reading U) (value_read : Rest → 
     reads_term_with s.UpperR e h = reads_numbered (ref arguments) (list_of value_read) lists (λ n a. u.Rel n a) refl (λ v. v) here (second (mapped {k = λ p. p.1} {f = seq (of_code 15) (seq (ref number) (ref arguments))} (mapped {k = λ p. u.Rel p.0 p.1} {f = skip_then (of_code 15) (seq (ref number) (ref arguments))} (first (other (other (other (other (other (other (other term_inner refl (rw e refl)) refl (rw e refl)) refl (rw e refl)) refl (rw e refl)) refl (rw e refl)) refl (rw e refl)) refl (rw e refl)) refl (rw e refl)))) refl byte text (takes levels (λ x. code x == 15) byte text (rw e refl)))
     reads_term_with s.Equals e h = ends_in (second (mapped {k = λ p. p.1} {f = seq (of_code 16) (pair (ref value))} (mapped {k = λ p. u.Eq p.0 p.1} {f = skip_then (of_code 16) (pair (ref value))} (first (other (other (other (other (other (other (other (other term_inner refl (rw e refl)) refl (rw e refl)) refl (rw e refl)) refl (rw e refl)) refl (rw e refl)) refl (rw e refl)) refl (rw e refl)) refl (rw e refl)) refl (rw e refl)))) refl byte text (takes levels (λ x. code x == 16) byte text (rw e refl))) (pair_of value_read here) (reads_within (seq (ref value) (skip_then (of_code 22) (ref value))) levels (both value_read) (reads_both (ref value) levels value_read values refl refl) refl refl here)
     reads_term_with s.UpperP e h = reads_numbered (ref arguments) (list_of value_read) lists (λ n a. u.Pred n a) refl (λ v. v) here (second (mapped {k = λ p. p.1} {f = seq (of_code 17) (seq (ref number) (ref arguments))} (mapped {k = λ p. u.Pred p.0 p.1} {f = skip_then (of_code 17) (seq (ref number) (ref arguments))} (other (other (other (other (other (other (other (other (other term_inner refl (rw e refl)) refl (rw e refl)) refl (rw e refl)) refl (rw e refl)) refl (rw e refl)) refl (rw e refl)) refl (rw e refl)) refl (rw e refl)) refl (rw e refl)))) refl byte text (takes levels (λ x. code x == 17) byte text (rw e refl)))
-    reads_term_with s.UpperF e h = cc
-    reads_term_with s.UpperG e h = cc
-    reads_term_with s.Open e h = cc
-    reads_term_with s.Close e h = cc
-    reads_term_with s.Comma e h = cc
-    reads_term_with s.Space e h = cc
-    reads_term_with s.Newline e h = cc
-    reads_term_with s.Slash e h = cc
-    reads_term_with s.Forward e h = cc
-    reads_term_with s.Backward e h = cc
-    reads_term_with s.OpenBrace e h = cc
-    reads_term_with s.CloseBrace e h = cc
-    reads_term_with s.Low e h = cc
-    reads_term_with s.SmallA e h = cc
-    reads_term_with s.SmallB e h = cc
-    reads_term_with s.SmallC e h = cc
-    reads_term_with s.SmallD e h = cc
-    reads_term_with s.SmallE e h = cc
-    reads_term_with s.SmallF e h = cc
-    reads_term_with s.SmallI e h = cc
-    reads_term_with s.SmallK e h = cc
-    reads_term_with s.SmallL e h = cc
-    reads_term_with s.SmallM e h = cc
-    reads_term_with s.SmallN e h = cc
-    reads_term_with s.SmallO e h = cc
-    reads_term_with s.SmallP e h = cc
-    reads_term_with s.SmallQ e h = cc
-    reads_term_with s.SmallR e h = cc
-    reads_term_with s.SmallS e h = cc
-    reads_term_with s.SmallT e h = cc
-    reads_term_with s.SmallU e h = cc
-    reads_term_with s.SmallW e h = cc
-    reads_term_with s.SmallX e h = cc
-    reads_term_with s.SmallY e h = cc
-    reads_term_with s.SmallZ e h = cc
-    reads_term_with s.Other e h = cc
-    reads_term_with s.End e h = cc
+    reads_term_with k e h = absurd (true≢false (sym h))
 
     value_there : Goes (rules value) (suc levels) (byte ∷ text) (ref value) (suc levels) (byte ∷ text) (λ v. v)
     value_there = production value (whole {N = ref value} {levels = suc levels} {start = byte ∷ text})
@@ -315,61 +178,12 @@ module _ (levels : ℕ) (term_read : Rest → Reading U) (value_read : Rest → 
     value_inner = record { deep = value_there.deep; any = value_there.any }
 
     pub reads_value_with : (k : Sign) → sign byte ≡ k → begins_value k ≡ true → Outcome (ref value) (suc levels) (byte ∷ text) (value_with term_read value_read k here)
-    reads_value_with s.Digit0 e h = cc
-    reads_value_with s.Digit1 e h = cc
-    reads_value_with s.Digit2 e h = cc
-    reads_value_with s.Digit3 e h = cc
-    reads_value_with s.Digit4 e h = cc
-    reads_value_with s.Digit5 e h = cc
-    reads_value_with s.Digit6 e h = cc
-    reads_value_with s.Digit7 e h = cc
-    reads_value_with s.Digit8 e h = cc
-    reads_value_with s.Digit9 e h = cc
-    reads_value_with s.Plus e h = cc
-    reads_value_with s.Star e h = cc
-    reads_value_with s.Hash e h = cc
-    reads_value_with s.Bang e h = cc
-    reads_value_with s.UpperS e h = cc
-    reads_value_with s.UpperR e h = cc
-    reads_value_with s.Equals e h = cc
-    reads_value_with s.UpperP e h = cc
     reads_value_with s.UpperF e h = reads_numbered (ref arguments) (list_of value_read) lists (λ n a. v.Fun n a) refl (λ v. v) here (second (mapped {k = λ p. p.1} {f = seq (of_code 18) (seq (ref number) (ref arguments))} (mapped {k = λ p. v.Fun p.0 p.1} {f = skip_then (of_code 18) (seq (ref number) (ref arguments))} (first (other (other (other value_inner refl (rw e refl)) refl (rw e refl)) refl (rw e refl)) refl (rw e refl)))) refl byte text (takes levels (λ x. code x == 18) byte text (rw e refl)))
     reads_value_with s.UpperG e h = reads_numbered (g.within (ref term)) (within term_read) (reads_within (ref term) levels term_read terms refl refl) (λ n a. v.Agg n a) refl (λ v. v) here (second (mapped {k = λ p. p.1} {f = seq (of_code 19) (seq (ref number) (g.within (ref term)))} (mapped {k = λ p. v.Agg p.0 p.1} {f = skip_then (of_code 19) (seq (ref number) (g.within (ref term)))} (other (other (other (other value_inner refl (rw e refl)) refl (rw e refl)) refl (rw e refl)) refl (rw e refl)))) refl byte text (takes levels (λ x. code x == 19) byte text (rw e refl)))
-    reads_value_with s.Open e h = cc
-    reads_value_with s.Close e h = cc
-    reads_value_with s.Comma e h = cc
-    reads_value_with s.Space e h = cc
-    reads_value_with s.Newline e h = cc
-    reads_value_with s.Slash e h = cc
-    reads_value_with s.Forward e h = cc
-    reads_value_with s.Backward e h = cc
-    reads_value_with s.OpenBrace e h = cc
-    reads_value_with s.CloseBrace e h = cc
-    reads_value_with s.Low e h = cc
-    reads_value_with s.SmallA e h = cc
     reads_value_with s.SmallB e h = ends_in (second (mapped {k = λ p. p.1} {f = seq (of_code 32) (ref number)} (mapped {k = λ i. v.Bound i} {f = skip_then (of_code 32) (ref number)} (first value_inner refl (rw e refl)))) refl byte text (takes levels (λ x. code x == 32) byte text (rw e refl))) (number_at here) (reads_number levels here)
     reads_value_with s.SmallC e h = ends_in (second (mapped {k = λ p. p.1} {f = seq (of_code 33) (ref number)} (mapped {k = λ i. v.Lit i} {f = skip_then (of_code 33) (ref number)} (first (other (other value_inner refl (rw e refl)) refl (rw e refl)) refl (rw e refl)))) refl byte text (takes levels (λ x. code x == 33) byte text (rw e refl))) (number_at here) (reads_number levels here)
-    reads_value_with s.SmallD e h = cc
-    reads_value_with s.SmallE e h = cc
     reads_value_with s.SmallF e h = ends_in (second (mapped {k = λ p. p.1} {f = seq (of_code 36) (ref number)} (mapped {k = λ i. v.Free i} {f = skip_then (of_code 36) (ref number)} (first (other value_inner refl (rw e refl)) refl (rw e refl)))) refl byte text (takes levels (λ x. code x == 36) byte text (rw e refl))) (number_at here) (reads_number levels here)
-    reads_value_with s.SmallI e h = cc
-    reads_value_with s.SmallK e h = cc
-    reads_value_with s.SmallL e h = cc
-    reads_value_with s.SmallM e h = cc
-    reads_value_with s.SmallN e h = cc
-    reads_value_with s.SmallO e h = cc
-    reads_value_with s.SmallP e h = cc
-    reads_value_with s.SmallQ e h = cc
-    reads_value_with s.SmallR e h = cc
-    reads_value_with s.SmallS e h = cc
-    reads_value_with s.SmallT e h = cc
-    reads_value_with s.SmallU e h = cc
-    reads_value_with s.SmallW e h = cc
-    reads_value_with s.SmallX e h = cc
-    reads_value_with s.SmallY e h = cc
-    reads_value_with s.SmallZ e h = cc
-    reads_value_with s.Other e h = cc
-    reads_value_with s.End e h = cc
+    reads_value_with k e h = absurd (true≢false (sym h))
 
   term_read_at : (nodes : ℕ) (text : List ℕ)
       → Outcome (ref term) (suc levels) text
