@@ -61,18 +61,13 @@ pub fn place_of(expr: &Expr) -> u32
 fn one_part(alloc: Global, part: Expr) -> Result<List<Expr>, NoMemory>
     ensures { IfOk result (λ parts. parts ≡ part ∷ []) }
 {
-    let mut parts = Vec::with_capacity(alloc, 1)?;
-    parts.push(part)?;
-    Ok(List::from_vec(parts))
+    Ok(List::from_vec(vec![in alloc; part]?))
 }
 
 fn two_parts(alloc: Global, left: Expr, right: Expr) -> Result<List<Expr>, NoMemory>
     ensures { IfOk result (λ parts. parts ≡ left ∷ right ∷ []) }
 {
-    let mut parts = Vec::with_capacity(alloc, 2)?;
-    parts.push(left)?;
-    parts.push(right)?;
-    Ok(List::from_vec(parts))
+    Ok(List::from_vec(vec![in alloc; left, right]?))
 }
 
 /// `left = right`, where others may have the same left side.
@@ -149,19 +144,20 @@ pub fn compared(alloc: Global, sign: Kind, left: Expr, right: Expr) -> Result<Ex
     }
 }
 
-/// `value BETWEEN low AND high`, where `copy` is the value once more.
-pub fn between(
-    alloc: Global,
-    value: Expr,
-    copy: Expr,
-    low: Expr,
-    high: Expr,
-) -> Result<Expr, NoMemory>
-    ensures { IfOk result (λ expr. copy ≡ value → expr ≡ bounds value low high) }
+/// `low <= value`, at the place of the value.
+pub fn at_most(alloc: Global, low: Expr, value: Expr) -> Result<Expr, NoMemory>
+    ensures { IfOk result (λ expr. expr ≡ an_expr.Pred 1 (low ∷ value ∷ []) (place value)) }
 {
     let at = place_of(&value);
-    let above = predicate(alloc, 1, low, value, at)?;
-    let below = predicate(alloc, 1, copy, high, at)?;
+    predicate(alloc, 1, low, value, at)
+}
+
+/// `value BETWEEN low AND high`, where `above` is `low <= value`.
+pub fn between(alloc: Global, above: Expr, value: Expr, high: Expr) -> Result<Expr, NoMemory>
+    ensures { IfOk result (λ expr. (low : _) → above ≡ an_expr.Pred 1 (low ∷ value ∷ []) (place value) → expr ≡ bounds value low high) }
+{
+    let at = place_of(&value);
+    let below = predicate(alloc, 1, value, high, at)?;
     Ok(Expr::And {
         parts: two_parts(alloc, above, below)?,
         at,

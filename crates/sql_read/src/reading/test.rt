@@ -8,7 +8,7 @@ use super::deeper::{deeper_in_inner, deeper_query};
 use super::expr::{expr, value};
 use crate::fault::ReadFault;
 use crate::tokens::{Mark, Tokens, place};
-use crate::trees::{between, compared, equal, like, negated, place_of};
+use crate::trees::{at_most, between, compared, equal, like, negated, place_of};
 use plain_data::{Boxed, List, Shared};
 use sql_grammar::kinds::{Kind, kind_of};
 use sql_model::Expr;
@@ -126,12 +126,12 @@ fn by_word(
     ensures extends { Extends tokens.old tokens.new }
 {
     if let Some(word) = tokens.eat(Kind::In) {
-        tokens.expect_within(alloc, &[Kind::Open], levels)?;
         let value = Sought {
             value: Shared::new(alloc, left)?,
             weight,
             in_at: place(&word),
         };
+        tokens.expect_within(alloc, &[Kind::Open], levels)?;
         let found = deeper_in_inner(alloc, tokens, levels, value)?;
         tokens.expect(alloc, Kind::Close)?;
         return Ok(found);
@@ -160,9 +160,10 @@ fn bounds(
     tokens.add_copy(weight)?;
     let copy = left.copy(alloc)?;
     let low = value(alloc, tokens, levels)?;
+    let above = at_most(alloc, low, left)?;
     tokens.expect(alloc, Kind::And)?;
     let high = value(alloc, tokens, levels)?;
-    Ok(between(alloc, left, copy, low, high)?)
+    Ok(between(alloc, above, copy, high)?)
 }
 
 /// The value compared with a member. It shares the value's memory, but counts as a copy.
