@@ -124,23 +124,16 @@ impl<'f> Deriv<'f> {
         requires made { Rewrites facts.now outs from step to }
         ensures { IfOk result (IsOneStep facts.now outs from step to) }
     {
-        let depth = depth(&from).max(depth(&to));
-        if !has_room(outs, depth) {
-            return Err(AllocError);
-        }
-        let from = Counted::new(from)?;
-        let to = Counted::new(to)?;
-        let nodes = from.nodes().max(to.nodes());
-        let mut steps = List::new(alloc);
-        steps.push(step)?;
+        let steps = List::from_vec(vec![in alloc; step]?);
+        let Ends { from, to, bounds } = Ends::new(outs, from, to)?;
         Ok(Deriv {
             facts,
             outs,
             from,
             to,
             steps,
-            nodes,
-            depth,
+            nodes: bounds.nodes,
+            depth: bounds.depth,
         })
     }
 
@@ -156,33 +149,20 @@ impl<'f> Deriv<'f> {
         ensures steps { IfOk result (λ d. d.steps ≡ self.entry.steps ++ other.entry.steps) }
         ensures bounds { IfOk result (IsJoined self.entry other.entry) }
     {
-        let Deriv {
-            facts,
-            outs,
-            from,
-            to: _,
-            steps,
-            nodes,
-            depth,
-        } = self;
-        let Deriv {
-            facts: _,
-            outs: _,
-            from: _,
-            to,
-            steps: more,
-            nodes: most,
-            depth: deepest,
-        } = other;
-        let steps = appended(steps, more)?;
+        let (facts, outs) = (self.facts, self.outs);
+        let nodes = self.nodes.max(other.nodes);
+        let depth = self.depth.max(other.depth);
+        let (from, first) = self.into_start();
+        let (to, rest) = other.into_last();
+        let steps = appended(first, rest)?;
         Ok(Deriv {
             facts,
             outs,
             from,
             to,
             steps,
-            nodes: nodes.max(most),
-            depth: depth.max(deepest),
+            nodes,
+            depth,
         })
     }
 
@@ -305,21 +285,33 @@ impl<'f> Deriv<'f> {
         })
     }
 
+    // The first term and the steps.
+    fn into_start(self) -> (Counted, List<Step>)
+        ensures from { result.0 ≡ self.entry.from }
+        ensures steps { result.1 ≡ self.entry.steps }
+        ensures sound { IsSound self.entry }
+    {
+        let Deriv { from, steps, .. } = self;
+        (from, steps)
+    }
+
+    // The last term and the steps.
+    fn into_last(self) -> (Counted, List<Step>)
+        ensures to { result.0 ≡ self.entry.to }
+        ensures steps { result.1 ≡ self.entry.steps }
+        ensures sound { IsSound self.entry }
+    {
+        let Deriv { to, steps, .. } = self;
+        (to, steps)
+    }
+
     /// The last term and the steps.
     pub(crate) fn into_end(self) -> (U, List<Step>)
         ensures to { result.0 ≡ self.entry.to }
         ensures steps { result.1 ≡ self.entry.steps }
         ensures sound { IsSound self.entry }
     {
-        let Deriv {
-            facts: _,
-            outs: _,
-            from: _,
-            to,
-            steps,
-            nodes: _,
-            depth: _,
-        } = self;
+        let (to, steps) = self.into_last();
         (to.into_term(), steps)
     }
 
@@ -381,6 +373,38 @@ impl<'f> Deriv<'f> {
 struct Bounds {
     nodes: u64,
     depth: u64,
+}
+
+/// The ends of one step, and what both have at most.
+#[derive(Drop)]
+struct Ends {
+    from: Counted,
+    to: Counted,
+    bounds: Bounds,
+}
+
+impl Ends {
+    // There is no memory for terms that leave no room for names behind `outs`.
+    fn new(outs: u32, from: U, to: U) -> Result<Ends, NoMemory>
+        ensures from { IfOk result (λ ends. ends.from ≡ from) }
+        ensures to { IfOk result (λ ends. ends.to ≡ to) }
+        ensures nodes { IfOk result (λ ends. ends.bounds.nodes ≡ max (nodes_of from) (nodes_of to)) }
+        ensures depth { IfOk result (λ ends. ends.bounds.depth ≡ max (depth_of from) (depth_of to)) }
+        ensures room { IfOk result (λ ends. outs + max (depth_of from) (depth_of to) < 2 ^ 32) }
+    {
+        let depth = depth(&from).max(depth(&to));
+        if !has_room(outs, depth) {
+            return Err(AllocError);
+        }
+        let from = Counted::new(from)?;
+        let to = Counted::new(to)?;
+        let nodes = from.nodes().max(to.nodes());
+        Ok(Ends {
+            from,
+            to,
+            bounds: Bounds { nodes, depth },
+        })
+    }
 }
 
 // The whole with the new part in the place of the old one.

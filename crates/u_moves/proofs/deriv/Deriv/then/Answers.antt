@@ -1,30 +1,15 @@
-use Rattle.std.proofs.Common.{ap, refl, sym, ◌∙◌}
+use Rattle.std.proofs.Common.{◌++◌, ap, ap₂, arith, ◌∙◌}
 use Rattle.u_moves.specs.Derivations.{Derivation}
 use Rattle.u_moves.proofs.Sound.{joined, joined-sound, sound-by}
 use Rattle.u_moves.proofs.deriv.Deriv.then.Goals as goal
 
 pub invariant_of-result : goal.invariant_of-result
 invariant_of-result c =
-    let d : Derivation = record {
-      facts = c.self.inside.facts.now;
-      outs = c.self.inside.outs;
-      from = c.self.inside.from;
-      to = c.self.inside.to;
-      steps = c.self.inside.steps;
-      nodes = c.self.inside.nodes;
-      depth = c.self.inside.depth;
-    } in
-    let e : Derivation = record {
-      facts = c.other.inside.facts.now;
-      outs = c.other.inside.outs;
-      from = c.other.inside.from;
-      to = c.other.inside.to;
-      steps = c.other.inside.steps;
-      nodes = c.other.inside.nodes;
-      depth = c.other.inside.depth;
-    } in
-    let sound = joined-sound d e c.self.invariant c.other.invariant
-    (ap (λ (x : Derivation). x.to) c.self.view_is ∙ c.requires.joins ∙ sym (ap (λ (x : Derivation). x.from) c.other.view_is))
-    (ap (λ (x : Derivation). x.facts) c.self.view_is ∙ c.requires.facts ∙ sym (ap (λ (x : Derivation). x.facts) c.other.view_is))
-    (ap (λ (x : Derivation). x.outs) c.self.view_is ∙ c.requires.outs ∙ sym (ap (λ (x : Derivation). x.outs) c.other.view_is)) in
-    sound-by (joined d e) sound d.facts d.outs d.from e.to c.in_ok-steps.steps c.max.result c.max-2.result refl refl refl refl (c.in_ok-steps.ensures {u = tt}) c.max.ensures c.max-2.ensures
+    let first = c.into_start-from.ensures in
+    let rest = c.into_last-to.ensures in
+    sound-by (joined c.args.self c.args.other) (joined-sound c.args.self c.args.other first.sound rest.sound c.requires.joins c.requires.facts c.requires.outs)
+    c.self.inside.facts.now c.self.inside.outs c.into_start-from.result.0 c.into_last-to.result.0 c.in_ok-steps.steps c.max-nodes.result c.max-depth.result
+    (ap (λ (d : Derivation). d.facts) c.self.view_is) (ap (λ (d : Derivation). d.outs) c.self.view_is) first.from rest.to
+    (c.in_ok-steps.ensures {u = tt} ∙ ap₂ (λ ss ts. ss ++ ts) first.steps rest.steps)
+    (omega (arith, c.max-nodes.ensures, ap (λ (d : Derivation). d.nodes) c.self.view_is, ap (λ (d : Derivation). d.nodes) c.other.view_is))
+    (omega (arith, c.max-depth.ensures, ap (λ (d : Derivation). d.depth) c.self.view_is, ap (λ (d : Derivation). d.depth) c.other.view_is))
