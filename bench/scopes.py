@@ -146,7 +146,7 @@ def named_view():
 
 
 def copied_names(listed=60, length=4_000):
-    """A long name under three lists of IN in one another, each of which copies the value before it."""
+    """A long name before three lists of IN in one another, which count as 216,000 copies of it."""
     name = "n" * length
     ones = ", ".join(["1"] * listed)
     value = name
@@ -187,12 +187,17 @@ def deep_values():
     return case("", f"SELECT a FROM r WHERE {deepest_value(MOST_LEVELS - 1)} = 1")
 
 
-def deep_sources():
+def deepest_sources(levels):
     """Derived tables within derived tables, each in the longest chains of set operators."""
     query = "SELECT a FROM r"
-    for _ in range(MOST_LEVELS):
+    for _ in range(levels):
         query = sets(f"SELECT d.a FROM ({query}) d")
-    return case("", query)
+    return query
+
+
+def deep_sources():
+    """As many derived tables in one another as there may be."""
+    return case("", deepest_sources(MOST_LEVELS))
 
 
 def deep_query():
@@ -210,8 +215,23 @@ def deep_operand():
     return case("", f"SELECT a FROM r WHERE ({deepest_query(MOST_LEVELS - 1)}) BETWEEN 1 AND 2")
 
 
-CASES = [start, ordinary_queries, sought_outwards, stars, nested_sources, set_chains, derived_from_sets, named_views, named_view, copied_names]
-DEEP_CASES = [deep_values, deep_sources, deep_query, deep_view, deep_operand]
+def deep_compared_value():
+    """A value as deep as there may be before a list of IN: the left sides of its equalities are compared."""
+    return case("", f"SELECT a FROM r WHERE {deepest_value(MOST_LEVELS - 1)} IN (1, 2)")
+
+
+def deep_compared_sources():
+    """The same with the deepest derived tables, in one scalar subquery."""
+    return case("", f"SELECT a FROM r WHERE (SELECT COUNT(*) FROM ({deepest_sources(MOST_LEVELS - 2)}) d) IN (1, 2)")
+
+
+def copied_operands(deep=14):
+    """BETWEEN as an operand of BETWEEN: 400 bytes that stand for some 900,000 copied tokens."""
+    return case("", "SELECT a FROM r WHERE " + "(" * deep + "(" + "a + " * 22 + "(a))" + " BETWEEN 1 AND 2)" * deep)
+
+
+CASES = [start, ordinary_queries, sought_outwards, stars, nested_sources, set_chains, derived_from_sets, named_views, named_view, copied_names, copied_operands]
+DEEP_CASES = [deep_values, deep_sources, deep_query, deep_view, deep_operand, deep_compared_value, deep_compared_sources]
 
 
 def write_all(folder):
