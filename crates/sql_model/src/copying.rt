@@ -118,8 +118,6 @@ impl Block {
     {
         let items = copy_items(alloc, self.items.as_slice())?;
         let entries = copy_entries(alloc, self.entries.as_slice())?;
-        let cond = copy_condition(alloc, &self.cond)?;
-        let having = copy_condition(alloc, &self.having)?;
         let groups = match &self.groups {
             Some(columns) => Some(copy_exprs(alloc, columns.as_slice())?),
             None => None,
@@ -128,9 +126,9 @@ impl Block {
             distinct: self.distinct,
             items,
             entries,
-            cond,
             groups,
-            having,
+            cond: copy_condition(alloc, &self.cond)?,
+            having: copy_condition(alloc, &self.having)?,
         })
     }
 }
@@ -148,8 +146,8 @@ impl Item {
                 at: *at,
             }),
             Item::Value { expr, name } => Ok(Item::Value {
-                expr: expr.copy(alloc)?,
                 name: copy_name(name)?,
+                expr: expr.copy(alloc)?,
             }),
         }
     }

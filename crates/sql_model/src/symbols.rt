@@ -36,18 +36,33 @@ impl Symbols {
         ensures literals { IfOk result (λ symbols. symbols.lits.keys ≡ fixed_literals) }
         ensures symbols { IfOk result (λ symbols. symbols.syms.keys ≡ fixed_symbols) }
     {
-        let one = Lit {
-            kind: LitKind::Number,
-            text: Name::new(alloc, b"1")?,
-        };
-        let mut lits = IndexSet::new(alloc);
-        lits.insert(one)?;
-        let mut syms = IndexSet::new(alloc);
-        for text in ["<", "<=", "like", "+", "-", "*", "/", "||"] {
-            insert_symbol(alloc, &mut syms, text)?;
-        }
-        Ok(Symbols { lits, syms })
+        Ok(Symbols {
+            lits: fixed_literals(alloc)?,
+            syms: fixed_symbols(alloc)?,
+        })
     }
+}
+
+fn fixed_literals(alloc: Global) -> Result<IndexSet<Lit>, NoMemory>
+    ensures { IfOk result (λ lits. lits.keys ≡ fixed_literals) }
+{
+    let one = Lit {
+        kind: LitKind::Number,
+        text: Name::new(alloc, b"1")?,
+    };
+    let mut lits = IndexSet::new(alloc);
+    lits.insert(one)?;
+    Ok(lits)
+}
+
+fn fixed_symbols(alloc: Global) -> Result<IndexSet<Name>, NoMemory>
+    ensures { IfOk result (λ syms. syms.keys ≡ fixed_symbols) }
+{
+    let mut syms = IndexSet::new(alloc);
+    for text in ["<", "<=", "like", "+", "-", "*", "/", "||"] {
+        insert_symbol(alloc, &mut syms, text)?;
+    }
+    Ok(syms)
 }
 
 fn insert_symbol(alloc: Global, syms: &mut IndexSet<Name>, text: &str) -> Result<(), NoMemory>
