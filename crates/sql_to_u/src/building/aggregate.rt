@@ -7,7 +7,7 @@ ghost use Rattle.sql_to_u.specs.TermLists.{argument_written, counted_written, fi
 
 use crate::building::block::member_factors;
 use crate::building::value::value_term;
-use crate::factors::{over_names, product};
+use crate::factors::{over_names, product_over};
 use crate::naming::{count_columns, firsts, name_after};
 use crate::scope::{Group, Scope};
 use plain_data::Boxed;
@@ -82,8 +82,7 @@ fn counted_members(
     };
     let value = argument_term(alloc, arg, counting, &rows, after, views)?;
     factors.push(U::Eq(value, Val::Free(next)))?;
-    let product = product(alloc, factors)?;
-    over_names(alloc, first, count, product)
+    product_over(alloc, first, count, factors)
 }
 
 /// An aggregate that counts rows is handed the literal numbered 0 in place of its argument.

@@ -11,7 +11,7 @@ ghost use Rattle.sql_to_u.specs.Translation.{block_term, query_term};
 use crate::building::condition::{add_conditions, add_having};
 use crate::building::source::add_sources;
 use crate::building::value::add_items;
-use crate::factors::{add_keys, combined, over_names, product, squash_if};
+use crate::factors::{add_keys, combined, product, product_over, some_over, squash_if};
 use crate::naming::{count_columns, firsts, name_after};
 use crate::scope::{Group, Scope};
 use scope_core::{Grouping, NoMemory, RBlock, RQuery, Resolved};
@@ -34,8 +34,14 @@ pub fn query_term(
     match query {
         RQuery::Block { block } => block_term(alloc, block.get(), scope, row, next, views),
         RQuery::Set { op, left, right } => {
-            let left = query_term(alloc, left.get(), scope, row, next, views)?;
-            let right = query_term(alloc, right.get(), scope, row, next, views)?;
+            let left = Boxed::new(
+                alloc,
+                query_term(alloc, left.get(), scope, row, next, views)?,
+            )?;
+            let right = Boxed::new(
+                alloc,
+                query_term(alloc, right.get(), scope, row, next, views)?,
+            )?;
             combined(alloc, *op, left, right)
         }
     }
@@ -84,8 +90,7 @@ fn plain_term(
     let mut factors = joined(alloc, &*block, &*scope, next, views)?;
     let items = &block.items;
     add_items(&mut factors, alloc, items, &rows, row, after, views)?;
-    let product = product(alloc, factors)?;
-    let term = over_names(alloc, next, count, product)?;
+    let term = product_over(alloc, next, count, factors)?;
     squash_if(alloc, block.distinct, term)
 }
 
@@ -147,8 +152,7 @@ fn keys_term(
     add_having(&mut factors, alloc, &block.having, &inside, inner, views)?;
     let items = &block.items;
     add_items(&mut factors, alloc, items, &inside, row, inner, views)?;
-    let product = product(alloc, factors)?;
-    let groups = over_names(alloc, next, count, product)?;
+    let groups = product_over(alloc, next, count, factors)?;
     squash_if(alloc, block.distinct, groups)
 }
 
@@ -165,9 +169,7 @@ fn some_member(
 {
     let count = count_columns(group.block.entries.as_slice())?;
     let factors = member_factors(alloc, group, outer, first, views)?;
-    let product = product(alloc, factors)?;
-    let term = over_names(alloc, first, count, product)?;
-    Ok(U::Squash(Boxed::new(alloc, term)?))
+    some_over(alloc, first, count, product(alloc, factors)?)
 }
 
 /// The factors that say that the names from `first` on are those of a member of a group.

@@ -8,12 +8,12 @@ ghost use Rattle.sql_to_u.specs.Translation.{condition_term, query_term};
 
 use crate::building::block::query_term;
 use crate::building::value::{value_term, value_terms};
-use crate::factors::{over_names, product, sum};
+use crate::factors::{not, product, some_over, squash, sum};
 use crate::naming::{name_after, names};
 use crate::scope::Scope;
 use scope_core::{NoMemory, RCond, RQuery, Resolved, query_width};
 use std::alloc::Global;
-use u_terms::{Boxed, U};
+use u_terms::U;
 
 /// Appends the terms of conditions.
 #[cycle(build)]
@@ -62,18 +62,19 @@ fn condition_term(
         RCond::Or { parts } => {
             let mut factors = Vec::new(alloc);
             add_conditions(&mut factors, alloc, parts.as_slice(), scope, next, views)?;
-            let term = sum(alloc, factors)?;
-            Ok(U::Squash(Boxed::new(alloc, term)?))
+            squash(alloc, sum(alloc, factors)?)
         }
         RCond::Not { part } => {
-            let term = condition_term(alloc, part.get(), scope, next, views)?;
-            Ok(U::Not(Boxed::new(alloc, term)?))
+            not(
+                alloc,
+                condition_term(alloc, part.get(), scope, next, views)?,
+            )
         }
         RCond::Exists { query } => exists_term(alloc, query.get(), scope, next, views),
         RCond::In { value, query } => {
             let value = value_term(alloc, value, scope, next, views)?;
-            let term = query_term(alloc, query.get(), scope, &[value], next, views)?;
-            Ok(U::Squash(Boxed::new(alloc, term)?))
+            let term = query_term(alloc, query.get(), scope, &[value], next, views);
+            squash(alloc, term?)
         }
     }
 }
@@ -90,11 +91,10 @@ fn exists_term(
     ensures { IfOk result (λ t. t ≡ u.Squash (over_names next (width query.now) (query_term (terms_of views.now) query.now (scope_within views.now scope.now) (names_from next (width query.now)) (next + width query.now)))) }
 {
     let width = u32::try_from(query_width(query)).map_err(|_| NoMemory)?;
-    let row = names(alloc, next, width)?;
     let after = name_after(next, width)?;
+    let row = names(alloc, next, width)?;
     let body = query_term(alloc, query, scope, row.as_slice(), after, views)?;
-    let term = over_names(alloc, next, width, body)?;
-    Ok(U::Squash(Boxed::new(alloc, term)?))
+    some_over(alloc, next, width, body)
 }
 
 /// Appends what HAVING gives: an AND gives a factor for each of its parts.

@@ -3,16 +3,16 @@ ghost use Rattle.std.specs.Prelude.{◌≡◌, ◌++◌, IfOk, OnOk, drop};
 ghost use Rattle.sql_to_u.specs.TermLists.{item_factors_listed, scope_within, terms_of, value_terms_listed};
 ghost use Rattle.sql_to_u.specs.Translation.{scalar_term, value_term};
 
-use crate::aggregate::{counts_rows, number_of};
+use crate::aggregate::counts_rows;
 use crate::building::aggregate::counted_term;
-use crate::factors::{close, squash_if};
+use crate::factors::aggregate;
 use crate::naming::name_after;
 use crate::scope::{Group, Scope, first_at, key_of};
 use plain_data::List;
 use scope_core::items::Parts;
 use scope_core::{Items, NoMemory, RBlock, RVal, Resolved};
 use std::alloc::Global;
-use u_terms::{Boxed, U, Val};
+use u_terms::{U, Val};
 
 /// Appends the equalities of the items with the values of a row.
 #[cycle(build)]
@@ -98,9 +98,7 @@ pub fn value_term(
         RVal::Agg { fun, distinct, arg } => {
             let counting = counts_rows(*fun, *distinct);
             let body = counted_term(alloc, arg, counting, scope, next, views)?;
-            let body = squash_if(alloc, *distinct, body)?;
-            let body = close(body, next)?;
-            Ok(Val::Agg(number_of(*fun), Boxed::new(alloc, body)?))
+            aggregate(alloc, *fun, *distinct, body, next)
         }
         RVal::Sub { block } => scalar_term(alloc, block.get(), scope, next, views),
     }
