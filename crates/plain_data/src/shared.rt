@@ -4,7 +4,7 @@ use std::alloc::{AllocError, Global};
 use std::marker::Model;
 use std::rc::Rc;
 
-/// A value with several owners, which contracts see as that value.
+/// A value with several owners, which are counted. Contracts see it as that value.
 #[derive(Debug, Drop)]
 pub struct Shared<T> {
     inner: Rc<T>,

@@ -1,4 +1,4 @@
-//! Equal trees, in memory of their own but for what is shared.
+//! Equal trees, in memory of their own but for names and the left sides of `=` and of IN.
 //!
 //! A chain of operators is as deep as it is long, so the functions on the way down keep small frames: what needs room of its own is
 //! kept out of them by `inline(never)`.

@@ -92,7 +92,8 @@ pub enum Expr {
         query: Boxed<Query>,
         at: u32,
     },
-    /// `value IN (query)`. `in_at` is the place of its word `IN`.
+    /// `value IN (query)`. `in_at` is the place of its word `IN`. The value is shared, since it is made before the reader sees whether a
+    /// list follows.
     In {
         value: Shared<Expr>,
         query: Boxed<Query>,

@@ -73,6 +73,7 @@ fn condition_term(
         RCond::Exists { query } => exists_term(alloc, query.get(), scope, next, views),
         RCond::In { value, query } => {
             let value = value_term(alloc, value, scope, next, views)?;
+            // An error is handed on behind the value's end.
             let term = query_term(alloc, query.get(), scope, &[value], next, views);
             squash(alloc, term?)
         }
