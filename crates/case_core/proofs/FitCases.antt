@@ -19,7 +19,6 @@ use Rattle.sql_grammar.proofs.entries.EntryTexts.{few_spell}
 use Rattle.sql_grammar.proofs.entries.EverywhereQueries.{everywhere}
 use Rattle.sql_grammar.proofs.entries.EverywhereTrees.{block_has}
 use Rattle.sql_grammar.proofs.entries.Fits.{Fits, fit_both, fit_mapped}
-use Rattle.sql_read.specs.Cursor.{numbers_of}
 use Rattle.schema_read.specs.Builds.{Builds}
 use Rattle.schema_read.specs.Declarations.{declared_relation, no_table, relation_entry, table_named}
 use Rattle.schema_read.specs.Indexes.{column_item, index_query, shown_columns}
@@ -31,7 +30,6 @@ use Rattle.case_core.specs.declared.text.CaseText.{CaseText}
 use Rattle.case_core.specs.CaseGrammar as g
 use Rattle.case_core.specs.Cases.{SpellsCase, cases}
 use Rattle.case_core.specs.Fitting.{TextFits, TreesFitSymbols, ViewFits}
-use Rattle.case_core.specs.Answer.{HasSchema}
 
 -- ---- the text
 
@@ -86,10 +84,9 @@ module _ (count : ℕ) where
 
 -- ---- the trees, where resolving keeps what fits
 
-module _ {text : List ℕ} {written : CaseText} {schema : Schema} {symbols : Symbols} (h : HasSchema text written (numbers_of symbols) schema) where
+module _ {written : CaseText} {schema : Schema} {symbols : Symbols} (fit : TextFits (length symbols.lits.keys) written) (built : Builds written.statements schema) where
   pub trees_fit : {views : List RQuery} {left right : RQuery} → ((count : ℕ) → SchemaFits count schema → Each (TreeFits count) views)
       → ((count : ℕ) → QueryFits count written.left → TreeFits count left) → ((count : ℕ) → QueryFits count written.right → TreeFits count right) → TreesFitSymbols symbols views left right
   trees_fit v l r =
-      let fit = text_fits text written (numbers_of symbols) h.read.spells in
       let count = length symbols.lits.keys in
-      record { views_fit = v count (schema_fits count h.built fit.views); left_fits = l count fit.left; right_fits = r count fit.right }
+      record { views_fit = v count (schema_fits count built fit.views); left_fits = l count fit.left; right_fits = r count fit.right }

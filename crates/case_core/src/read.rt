@@ -1,14 +1,21 @@
 //! The whole way from a text to a case.
-ghost use Rattle.std.specs.Prelude.{◌≡◌, ◌≤◌, length, IfErr, IfOk, OnOk};
+ghost use Rattle.std.specs.Prelude.{◌≡◌, ◌≤◌, ℕ, List, length, IfErr, IfOk, OnOk};
+ghost use Rattle.data_model.specs.Lists.{Each};
+ghost use Rattle.sql_read.specs.Cursor.{numbers_of};
+ghost use Rattle.schema_read.specs.Declarations.{IsSmall};
+ghost use Rattle.schema_read.specs.StatementLimits.{most_relations};
 ghost use Rattle.scope_core.specs.Width.{width};
 ghost use Rattle.case_core.specs.Answer.{IsCase, IsRefused};
+ghost use Rattle.case_core.specs.Cases.{IsRead};
+ghost use Rattle.case_core.specs.Fitting.{TextFits};
 
 use crate::case::Case;
 use crate::facts::facts_of;
 use crate::fault::CaseFault;
-use crate::text::read_text;
+use crate::text::{CaseText, read_text};
 use schema_read::read_schema;
 use scope_core::{Resolved, resolve, resolve_views};
+use sql_model::Symbols;
 use std::alloc::Global;
 
 /// Reads a case. The first fault is told: of the text, then of the statements, then of the views and the two queries, and last that
@@ -19,6 +26,17 @@ pub fn read_case(alloc: Global, bytes: &[u8]) -> Result<Case, CaseFault>
     ensures refused { IfErr result (λ fault. IsRefused bytes.now fault) }
 {
     let (text, symbols) = read_text(alloc, bytes)?;
+    case_of(alloc, &text, symbols)
+}
+
+/// The case that these statements and queries make, with the numbers of their literals and called names.
+fn case_of(alloc: Global, text: &CaseText, symbols: Symbols) -> Result<Case, CaseFault>
+    requires few { length text.now.statements ≤ most_relations }
+    requires small { Each IsSmall text.now.statements }
+    requires fits { TextFits (length symbols.lits.keys) text.now }
+    ensures read { IfOk result (λ case. (bytes : List ℕ) → IsRead bytes text.now (numbers_of symbols) → IsCase bytes case) }
+    ensures refused { IfErr result (λ fault. (bytes : List ℕ) → IsRead bytes text.now (numbers_of symbols) → IsRefused bytes fault) }
+{
     let schema = read_schema(alloc, &text.statements)?;
     let views = resolve_views(alloc, &schema)?;
     let left = resolve(alloc, &schema, &views, &text.left)?;
