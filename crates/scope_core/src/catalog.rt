@@ -22,7 +22,7 @@ pub fn known_relations<'a>(alloc: Global, schema: &'a Schema) -> Result<Vec<Know
     let mut views = 0;
     for (name, relation) in schema.relations.iter() {
         let next = known_relation(alloc, name, relation, known.as_slice(), views)?;
-        known.push(next)?;
+        known.push_reserved(next);
         views += count_views(relation);
     }
     Ok(known)

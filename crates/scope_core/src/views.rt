@@ -110,11 +110,12 @@ fn add_relation<'a>(
             known.push(table)?;
         }
         Relation::View { query, at } => {
+            let place = trees.len();
             let tree = resolve_over(alloc, query, known.as_slice(), runs)?;
-            let view = known_view(alloc, name, query, known.as_slice(), trees.len())?;
+            trees.push(tree)?;
+            let view = known_view(alloc, name, query, known.as_slice(), place)?;
             check_names(&view.columns, *at)?;
             known.push(view)?;
-            trees.push(tree)?;
         }
     }
     Ok(())

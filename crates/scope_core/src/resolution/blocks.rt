@@ -1,12 +1,14 @@
 //! Blocks: their entries, conditions, groups and items.
-ghost use Rattle.std.specs.Prelude.{◌≡◌, ◌++◌, [], OnOk, IfOk, IfErr, None};
+ghost use Rattle.std.specs.Prelude.{◌≡◌, ◌++◌, [], OnOk, IfOk, IfErr, None, length, map};
 ghost use Rattle.sql_model.specs.Headings.{block_columns, source_columns};
 ghost use Rattle.scope_core.specs.Answer.{IsCause};
+ghost use Rattle.scope_core.specs.FirstFault.{fault_at};
 ghost use Rattle.scope_core.specs.Held.{columns_held};
 ghost use Rattle.scope_core.specs.Lent.{entries_headings, headings_of, levels_of, relations_of};
 ghost use Rattle.scope_core.specs.Parts.{block_fault, entries_fault, entries_listed, item_fault, items_fault, items_listed, on_fault, on_listed, source_fault};
 ghost use Rattle.scope_core.specs.Resolving.{resolved_block, resolved_item, resolved_source};
 ghost use Rattle.scope_core.specs.Scope.{no_entry};
+ghost use Rattle.scope_core.specs.Sites.{AnAlias};
 
 use super::Projected;
 use super::conditions::{add_written, resolve_having};
@@ -102,13 +104,12 @@ fn resolve_entries<'k, 'a>(
     let mut headings = Vec::with_capacity(alloc, entries.len())?;
     for entry in entries {
         let source = resolve_source(alloc, &entry.source, known, levels)?;
-        check_alias(&entry.alias, entry.at, headings.as_slice())?;
-        let width = number(source.columns.columns().len())?;
-        resolved.push(REntry {
+        let width = width_of_new(entry, &source.columns, headings.as_slice())?;
+        resolved.push_reserved(REntry {
             source: source.tree,
             width,
-        })?;
-        headings.push(Heading::new(&entry.alias, source.columns))?;
+        });
+        headings.push_reserved(Heading::new(&entry.alias, source.columns));
     }
     Ok(FromClause {
         entries: List::from_vec(resolved),
@@ -121,6 +122,17 @@ fn resolve_entries<'k, 'a>(
 struct FromSource<'k, 'a> {
     tree: RSource,
     columns: Held<'k, 'a>,
+}
+
+/// How many columns an entry has, whose name no entry before it may have.
+#[tactic(auto, using(crate::proofs::Columns::causes))]
+fn width_of_new(entry: &Entry, columns: &Held, before: &[Heading]) -> Result<u32, ScopeFault>
+    ensures fine { OnOk result (fault_at (AnAlias entry.now.alias (map (λ h. h.alias) before.now) entry.now.at) ≡ None) }
+    ensures value { IfOk result (λ width. width ≡ length (columns_held columns.now)) }
+    ensures err { IfErr result (λ f. IsCause f (fault_at (AnAlias entry.now.alias (map (λ h. h.alias) before.now) entry.now.at))) }
+{
+    check_alias(&entry.alias, entry.at, before)?;
+    number(columns.columns().len())
 }
 
 #[cycle(resolve)]

@@ -242,7 +242,7 @@ fn resolve_conditions<'k, 'a>(
     let mut before = None;
     for part in parts {
         let condition = resolve_alternative(alloc, part, &mut before, known, levels)?;
-        conditions.push(condition)?;
+        conditions.push_reserved(condition);
     }
     Ok(List::from_vec(conditions))
 }

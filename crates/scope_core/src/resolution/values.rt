@@ -82,11 +82,11 @@ pub fn resolve_values<'k, 'a>(
         match expr {
             Expr::Fun { sym, args, .. } => {
                 let args = resolve_values(alloc, args.as_slice(), known, levels)?;
-                values.push(RVal::Fun { sym: *sym, args })?;
+                values.push_reserved(RVal::Fun { sym: *sym, args });
             }
             other => {
                 let value = resolve_value(alloc, other, known, levels)?;
-                values.push(value)?;
+                values.push_reserved(value);
             }
         }
     }

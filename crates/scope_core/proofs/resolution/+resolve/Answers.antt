@@ -1,4 +1,4 @@
-use Rattle.std.proofs.Common.{rules, ◌≡◌, ◌++◌, ◌∷◌, ◌+◌, ◌≤◌, ℕ, suc, List, [], None, map, drop, take, length, refl, ap, sym, subst, arith, ◌∙◌}
+use Rattle.std.proofs.Common.{rules, ◌≡◌, ◌++◌, ◌∷◌, ◌+◌, ◌≤◌, ℕ, suc, List, [], None, map, drop, take, length, vec_capacity, vec_len, refl, ap, sym, subst, arith, ◌∙◌}
 use Rattle.std.specs.Option.{option_or}
 use Rattle.std.proofs.lemmas.List.{append_assoc, map-append, length-append}
 use Rattle.sql_model.specs.Headings.{item_columns, source_columns}
@@ -17,7 +17,7 @@ use Rattle.scope_core.proofs.Walks.{cause-first, cause-same, cause-second, fault
 use Rattle.scope_core.proofs.Values.{values-drop, values-past, trees-cons, trees-nil, operator-cause, operator-fine, operator-tree}
 use Rattle.scope_core.proofs.Conditions.{truths-drop, truths-past, conditions-cons, conditions-nil, conjuncts-cons, conjuncts-nil, conjuncts-single}
 use Rattle.scope_core.proofs.resolution.+resolve.Goals as goal
-use Rattle.scope_core.proofs.resolution.+resolve.Goals.{blocks::add_on_conditions-then-not-entry, blocks::add_on_conditions-else-not-entry, values::resolve_values-in-Fun+in_ok-args-in-Fun+in_ok-push-in-Fun, values::resolve_values-in_default+in_ok-value-in_default+in_ok-push-in_default}
+use Rattle.scope_core.proofs.resolution.+resolve.Goals.{blocks::add_on_conditions-then-not-entry, blocks::add_on_conditions-else-not-entry, values::resolve_values-in-Fun+in_ok-args-in-Fun, values::resolve_values-in_default+in_ok-value-in_default}
 
 pub values::resolve_values-returns-in_err-args-in-Fun-clause-err : goal.values::resolve_values-returns-in_err-args-in-Fun-clause-err
 values::resolve_values-returns-in_err-args-in-Fun-clause-err t c =
@@ -54,19 +54,23 @@ values::resolve_values-loop-expr-preserved t c =
     let before = c.loop-expr.values.items in
     let next = values-drop K L xs i x c.loop-expr-test.true c.expr-item.is in
     elim c.match-expr.branch [
-      | values::resolve_values-in-Fun+in_ok-args-in-Fun+in_ok-push-in-Fun w ↦
+      | values::resolve_values-in-Fun+in_ok-args-in-Fun w ↦
           let args = w.in_ok-args-in-Fun.ensures {u = tt} in (
             fault-step (values_fault K L) xs i _ x _ next (operator-fine K L w.in-Fun.is w.as_slice.ensures args.fine) c.loop-expr.invariant.0,
             walk-step (values_listed K L) xs i x _ _ (resolved_value x K L ∷ []) _ c.loop-expr-test.true c.expr-item.is (trees-cons K L x _)
-                (ap (λ v. v.items) w.values-is ∙ ((w.in_ok-push-in-Fun.ensures {u = tt}).items ∙ ap (λ p. before ++ p ∷ []) (operator-tree K L w.in-Fun.is w.as_slice.ensures args.value)))
+                (ap (λ v. v.items) w.values-is ∙ (w.push_reserved.ensures.items ∙ ap (λ p. before ++ p ∷ []) (operator-tree K L w.in-Fun.is w.as_slice.ensures args.value)))
                 c.loop-expr.invariant.1,
+            ap (λ v. vec_len v) w.values-is ∙ (w.push_reserved.ensures.len ∙ ap (λ n. n + 1) c.loop-expr.invariant.2),
+            subst (λ room. length xs ≤ room) (sym (ap (λ v. vec_capacity v) w.values-is ∙ w.push_reserved.ensures.capacity)) c.loop-expr.invariant.3,
           )
-      | values::resolve_values-in_default+in_ok-value-in_default+in_ok-push-in_default w ↦
+      | values::resolve_values-in_default+in_ok-value-in_default w ↦
           let value = w.in_ok-value-in_default.ensures {u = tt} in (
             fault-step (values_fault K L) xs i _ x _ next value.fine c.loop-expr.invariant.0,
             walk-step (values_listed K L) xs i x _ _ (resolved_value x K L ∷ []) _ c.loop-expr-test.true c.expr-item.is (trees-cons K L x _)
-                (ap (λ v. v.items) w.values-is ∙ ((w.in_ok-push-in_default.ensures {u = tt}).items ∙ ap (λ p. before ++ p ∷ []) value.value))
+                (ap (λ v. v.items) w.values-is ∙ (w.push_reserved-in_default.ensures.items ∙ ap (λ p. before ++ p ∷ []) value.value))
                 c.loop-expr.invariant.1,
+            ap (λ v. vec_len v) w.values-is ∙ (w.push_reserved-in_default.ensures.len ∙ ap (λ n. n + 1) c.loop-expr.invariant.2),
+            subst (λ room. length xs ≤ room) (sym (ap (λ v. vec_capacity v) w.values-is ∙ w.push_reserved-in_default.ensures.capacity)) c.loop-expr.invariant.3,
           )
     ]
 
@@ -105,9 +109,11 @@ conditions::resolve_conditions-loop-part-preserved t c =
     let next = truths-drop K L xs i c.part-item.result c.loop-part-test.true c.part-item.is in (
       fault-step (truths_fault K L) xs i _ c.part-item.result _ next c.in_ok-condition.ensures.fine c.loop-part.invariant.0,
       walk-step (conditions_listed K L) xs i c.part-item.result _ _ (conjunction (conjuncts c.part-item.result K L) ∷ []) _ c.loop-part-test.true c.part-item.is (conditions-cons K L c.part-item.result _)
-          (c.in_ok-push.ensures.items ∙ ap (λ p. c.loop-part.conditions.items ++ p ∷ []) c.in_ok-condition.ensures.value) c.loop-part.invariant.1,
+          (c.push_reserved.ensures.items ∙ ap (λ p. c.loop-part.conditions.items ++ p ∷ []) c.in_ok-condition.ensures.value) c.loop-part.invariant.1,
       c.in_ok-condition.ensures.before_fine,
       c.in_ok-condition.ensures.before_value,
+      c.push_reserved.ensures.len ∙ ap (λ n. n + 1) c.loop-part.invariant.4,
+      subst (λ room. length xs ≤ room) (sym c.push_reserved.ensures.capacity) c.loop-part.invariant.5,
     )
 
 pub conditions::resolve_conditions-returns-clause-fine : goal.conditions::resolve_conditions-returns-clause-fine
@@ -184,8 +190,8 @@ blocks::resolve_entries-returns-in_err-source-clause-err t c =
     handed_on c.from_residual-in_err-source.result c.in_err-source.field-0.0 (λ f. IsCause f (entries_fault K L [] xs)) c.from_residual-in_err-source.ensures.1
     (cause-first c.in_err-source.field-0.0 (entries_fault K L [] xs) _ _ (sym c.loop-entry.invariant.0 ∙ eq) c.in_err-source.ensures.err)
 
-pub blocks::resolve_entries-returns-in_err-check_alias-clause-err : goal.blocks::resolve_entries-returns-in_err-check_alias-clause-err
-blocks::resolve_entries-returns-in_err-check_alias-clause-err t c =
+pub blocks::resolve_entries-returns-in_err-width-clause-err : goal.blocks::resolve_entries-returns-in_err-width-clause-err
+blocks::resolve_entries-returns-in_err-width-clause-err t c =
     let K = relations_of c.args.known.now in
     let L = levels_of c.args.levels.now in
     let xs = c.args.entries.now in
@@ -193,11 +199,11 @@ blocks::resolve_entries-returns-in_err-check_alias-clause-err t c =
     let e = c.entry-item.result in
     let before = map (λ h. h.alias) c.loop-entry.headings.items in
     let eq = at-head (entries_fault K L before) xs i e c.loop-entry-test.true c.entry-item.is ∙ entries_fault-cons K L before e (drop (i + 1) xs) in
-    let f = c.in_err-check_alias.field-0.0 in
+    let f = c.in_err-width.field-0.0 in
     let P : List TheHeading → Type 0 = λ hs. IsCause f (fault_at (AnAlias e.alias (map (λ h. h.alias) hs) e.at)) in
-    handed_on c.from_residual-in_err-check_alias.result f (λ g. IsCause g (entries_fault K L [] xs)) c.from_residual-in_err-check_alias.ensures.1
+    handed_on c.from_residual-in_err-width.result f (λ g. IsCause g (entries_fault K L [] xs)) c.from_residual-in_err-width.ensures.1
     (cause-second f (entries_fault K L [] xs) _ _ (sym c.loop-entry.invariant.0 ∙ eq) c.in_ok-source.ensures.fine
-    (cause-first f _ _ _ refl (subst P c.as_slice.ensures.value c.in_err-check_alias.ensures.err)))
+    (cause-first f _ _ _ refl (subst P c.as_slice.ensures.value c.in_err-width.ensures.err)))
 
 pub blocks::resolve_entries-loop-entry-preserved : goal.blocks::resolve_entries-loop-entry-preserved
 blocks::resolve_entries-loop-entry-preserved t c =
@@ -213,22 +219,26 @@ blocks::resolve_entries-loop-entry-preserved t c =
     let relations = headings_of c.args.known.now in
     let rest = entries_fault K L (before ++ e.alias ∷ []) (drop (i + 1) xs) in
     let P : List TheHeading → Type 0 = λ hs. fault_at (AnAlias e.alias (map (λ h. h.alias) hs) e.at) ≡ None in
-    let alias_is_new = subst P c.as_slice.ensures.value c.in_ok-check_alias.ensures.fine in
-    let aliases = ap (λ hs. map (λ h. h.alias) hs) (c.in_ok-push-2.ensures.items ∙ ap (λ h. hs ++ h ∷ []) c.new.ensures) ∙ map-append (λ h. h.alias) hs _ in
+    let alias_is_new = subst P c.as_slice.ensures.value c.in_ok-width.ensures.fine in
+    let aliases = ap (λ hs. map (λ h. h.alias) hs) (c.push_reserved-in-loop-entry.ensures.items ∙ ap (λ h. hs ++ h ∷ []) c.new.ensures) ∙ map-append (λ h. h.alias) hs _ in
     let wide : c.in_ok-width.width ≡ length (source_columns e.source relations) =
-    c.in_ok-width.ensures.fits ∙ (c.len.ensures ∙ ap (λ cs. length cs) (c.columns.ensures ∙ c.in_ok-source.ensures.columns)) in (
+    c.in_ok-width.ensures.value ∙ ap (λ cs. length cs) c.in_ok-source.ensures.columns in (
       ap (λ names. entries_fault K L names (drop (i + 1) xs)) aliases
           ∙ (sym (eq ∙ (ap (λ o. option_or o (option_or (fault_at (AnAlias e.alias before e.at)) rest)) c.in_ok-source.ensures.fine ∙ ap (λ o. option_or o rest) alias_is_new))
           ∙ c.loop-entry.invariant.0),
       walk-step (entries_listed K L) xs i e _ _ (entry_of (resolved_source e.source K L, length (source_columns e.source relations)) ∷ []) _
           c.loop-entry-test.true c.entry-item.is (entries_listed-cons K L e _)
-          (c.in_ok-push.ensures.items
+          (c.push_reserved.ensures.items
           ∙ (ap (λ s. made ++ entry_of (s, c.in_ok-width.width) ∷ []) c.in_ok-source.ensures.value
           ∙ ap (λ w. made ++ entry_of (resolved_source e.source K L, w) ∷ []) wide)) c.loop-entry.invariant.1,
       walk-step (λ es. entries_headings es relations) xs i e _ _ (record { alias = e.alias; columns = source_columns e.source relations } ∷ []) _
           c.loop-entry-test.true c.entry-item.is (entries_headings-cons e _ relations)
-          (c.in_ok-push-2.ensures.items
+          (c.push_reserved-in-loop-entry.ensures.items
           ∙ ap (λ h. hs ++ h ∷ []) (c.new.ensures ∙ ap (λ cs. record { alias = e.alias; columns = cs }) c.in_ok-source.ensures.columns)) c.loop-entry.invariant.2,
+      c.push_reserved.ensures.len ∙ ap (λ n. n + 1) c.loop-entry.invariant.3,
+      c.push_reserved-in-loop-entry.ensures.len ∙ ap (λ n. n + 1) c.loop-entry.invariant.4,
+      subst (λ room. length xs ≤ room) (sym c.push_reserved.ensures.capacity) c.loop-entry.invariant.5,
+      subst (λ room. length xs ≤ room) (sym c.push_reserved-in-loop-entry.ensures.capacity) c.loop-entry.invariant.6,
     )
 
 pub blocks::resolve_entries-returns-clause-fine : goal.blocks::resolve_entries-returns-clause-fine

@@ -1,4 +1,4 @@
-use Rattle.std.proofs.Common.{◌≡◌, ◌++◌, ◌≤◌, [], None, drop, take, length, map}
+use Rattle.std.proofs.Common.{◌≡◌, ◌++◌, ◌≤◌, [], None, drop, take, length, map, vec_capacity, vec_len}
 use Rattle.std.specs.Prelude.{IfSome}
 use Rattle.scope_core.specs.Lent.{entries_headings, headings_of, levels_of, relations_of}
 use Rattle.scope_core.specs.Parts.{conditions_listed, conjuncts_listed, entries_fault, entries_listed, items_fault, items_listed, on_fault, on_listed, truths_fault, value_fault, values_fault, values_listed}
@@ -10,6 +10,7 @@ abbrev pub invariant-values::resolve_values-loop-expr : goal.invariant-values::r
 invariant-values::resolve_values-loop-expr l =
     (values_fault (relations_of l.known) (levels_of l.levels) (drop l.expr-index l.exprs) ≡ values_fault (relations_of l.known) (levels_of l.levels) l.exprs)
     × (l.values.items ++ values_listed (relations_of l.known) (levels_of l.levels) (drop l.expr-index l.exprs) ≡ values_listed (relations_of l.known) (levels_of l.levels) l.exprs)
+    × (vec_len l.values ≡ l.expr-index) × (length l.exprs ≤ vec_capacity l.values)
 
 abbrev pub invariant-conditions::resolve_conditions-loop-part : goal.invariant-conditions::resolve_conditions-loop-part
 invariant-conditions::resolve_conditions-loop-part l =
@@ -17,6 +18,7 @@ invariant-conditions::resolve_conditions-loop-part l =
     × (l.conditions.items ++ conditions_listed (relations_of l.known) (levels_of l.levels) (drop l.part-index l.parts) ≡ conditions_listed (relations_of l.known) (levels_of l.levels) l.parts)
     × IfSome l.before (λ o. value_fault (relations_of l.known) (levels_of l.levels) o.expr ≡ None)
     × IfSome l.before (λ o. o.value ≡ resolved_value o.expr (relations_of l.known) (levels_of l.levels))
+    × (vec_len l.conditions ≡ l.part-index) × (length l.parts ≤ vec_capacity l.conditions)
 
 abbrev pub invariant-conditions::add_conjuncts_of_each-loop-part : goal.invariant-conditions::add_conjuncts_of_each-loop-part
 invariant-conditions::add_conjuncts_of_each-loop-part l =
@@ -28,6 +30,8 @@ invariant-blocks::resolve_entries-loop-entry l =
     (entries_fault (relations_of l.known) (levels_of l.levels) (map (λ h. h.alias) l.headings.items) (drop l.entry-index l.entries) ≡ entries_fault (relations_of l.known) (levels_of l.levels) [] l.entries)
     × (l.resolved.items ++ entries_listed (relations_of l.known) (levels_of l.levels) (drop l.entry-index l.entries) ≡ entries_listed (relations_of l.known) (levels_of l.levels) l.entries)
     × (l.headings.items ++ entries_headings (drop l.entry-index l.entries) (headings_of l.known) ≡ entries_headings l.entries (headings_of l.known))
+    × (vec_len l.resolved ≡ l.entry-index) × (vec_len l.headings ≡ l.entry-index)
+    × (length l.entries ≤ vec_capacity l.resolved) × (length l.entries ≤ vec_capacity l.headings)
 
 abbrev pub invariant-blocks::add_on_conditions-loop-index : goal.invariant-blocks::add_on_conditions-loop-index
 invariant-blocks::add_on_conditions-loop-index l =

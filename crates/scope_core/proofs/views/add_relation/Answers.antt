@@ -28,10 +28,10 @@ returns-in_err-check_names-in-View-clause-err c =
     let name = c.args.name.now in
     let query = c.in-View.query in
     let at = c.in-View.at in
-    let counted : c.len.result ≡ length trees = c.len.ensures ∙ grind (arith, c.args.trees.now.ok) in
+    let counted : c.len-place.result ≡ length trees = c.len-place.ensures ∙ grind (arith, c.args.trees.now.ok) in
     let view : relation_of c.in_ok-view-in-View.view ≡ known_relation K (length trees) name (relation.View query at) =
     c.in_ok-view-in-View.ensures.value at
-    ∙ (ap (λ ks. known_relation (relations_of ks) c.len.result name (relation.View query at)) c.as_slice-in-View.ensures.value
+    ∙ (ap (λ ks. known_relation (relations_of ks) c.len-place.result name (relation.View query at)) c.as_slice-in-View.ensures.value
     ∙ ap (λ views. known_relation K views name (relation.View query at)) counted) in
     let columns : c.in_ok-view-in-View.view.columns ≡ output_columns query (map heading K) = ap (λ k. k.columns) view in
     let fine : fault_within K [] query ≡ None =
@@ -49,10 +49,10 @@ returns-in_ok-push-in-View-2-clause-fine c =
     let name = c.args.name.now in
     let query = c.in-View.query in
     let at = c.in-View.at in
-    let counted : c.len.result ≡ length trees = c.len.ensures ∙ grind (arith, c.args.trees.now.ok) in
+    let counted : c.len-place.result ≡ length trees = c.len-place.ensures ∙ grind (arith, c.args.trees.now.ok) in
     let view : relation_of c.in_ok-view-in-View.view ≡ known_relation K (length trees) name (relation.View query at) =
     c.in_ok-view-in-View.ensures.value at
-    ∙ (ap (λ ks. known_relation (relations_of ks) c.len.result name (relation.View query at)) c.as_slice-in-View.ensures.value
+    ∙ (ap (λ ks. known_relation (relations_of ks) c.len-place.result name (relation.View query at)) c.as_slice-in-View.ensures.value
     ∙ ap (λ views. known_relation K views name (relation.View query at)) counted) in
     let columns : c.in_ok-view-in-View.view.columns ≡ output_columns query (map heading K) = ap (λ k. k.columns) view in
     let fine : fault_within K [] query ≡ None =
@@ -66,14 +66,14 @@ returns-in_ok-push-in-View-2-clause-known c =
     let name = c.args.name.now in
     let query = c.in-View.query in
     let at = c.in-View.at in
-    let counted : c.len.result ≡ length trees = c.len.ensures ∙ grind (arith, c.args.trees.now.ok) in
+    let counted : c.len-place.result ≡ length trees = c.len-place.ensures ∙ grind (arith, c.args.trees.now.ok) in
     let view : relation_of c.in_ok-view-in-View.view ≡ known_relation K (length trees) name (relation.View query at) =
     c.in_ok-view-in-View.ensures.value at
-    ∙ (ap (λ ks. known_relation (relations_of ks) c.len.result name (relation.View query at)) c.as_slice-in-View.ensures.value
+    ∙ (ap (λ ks. known_relation (relations_of ks) c.len-place.result name (relation.View query at)) c.as_slice-in-View.ensures.value
     ∙ ap (λ views. known_relation K views name (relation.View query at)) counted) in
     let columns : c.in_ok-view-in-View.view.columns ≡ output_columns query (map heading K) = ap (λ k. k.columns) view in
     let fine : fault_within K [] query ≡ None =
     ap (λ ks. fault_within (relations_of ks) [] query) (sym c.as_slice.ensures.value) ∙ c.in_ok-tree-in-View.ensures.fine in
-    ap (λ ks. relations_of ks) c.in_ok-push-in-View.ensures.items
+    ap (λ ks. relations_of ks) c.in_ok-push-in-View-2.ensures.items
     ∙ (map-append relation_of c.args.known.now.items _
     ∙ ap (λ k. K ++ k ∷ []) (view ∙ ap (λ r. known_relation K (length trees) name r) (sym c.in-View.is)))
