@@ -1,4 +1,4 @@
-use Rattle.std.proofs.Common.{◌≡◌, ◌∷◌, ◌++◌, [], None, length, map, ap, sym, ◌∙◌, arith}
+use Rattle.std.proofs.Common.{◌≡◌, ◌∷◌, ◌++◌, [], None, length, map, ap, sym, subst, ◌∙◌, arith}
 use Rattle.std.proofs.lemmas.List.{map-append}
 use Rattle.sql_model.specs.Headings.{output_columns}
 use Rattle.sql_model.specs.declared.schema.Relation.TheVariants as relation
@@ -7,8 +7,11 @@ use Rattle.scope_core.specs.FirstFault.{relation_fault}
 use Rattle.scope_core.specs.Lent.{relation_of, relations_of}
 use Rattle.scope_core.specs.Parts.{fault_within}
 use Rattle.scope_core.specs.Relations.{known_relation}
+use Rattle.scope_core.specs.Resolving.{resolved}
 use Rattle.scope_core.specs.Scope.{heading}
-use Rattle.scope_core.proofs.Schemas.{names-cause, view-fine}
+use Rattle.scope_core.specs.ViewTrees.{trees_with}
+use Rattle.scope_core.proofs.Columns.{cause-memory}
+use Rattle.scope_core.proofs.Schemas.{names-cause, view-cause, view-fine}
 use Rattle.scope_core.proofs.Walks.{cause-same, handed_on}
 use Rattle.scope_core.proofs.views.add_relation.Goals as goal
 
@@ -77,3 +80,36 @@ returns-in_ok-push-in-View-2-clause-known c =
     ap (λ ks. relations_of ks) c.in_ok-push-in-View-2.ensures.items
     ∙ (map-append relation_of c.args.known.now.items _
     ∙ ap (λ k. K ++ k ∷ []) (view ∙ ap (λ r. known_relation K (length trees) name r) (sym c.in-View.is)))
+
+pub returns-in_ok-push-in-View-2-clause-trees : goal.returns-in_ok-push-in-View-2-clause-trees
+returns-in_ok-push-in-View-2-clause-trees c =
+    let K = relations_of c.args.known.now.items in
+    let trees = c.args.trees.now.items in
+    let query = c.in-View.query in
+    c.in_ok-push-in-View.ensures.items
+    ∙ (ap (λ tree. trees ++ tree ∷ []) (c.in_ok-tree-in-View.ensures.value ∙ ap (λ ks. resolved query (relations_of ks) []) c.as_slice.ensures.value)
+    ∙ ap (λ r. trees_with K trees r) (sym c.in-View.is))
+
+pub returns-in_err-tree-in-View-clause-err : goal.returns-in_err-tree-in-View-clause-err
+returns-in_err-tree-in-View-clause-err c =
+    let K = relations_of c.args.known.now.items in
+    let query = c.in-View.query in
+    let f = c.in_err-tree-in-View.field-0.0 in
+    handed_on c.from_residual-in_err-tree-in-View.result f (λ g. IsCause g (relation_fault K c.args.relation.now)) c.from_residual-in_err-tree-in-View.ensures.1
+    (cause-same f _ _ (ap (λ r. relation_fault K r) c.in-View.is)
+    (view-cause K query c.in-View.at f (subst (λ ks. IsCause f (fault_within (relations_of ks) [] query)) c.as_slice.ensures.value c.in_err-tree-in-View.ensures.err)))
+
+pub returns-in_err-table-in-Table-clause-err : goal.returns-in_err-table-in-Table-clause-err
+returns-in_err-table-in-Table-clause-err c = grind (arith, cause-memory)
+
+pub returns-in_err-push-in-Table-clause-err : goal.returns-in_err-push-in-Table-clause-err
+returns-in_err-push-in-Table-clause-err c = grind (arith, cause-memory)
+
+pub returns-in_err-push-in-View-clause-err : goal.returns-in_err-push-in-View-clause-err
+returns-in_err-push-in-View-clause-err c = grind (arith, cause-memory)
+
+pub returns-in_err-view-in-View-clause-err : goal.returns-in_err-view-in-View-clause-err
+returns-in_err-view-in-View-clause-err c = grind (arith, cause-memory)
+
+pub returns-in_err-push-in-View-2-clause-err : goal.returns-in_err-push-in-View-2-clause-err
+returns-in_err-push-in-View-2-clause-err c = grind (arith, cause-memory)
