@@ -13,6 +13,7 @@ use crate::following::{Followed, Front};
 use crate::gaining::equality;
 use crate::hops::Hop;
 use crate::spine::then_behind;
+use std::alloc::Global;
 use u_moves::Deriv;
 use u_terms::{Boxed, U, Val};
 
@@ -26,8 +27,7 @@ impl<'f, 'p, 'a> Front<'f, 'p, 'a> {
         ensures { IfOk result (IsGained (terms self.now.factors.now) a.now hops.now first.entry) }
     {
         let begun = self.begun(first, a)?;
-        let alloc = self.moves.alloc;
-        let last = Boxed::new(alloc, equality(alloc, a, a)?)?;
+        let last = with_itself(self.moves.alloc, a)?;
         self.led(begun, last, hops)
     }
 
@@ -53,4 +53,12 @@ impl<'f, 'p, 'a> Front<'f, 'p, 'a> {
         let end = self.follow(at, hops)?;
         Ok(end.deriv)
     }
+}
+
+// The equality of a value with itself.
+fn with_itself(alloc: Global, a: &Val) -> Result<Boxed<U>, NoMemory>
+    ensures { IfOk result (λ u. u ≡ (a.now ≐ a.now)) }
+{
+    let equality = equality(alloc, a, a)?;
+    Boxed::new(alloc, equality)
 }

@@ -43,18 +43,21 @@ pub fn then_behind<'f>(
     requires stands { first.to ≡ spec.spine (terms front.now) part.from }
     ensures { IfOk result (IsMadeBehind (terms front.now) first.entry part.entry) }
 {
-    let path = behind(alloc, front.len())?;
+    let path = behind(alloc, front.len());
     first.then_under(alloc, &path, part)
 }
 
-// The path to what stands behind so many factors.
-fn behind(alloc: Global, count: usize) -> Result<Path, NoMemory>
+// The path to what stands behind so many factors. One run takes no memory.
+fn behind(alloc: Global, count: usize) -> Path
     requires { count < 2 ^ 32 }
-    ensures { IfOk result (λ path. turns path ≡ replicate count turn.Right) }
+    ensures { turns result ≡ replicate count turn.Right }
 {
     let mut path = Path::new(alloc);
     if count > 0 {
-        path.push(Run::Right(count as u32))?;
+        match path.push(Run::Right(count as u32)) {
+            Ok(()) => {}
+            Err(_) => unreachable!(),
+        }
     }
-    Ok(path)
+    path
 }
