@@ -219,7 +219,7 @@ impl<'f> Deriv<'f> {
         requires part { IsPart self.outs path.now self.to other.outs other.from }
         ensures { IfOk result (IsMadeIn path.now self.entry other.entry) }
     {
-        let bounds = self.bounds_in(path, &other)?;
+        let bounds = self.bounds_in(path, &other);
         self.made_in(alloc, path, other, bounds)
     }
 
@@ -240,18 +240,19 @@ impl<'f> Deriv<'f> {
         })
     }
 
+    // The bounds are asked for once both derivations are taken apart: an error drops less then.
     fn made_in(
         self,
         alloc: Global,
         path: &Path,
         other: Deriv<'f>,
-        bounds: Bounds,
+        bounds: Result<Bounds, NoMemory>,
     ) -> Result<Deriv<'f>, NoMemory>
         requires facts { self.facts ≡ other.facts }
         requires part { IsPart self.outs path.now self.to other.outs other.from }
-        requires nodes { bounds.nodes ≡ max self.nodes (nodes_of self.to + other.nodes - nodes_of other.from) }
-        requires depth { bounds.depth ≡ max self.depth (length (turns path.now) + other.depth) }
-        requires room { self.outs + bounds.depth < 2 ^ 32 }
+        requires nodes { IfOk bounds (λ bounds. bounds.nodes ≡ max self.nodes (nodes_of self.to + other.nodes - nodes_of other.from)) }
+        requires depth { IfOk bounds (λ bounds. bounds.depth ≡ max self.depth (length (turns path.now) + other.depth)) }
+        requires room { IfOk bounds (λ bounds. self.outs + bounds.depth < 2 ^ 32) }
         ensures { IfOk result (IsMadeIn path.now self.entry other.entry) }
     {
         let Deriv {
@@ -272,6 +273,7 @@ impl<'f> Deriv<'f> {
             nodes: _,
             depth: _,
         } = other;
+        let bounds = bounds?;
         let to = replaced(to, outs, path, part, new_part)?;
         let steps = lifted_after(alloc, path, steps, more)?;
         Ok(Deriv {

@@ -1,3 +1,4 @@
+use Rattle.std.proofs.lemmas.Result.{IfOk-at_ok}
 use Rattle.u_moves.specs.Derivations.{Derivation}
 use Rattle.u_moves.proofs.Made.{Given, shallow-inside, room-inside, stands-inside, made-whole, made-shown}
 use Rattle.u_moves.proofs.deriv.Deriv.made_in.Goals as goal
@@ -22,14 +23,14 @@ replaced-requires-clause-shallow c =
       nodes = c.other.inside.nodes;
       depth = c.other.inside.depth;
     } in
-    let given : Given c.args.path.now c.args.bounds.nodes c.args.bounds.depth c.args.self c.args.other = record {
+    let given : Given c.args.path.now c.in_ok-bounds.bounds.nodes c.in_ok-bounds.bounds.depth c.args.self c.args.other = record {
       facts = c.requires.facts;
       part = c.requires.part;
-      nodes = c.requires.nodes;
-      depth = c.requires.depth;
-      room = c.requires.room;
+      nodes = IfOk-at_ok _ (c.in_ok-bounds.was {u = tt}) c.requires.nodes;
+      depth = IfOk-at_ok _ (c.in_ok-bounds.was {u = tt}) c.requires.depth;
+      room = IfOk-at_ok _ (c.in_ok-bounds.was {u = tt}) c.requires.room;
     } in
-    shallow-inside c.args.path.now c.args.bounds.nodes c.args.bounds.depth d e c.args.self c.args.other c.self.view_is c.other.view_is given c.self.invariant c.other.invariant
+    shallow-inside c.args.path.now c.in_ok-bounds.bounds.nodes c.in_ok-bounds.bounds.depth d e c.args.self c.args.other c.self.view_is c.other.view_is given c.self.invariant c.other.invariant
 
 pub replaced-requires-clause-room : goal.replaced-requires-clause-room
 replaced-requires-clause-room c =
@@ -51,14 +52,14 @@ replaced-requires-clause-room c =
       nodes = c.other.inside.nodes;
       depth = c.other.inside.depth;
     } in
-    let given : Given c.args.path.now c.args.bounds.nodes c.args.bounds.depth c.args.self c.args.other = record {
+    let given : Given c.args.path.now c.in_ok-bounds.bounds.nodes c.in_ok-bounds.bounds.depth c.args.self c.args.other = record {
       facts = c.requires.facts;
       part = c.requires.part;
-      nodes = c.requires.nodes;
-      depth = c.requires.depth;
-      room = c.requires.room;
+      nodes = IfOk-at_ok _ (c.in_ok-bounds.was {u = tt}) c.requires.nodes;
+      depth = IfOk-at_ok _ (c.in_ok-bounds.was {u = tt}) c.requires.depth;
+      room = IfOk-at_ok _ (c.in_ok-bounds.was {u = tt}) c.requires.room;
     } in
-    room-inside c.args.path.now c.args.bounds.nodes c.args.bounds.depth d e c.args.self c.args.other c.self.view_is c.other.view_is given c.self.invariant c.other.invariant
+    room-inside c.args.path.now c.in_ok-bounds.bounds.nodes c.in_ok-bounds.bounds.depth d e c.args.self c.args.other c.self.view_is c.other.view_is given c.self.invariant c.other.invariant
 
 pub replaced-requires-clause-stands : goal.replaced-requires-clause-stands
 replaced-requires-clause-stands c =
@@ -80,14 +81,14 @@ replaced-requires-clause-stands c =
       nodes = c.other.inside.nodes;
       depth = c.other.inside.depth;
     } in
-    let given : Given c.args.path.now c.args.bounds.nodes c.args.bounds.depth c.args.self c.args.other = record {
+    let given : Given c.args.path.now c.in_ok-bounds.bounds.nodes c.in_ok-bounds.bounds.depth c.args.self c.args.other = record {
       facts = c.requires.facts;
       part = c.requires.part;
-      nodes = c.requires.nodes;
-      depth = c.requires.depth;
-      room = c.requires.room;
+      nodes = IfOk-at_ok _ (c.in_ok-bounds.was {u = tt}) c.requires.nodes;
+      depth = IfOk-at_ok _ (c.in_ok-bounds.was {u = tt}) c.requires.depth;
+      room = IfOk-at_ok _ (c.in_ok-bounds.was {u = tt}) c.requires.room;
     } in
-    stands-inside c.args.path.now c.args.bounds.nodes c.args.bounds.depth d e c.args.self c.args.other c.self.view_is c.other.view_is given c.self.invariant c.other.invariant
+    stands-inside c.args.path.now c.in_ok-bounds.bounds.nodes c.in_ok-bounds.bounds.depth d e c.args.self c.args.other c.self.view_is c.other.view_is given c.self.invariant c.other.invariant
 
 pub invariant_of-result : goal.invariant_of-result
 invariant_of-result c =
@@ -109,14 +110,14 @@ invariant_of-result c =
       nodes = c.other.inside.nodes;
       depth = c.other.inside.depth;
     } in
-    let given : Given c.args.path.now c.args.bounds.nodes c.args.bounds.depth c.args.self c.args.other = record {
+    let given : Given c.args.path.now c.in_ok-bounds.bounds.nodes c.in_ok-bounds.bounds.depth c.args.self c.args.other = record {
       facts = c.requires.facts;
       part = c.requires.part;
-      nodes = c.requires.nodes;
-      depth = c.requires.depth;
-      room = c.requires.room;
+      nodes = IfOk-at_ok _ (c.in_ok-bounds.was {u = tt}) c.requires.nodes;
+      depth = IfOk-at_ok _ (c.in_ok-bounds.was {u = tt}) c.requires.depth;
+      room = IfOk-at_ok _ (c.in_ok-bounds.was {u = tt}) c.requires.room;
     } in
-    made-whole c.args.path.now c.args.bounds.nodes c.args.bounds.depth d e c.args.self c.args.other c.self.view_is c.other.view_is given c.self.invariant c.other.invariant c.in_ok-to.to c.in_ok-steps.steps (c.in_ok-to.ensures {u = tt}) (c.in_ok-steps.ensures {u = tt})
+    made-whole c.args.path.now c.in_ok-bounds.bounds.nodes c.in_ok-bounds.bounds.depth d e c.args.self c.args.other c.self.view_is c.other.view_is given c.self.invariant c.other.invariant c.in_ok-to.to c.in_ok-steps.steps (c.in_ok-to.ensures {u = tt}) (c.in_ok-steps.ensures {u = tt})
 
 pub returns : goal.returns
 returns c =
@@ -138,11 +139,11 @@ returns c =
       nodes = c.other.inside.nodes;
       depth = c.other.inside.depth;
     } in
-    let given : Given c.args.path.now c.args.bounds.nodes c.args.bounds.depth c.args.self c.args.other = record {
+    let given : Given c.args.path.now c.in_ok-bounds.bounds.nodes c.in_ok-bounds.bounds.depth c.args.self c.args.other = record {
       facts = c.requires.facts;
       part = c.requires.part;
-      nodes = c.requires.nodes;
-      depth = c.requires.depth;
-      room = c.requires.room;
+      nodes = IfOk-at_ok _ (c.in_ok-bounds.was {u = tt}) c.requires.nodes;
+      depth = IfOk-at_ok _ (c.in_ok-bounds.was {u = tt}) c.requires.depth;
+      room = IfOk-at_ok _ (c.in_ok-bounds.was {u = tt}) c.requires.room;
     } in
-    made-shown c.args.path.now c.args.bounds.nodes c.args.bounds.depth d e c.args.self c.args.other c.self.view_is c.other.view_is given c.self.invariant c.other.invariant c.in_ok-to.to c.in_ok-steps.steps (c.in_ok-to.ensures {u = tt}) (c.in_ok-steps.ensures {u = tt})
+    made-shown c.args.path.now c.in_ok-bounds.bounds.nodes c.in_ok-bounds.bounds.depth d e c.args.self c.args.other c.self.view_is c.other.view_is given c.self.invariant c.other.invariant c.in_ok-to.to c.in_ok-steps.steps (c.in_ok-to.ensures {u = tt}) (c.in_ok-steps.ensures {u = tt})
