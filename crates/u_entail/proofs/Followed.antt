@@ -2,7 +2,6 @@
 use Rattle.std.proofs.Common.{◌≡◌, ℕ, ◌<◌, Bool, true, false, List, [], ◌∷◌, length, take, refl, ap, sym, ◌∙◌, subst, arith}
 use Rattle.std.proofs.lemmas.Option.{slice_get_within}
 use Rattle.u_terms.specs.Syntax.{U, Val}
-use Rattle.u_terms.specs.Places.{IsClosed}
 use Rattle.u_terms.specs.declared.term.Val.TheVariants as v
 use Rattle.u_terms.specs.declared.facts.Facts.{Facts}
 use Rattle.u_terms.specs.Size.{nodes, depth}
@@ -141,12 +140,6 @@ module _ (facts : Facts) (outs : ℕ) (factors : List U) (ready : AreFactors out
 
   pub part-facts : at.deriv.facts ≡ part.facts
   part-facts = let e = ex in stands.facts ∙ sym e.facts
-
-  pub part-outs : at.deriv.outs ≡ part.outs
-  part-outs = let e = ex in stands.outs ∙ sym e.outs
-
-  pub part-closed : IsClosed 0 part.from
-  part-closed = let e = ex in e.closed_from
 
   begins-there : spine factors at.last ≡ spine front part.from
   begins-there = let e = ex in e.from ∙ ap (λ (xs : List U). spine xs part.from) (sym front_is)

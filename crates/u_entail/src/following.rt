@@ -27,6 +27,13 @@ pub struct Followed<'f> {
     pub last: Boxed<U>,
 }
 
+/// One hop: its step, in what stands behind the factors before its equality, and the last factor that it leads to.
+#[derive(Drop)]
+struct Crossing<'f> {
+    part: Deriv<'f>,
+    landed: Boxed<U>,
+}
+
 impl<'f, 'p, 'a> Front<'f, 'p, 'a> {
     /// Follows the hops.
     pub fn follow(&self, at: Followed<'f>, hops: &[Hop]) -> Result<Followed<'f>, NoMemory>
@@ -51,11 +58,26 @@ impl<'f, 'p, 'a> Front<'f, 'p, 'a> {
         ensures followed { IfOk result (IsFollowed (terms self.now.factors.now) (hop.now ∷ []) at.entry) }
     {
         let Followed { deriv, last } = at;
-        let part = self.crossed(last.get(), hop)?;
+        let Crossing { part, landed } = self.crossing(last.get(), hop)?;
         let front = &self.factors[..hop.factor as usize];
         let deriv = then_behind(self.moves.alloc, deriv, front, part)?;
-        let last = self.landed(last.get(), hop)?;
-        Ok(Followed { deriv, last })
+        Ok(Followed {
+            deriv,
+            last: landed,
+        })
+    }
+
+    // The step of the hop, and the last factor that it leads to.
+    fn crossing(&self, last: &U, hop: &Hop) -> Result<Crossing<'f>, NoMemory>
+        requires factors { AreFactors self.now.moves.outs (terms self.now.factors.now) }
+        requires known { IsKnown 0 self.now.moves.outs last.now }
+        requires leads { (to : U) × HopLeads (terms self.now.factors.now) last.now hop.now to }
+        ensures crosses { IfOk result (λ c. Crosses self.now.moves.facts.now self.now.moves.outs (terms self.now.factors.now) last.now hop.now c.part) }
+        ensures lands { IfOk result (λ c. LandsAt (terms self.now.factors.now) last.now hop.now c.landed) }
+    {
+        let landed = self.landed(last, hop)?;
+        let part = self.crossed(last, hop)?;
+        Ok(Crossing { part, landed })
     }
 
     // The step of the hop, in what stands behind the factors before its equality.
