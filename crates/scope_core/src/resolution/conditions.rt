@@ -197,11 +197,11 @@ fn resolve_operand<'k, 'a>(
     })
 }
 
-/// A part of an OR. `before` is the left side of the last equality before it, and then that of its own.
+/// A disjunct. `before` is the left side of the last equality among those before it, and afterwards its own where it is one.
 #[cycle(resolve)]
 #[inline(never)]
 #[tactic(auto, using(crate::proofs::Conditions::laws))]
-fn resolve_alternative<'k, 'a>(
+fn resolve_disjunct<'k, 'a>(
     alloc: Global,
     part: &'a Expr,
     before: &mut Option<Operand>,
@@ -241,7 +241,7 @@ fn resolve_conditions<'k, 'a>(
     let mut conditions = Vec::with_capacity(alloc, parts.len())?;
     let mut before = None;
     for part in parts {
-        let condition = resolve_alternative(alloc, part, &mut before, known, levels)?;
+        let condition = resolve_disjunct(alloc, part, &mut before, known, levels)?;
         conditions.push_reserved(condition);
     }
     Ok(List::from_vec(conditions))
