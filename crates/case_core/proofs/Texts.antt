@@ -10,6 +10,7 @@ use Rattle.sql_grammar.specs.Numbering.{Numbers, first_numbers}
 use Rattle.sql_grammar.specs.QueryCopies.{most_copies}
 use Rattle.sql_read.proofs.code.Cursors.{no_more_tokens}
 use Rattle.schema_read.specs.Declarations.{IsSmall}
+use Rattle.schema_read.specs.StatementLimits.{most_relations}
 use Rattle.case_core.specs.declared.fault.CaseFault.{CaseFault}
 use Rattle.case_core.specs.declared.fault.CaseFault.TheVariants.{Read, NotTwoQueries}
 use Rattle.case_core.specs.declared.text.CaseText.{CaseText}
@@ -40,7 +41,7 @@ no_text text start l e i (NotTwoQueries count at) s =
 no_text text start l e i other s = s
 
 pub text_read : {text : List ℕ} {start end : Cursor} {written : CaseText} {numbers : Numbers} → Lexes 0 text start.tokens start.fault → start.numbers ≡ first_numbers
-    → start.copies ≡ 0 → TakesCase start written end → length written.statements ≤ 256 → Each IsSmall written.statements → numbers ≡ end.numbers → end.copies ≤ most_copies → IsRead text written numbers
+    → start.copies ≡ 0 → TakesCase start written end → length written.statements ≤ most_relations → Each IsSmall written.statements → numbers ≡ end.numbers → end.copies ≤ most_copies → IsRead text written numbers
 text_read {text} {start} {end} {written} l f none t few small n most = record {
   spells = record {
     tokens = start.tokens;

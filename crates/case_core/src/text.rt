@@ -7,6 +7,7 @@ ghost use Rattle.sql_grammar.specs.Queries.{most_levels};
 ghost use Rattle.sql_read.specs.Reads.{Reads};
 ghost use Rattle.schema_read.specs.CopiedStatements.{Copied};
 ghost use Rattle.schema_read.specs.Declarations.{IsSmall};
+ghost use Rattle.schema_read.specs.StatementLimits.{most_relations};
 ghost use Rattle.case_core.specs.CaseGrammar as g;
 ghost use Rattle.case_core.specs.Cases.{IsRead};
 ghost use Rattle.case_core.specs.Refusals.{IsNoText};
@@ -44,7 +45,7 @@ pub fn read_text(alloc: Global, bytes: &[u8]) -> Result<(CaseText, Symbols), Cas
 fn case_text(alloc: Global, tokens: &mut Tokens<'_>, end: u32) -> Result<CaseText, CaseFault>
     requires { end ≡ tokens.old.end }
     ensures taken { IfOk result (λ text. TakesCase tokens.old text tokens.new) }
-    ensures few { IfOk result (λ text. length text.statements ≤ 256) }
+    ensures few { IfOk result (λ text. length text.statements ≤ most_relations) }
     ensures small { IfOk result (λ text. length tokens.old.tokens < 2 ^ 31 → Each IsSmall text.statements) }
     ensures refused { IfErr result (λ fault. RefusesCase tokens.old fault tokens.new) }
 {
