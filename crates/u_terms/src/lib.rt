@@ -7,8 +7,6 @@ pub mod facts;
 pub mod laws;
 mod size;
 pub mod term;
-#[cfg(test)]
-mod tests;
 
 pub use equality::{same, same_value};
 pub use facts::{Facts, Fkey};
