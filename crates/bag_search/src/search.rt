@@ -19,7 +19,7 @@ use shapes::Shape;
 use std::alloc::{AllocError, Global};
 
 /// How a search ends.
-#[derive(Debug, Drop)]
+#[derive(Drop)]
 pub enum Match {
     /// The entry of the second shape for each entry of the first.
     Found(List<u32>),

@@ -14,7 +14,7 @@ use thiserror::Error;
 use u_deriv::Step;
 
 /// What a line says.
-#[derive(Debug, Drop)]
+#[derive(Drop)]
 pub enum LineStep {
     /// A step without inner steps.
     Whole(Step),

@@ -21,7 +21,7 @@ pub enum Kind {
 }
 
 /// A predicate, its negation or a negated equality.
-#[derive(Debug, Drop)]
+#[derive(Drop)]
 pub struct Mark {
     pub kind: Kind,
     pub points: List<Point>,
@@ -35,7 +35,7 @@ pub struct Entry {
 }
 
 /// What a block says: which rows it combines, which of their points are equal, what else holds of them, and which it gives out.
-#[derive(Debug, Drop)]
+#[derive(Drop)]
 pub struct Shape {
     pub entries: List<Entry>,
     pub equalities: List<(Point, Point)>,

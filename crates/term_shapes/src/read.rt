@@ -11,7 +11,7 @@ use std::alloc::{AllocError, Global};
 use u_terms::{NoMemory, U, Val};
 
 /// What the factors of a product say: equalities, marks, and the outputs of the names below a bound, as far as they are known.
-#[derive(Debug, Drop)]
+#[derive(Drop)]
 pub struct Said {
     pub equalities: List<(Point, Point)>,
     pub marks: List<Mark>,

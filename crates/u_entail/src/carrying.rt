@@ -40,7 +40,7 @@ impl<'c, 'a> Model for MarkRoute<'c, 'a> {
 }
 
 /// A point of a mark, and the one in its place, which is equal to it.
-#[derive(Debug, Clone, Copy)]
+#[derive(Clone, Copy)]
 pub struct Pair<'c> {
     pub from: &'c Val,
     pub to: &'c Val,

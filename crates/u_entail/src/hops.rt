@@ -11,7 +11,7 @@ use u_equal::{Classes, Link, Route};
 use u_terms::{List, Val};
 
 /// A step: at the place one side of this factor, an equality, becomes the other, the left one the right one or, turned, back.
-#[derive(Debug, Drop)]
+#[derive(Drop)]
 pub struct Hop {
     /// The numbers of the arguments on the way.
     pub place: List<usize>,

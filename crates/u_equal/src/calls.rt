@@ -12,7 +12,7 @@ use std::hash::{Hash, Hasher};
 use u_terms::{List, Val};
 
 /// A call among the values of a table: its place, its function and the places of its arguments.
-#[derive(Debug, Drop)]
+#[derive(Drop)]
 pub struct Call {
     pub place: usize,
     pub symbol: u32,
@@ -20,7 +20,7 @@ pub struct Call {
 }
 
 /// The function of a call and the classes of its arguments.
-#[derive(Debug, Drop)]
+#[derive(Drop)]
 pub struct Signature {
     pub symbol: u32,
     pub classes: List<usize>,

@@ -8,7 +8,7 @@ use std::marker::Model;
 use u_terms::{U, Val, same_value};
 
 /// A value that is lent, as a key.
-#[derive(Debug, Drop)]
+#[derive(Drop)]
 pub struct Key<'a> {
     pub value: &'a Val,
 }

@@ -5,7 +5,7 @@ use plain_data::{Boxed, List};
 
 /// A value.
 #[cycle(terms)]
-#[derive(Debug, Drop)]
+#[derive(Drop)]
 pub enum Val {
     /// The value of the binder that this many binders stand between.
     Bound(u32),
@@ -21,7 +21,7 @@ pub enum Val {
 
 /// A term: a multiplicity.
 #[cycle(terms)]
-#[derive(Debug, Drop)]
+#[derive(Drop)]
 pub enum U {
     Zero,
     One,
