@@ -225,13 +225,34 @@ def deep_compared_sources():
     return case("", f"SELECT a FROM r WHERE (SELECT COUNT(*) FROM ({deepest_sources(MOST_LEVELS - 2)}) d) IN (1, 2)")
 
 
+def deep_bounded_value():
+    """A value as deep as there may be between two bounds: it is compared with its copy, and what it resolves to is copied."""
+    return case("", f"SELECT a FROM r WHERE {deepest_value(MOST_LEVELS - 1)} BETWEEN 1 AND 2")
+
+
+def deep_bounded_operators():
+    """The longest chains of operators in one another, between two bounds: the copy goes down all of them."""
+    value = "a"
+    for _ in range(MOST_LEVELS - 1):
+        value = f"({operators(value)})"
+    return case("", f"SELECT a FROM r WHERE {value} BETWEEN 1 AND 2")
+
+
 def copied_operands(deep=14):
     """BETWEEN as an operand of BETWEEN: 400 bytes that stand for some 900,000 copied tokens."""
     return case("", "SELECT a FROM r WHERE " + "(" * deep + "(" + "a + " * 22 + "(a))" + " BETWEEN 1 AND 2)" * deep)
 
 
-CASES = [start, ordinary_queries, sought_outwards, stars, nested_sources, set_chains, derived_from_sets, named_views, named_view, copied_names, copied_operands]
-DEEP_CASES = [deep_values, deep_sources, deep_query, deep_view, deep_operand, deep_compared_value, deep_compared_sources]
+def copied_subqueries(deep=14):
+    """BETWEEN of scalar subqueries in one another, which is well formed: 750 bytes that stand for some 490,000 copied tokens."""
+    value = "a"
+    for _ in range(deep):
+        value = f"(SELECT COUNT(*) FROM r WHERE {value} BETWEEN 1 AND 2)"
+    return case("", f"SELECT a FROM r WHERE {value} BETWEEN 1 AND 2")
+
+
+CASES = [start, ordinary_queries, sought_outwards, stars, nested_sources, set_chains, derived_from_sets, named_views, named_view, copied_names, copied_operands, copied_subqueries]
+DEEP_CASES = [deep_values, deep_sources, deep_query, deep_view, deep_operand, deep_compared_value, deep_compared_sources, deep_bounded_value, deep_bounded_operators]
 
 
 def write_all(folder):

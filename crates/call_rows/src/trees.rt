@@ -294,7 +294,8 @@ impl TreeText {
             Expr::Fun { args, .. } | Expr::Pred { args, .. } | Expr::Call { args, .. } => {
                 self.push_parts(args.as_slice())
             }
-            Expr::And { parts, .. } | Expr::Or { parts, .. } => self.push_parts(parts.as_slice()),
+            Expr::And { parts, .. } => self.push_parts(parts.as_slice()),
+            Expr::Or { parts, .. } => self.push_parts(parts.as_slice()),
             Expr::Agg { distinct, arg, .. } => self.push_argument(*distinct, arg),
             Expr::Eq { left, right, .. } => {
                 self.push("(")?;

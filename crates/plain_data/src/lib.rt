@@ -8,9 +8,11 @@
 mod boxed;
 mod list;
 mod shared;
+mod shared_list;
 #[cfg(test)]
 mod tests;
 
 pub use boxed::Boxed;
 pub use list::List;
 pub use shared::Shared;
+pub use shared_list::SharedList;

@@ -5,7 +5,7 @@ use std::marker::Model;
 use std::rc::Rc;
 
 /// A value with several owners, which are counted. Contracts see it as that value.
-#[derive(Debug, Drop)]
+#[derive(Drop)]
 pub struct Shared<T> {
     inner: Rc<T>,
 }

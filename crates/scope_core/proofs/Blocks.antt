@@ -1,5 +1,5 @@
 -- A block as code resolves it: its fault and its tree, by the fields of the block.
-use Rattle.std.proofs.Common.{◌≡◌, Bool, List, [], ◌∷◌, ◌++◌, map, Option, Some, None, refl, ap, subst, ◌∙◌}
+use Rattle.std.proofs.Common.{◌≡◌, Bool, List, [], ◌∷◌, ◌++◌, map, Option, Some, None, refl, ap, subst, sym, ◌∙◌}
 use Rattle.std.specs.Prelude.{◌||◌, is_some}
 use Rattle.std.specs.Option.{option_or}
 use Rattle.sql_model.specs.Syntax as n
@@ -12,7 +12,7 @@ use Rattle.scope_core.specs.Compute.{resolving}
 use Rattle.scope_core.specs.Syntax.{RBlock, Grouping}
 use Rattle.scope_core.specs.FirstFault.{first_fault}
 use Rattle.scope_core.specs.Lent.{entries_row, items_row, row_of, entries_headings, items_have_aggregate_listed}
-use Rattle.scope_core.specs.Parts.{block_fault, entries_fault, on_fault, items_fault, truth_fault, columns_fault, written_fault, group_by_fault, entries_listed, on_listed, items_listed, places_listed, written_listed, having_listed, grouping_listed}
+use Rattle.scope_core.specs.Parts.{block_fault, entries_fault, on_fault, items_fault, truth_fault, columns_fault, written_fault, group_by_fault, entries_listed, on_listed, items_listed, places_listed, written_listed, having_listed, grouping_listed, filter_fault, filter_listed, from_headings, grouping_over, output_fault, output_having, output_items}
 use Rattle.scope_core.specs.Resolving.{resolved_block}
 use Rattle.scope_core.specs.Scope.{Known, heading, Levels, Sight, no_entry, output_sight, rows_level, output_level}
 use Rattle.scope_core.specs.Sites.{Site, truth_sites, group_sites, entry_sites, on_sites, items_sites}
@@ -37,17 +37,17 @@ first_fault-six a b c d e f =
 module _ (known : List Known) (levels : Levels) where
   -- of a block with these fields
   module _ (d : Bool) (items : List n.Item) (entries : List Entry) (c : Option n.Expr) (g : Option (List n.Expr)) (h : Option n.Expr) where
-    abbrev from_headings : List Heading
-    from_headings = entries_headings entries (map heading known)
+    abbrev from : List Heading
+    from = entries_headings entries (map heading known)
 
     abbrev grouping : Grouping
-    grouping = grouping_listed g (is_some h || items_have_aggregate_listed items) from_headings
+    grouping = grouping_listed g (is_some h || items_have_aggregate_listed items) from
 
     abbrev rows : Levels
-    rows = rows_level from_headings ∷ levels
+    rows = rows_level from ∷ levels
 
     abbrev output : Levels
-    output = output_level from_headings grouping ∷ levels
+    output = output_level from grouping ∷ levels
 
     abbrev pub parts_fault : Option ScopeFault
     parts_fault =
@@ -138,79 +138,85 @@ module _ (known : List Known) (levels : Levels) where
       subst (λ x. resolved_block x known levels ≡ parts_tree B.distinct B.items B.entries B.cond B.groups B.having) (roll-out-Block b)
       (block_tree-rolled B.distinct B.items B.entries B.cond B.groups B.having)
 
-  -- ---- what code finds, one part after the other
-  module _ (b : n.Block) (H : List Heading) (G : Grouping) (S : Sight) (heads : H ≡ entries_headings (out-Block b).entries (map heading known))
-      (groups : G ≡ grouping_listed (out-Block b).groups (is_some (out-Block b).having || items_have_aggregate_listed (out-Block b).items) H)
-      (sight : S ≡ output_sight G) where
-    abbrev seen_rows : Levels
-    seen_rows = rows_level H ∷ levels
+  -- ---- over the headings of the entries, as code finds them
+  module _ (b : n.Block) (H : List Heading) (heads : H ≡ from_headings b (map heading known)) where
+    block_fault-parts : block_fault known levels b
+        ≡ option_or (entries_fault known levels [] (out-Block b).entries) (option_or (filter_fault known levels b H) (output_fault known levels b H))
+    block_fault-parts =
+        block_fault-fields b
+        ∙ (rw heads (ap (λ o. option_or (entries_fault known levels [] (out-Block b).entries) o) (sym (or-assoc (on_fault known levels 0 no_entry (out-Block b).entries) _ _))))
 
-    abbrev seen_output : Levels
-    seen_output = record { first = 0; headings = H; sight = S } ∷ levels
+    pub cause-filter : (f : ScopeFault) → entries_fault known levels [] (out-Block b).entries ≡ None → IsCause f (filter_fault known levels b H) → IsCause f (block_fault known levels b)
+    cause-filter f e h = cause-second f _ _ _ block_fault-parts e (cause-first f _ _ _ refl h)
 
-    pub block_fault-seen : block_fault known levels b
-        ≡ option_or (entries_fault known levels [] (out-Block b).entries)
-        (option_or (on_fault known levels 0 no_entry (out-Block b).entries)
-        (option_or (written_fault known seen_rows (out-Block b).cond)
-        (option_or (group_by_fault seen_rows (out-Block b).groups)
-        (option_or (items_fault known seen_output 0 (out-Block b).items) (written_fault known seen_output (out-Block b).having)))))
-    block_fault-seen = rw (sight, groups, heads) (block_fault-fields b)
+    pub cause-output : (f : ScopeFault) → entries_fault known levels [] (out-Block b).entries ≡ None → filter_fault known levels b H ≡ None → IsCause f (output_fault known levels b H) → IsCause f (block_fault known levels b)
+    cause-output f e w h = cause-second f _ _ _ block_fault-parts e (cause-second f _ _ _ refl w h)
 
-    pub block_tree-seen : resolved_block b known levels ≡ roll-RBlock (record {
+    pub fine-block : entries_fault known levels [] (out-Block b).entries ≡ None → filter_fault known levels b H ≡ None → output_fault known levels b H ≡ None → block_fault known levels b ≡ None
+    fine-block e w o = no-fault-both _ _ _ block_fault-parts e (no-fault-both _ _ _ refl w o)
+
+    pub tree-block : resolved_block b known levels ≡ roll-RBlock (record {
       distinct = (out-Block b).distinct;
       entries = entries_listed known levels (out-Block b).entries;
-      conds = on_listed known levels 0 no_entry (out-Block b).entries ++ written_listed known seen_rows (out-Block b).cond;
-      grouping = G;
-      having = having_listed known seen_output (out-Block b).having;
-      items = items_listed known seen_output (out-Block b).items;
+      conds = filter_listed known levels b H;
+      grouping = grouping_over b H;
+      having = output_having known levels b H;
+      items = output_items known levels b H;
     })
-    block_tree-seen = rw (sight, groups, heads) (block_tree-fields b)
+    tree-block = rw heads (block_tree-fields b)
 
   pub cause-entries : (b : n.Block) (f : ScopeFault) → IsCause f (entries_fault known levels [] (out-Block b).entries) → IsCause f (block_fault known levels b)
   cause-entries b f h = cause-first f _ _ _ (block_fault-fields b) h
 
-  pub cause-on : (b : n.Block) (f : ScopeFault) → entries_fault known levels [] (out-Block b).entries ≡ None → IsCause f (on_fault known levels 0 no_entry (out-Block b).entries) → IsCause f (block_fault known levels b)
-  cause-on b f e h = cause-second f _ _ _ (block_fault-fields b) e (cause-first f _ _ _ refl h)
+  -- ---- the conditions of a block
+  module _ (b : n.Block) (H : List Heading) where
+    pub cause-on : (f : ScopeFault) → IsCause f (on_fault known levels 0 no_entry (out-Block b).entries) → IsCause f (filter_fault known levels b H)
+    cause-on f h = cause-first f _ _ _ refl h
 
-  pub cause-where : (b : n.Block) (H : List Heading) (f : ScopeFault) → H ≡ entries_headings (out-Block b).entries (map heading known) → entries_fault known levels [] (out-Block b).entries ≡ None → on_fault known levels 0 no_entry (out-Block b).entries ≡ None → IsCause f (written_fault known (rows_level H ∷ levels) (out-Block b).cond) → IsCause f (block_fault known levels b)
-  cause-where b H f heads e o h = cause-second f _ _ _ (block_fault-seen b H _ _ heads refl refl) e (cause-second f _ _ _ refl o (cause-first f _ _ _ refl h))
+    pub cause-where : (f : ScopeFault) → on_fault known levels 0 no_entry (out-Block b).entries ≡ None → IsCause f (written_fault known (rows_level H ∷ levels) (out-Block b).cond) → IsCause f (filter_fault known levels b H)
+    cause-where f o h = cause-second f _ _ _ refl o h
 
-  pub cause-groups : (b : n.Block) (H : List Heading) (f : ScopeFault) → H ≡ entries_headings (out-Block b).entries (map heading known) → entries_fault known levels [] (out-Block b).entries ≡ None → on_fault known levels 0 no_entry (out-Block b).entries ≡ None → written_fault known (rows_level H ∷ levels) (out-Block b).cond ≡ None → IsCause f (group_by_fault (rows_level H ∷ levels) (out-Block b).groups) → IsCause f (block_fault known levels b)
-  cause-groups b H f heads e o w h =
-      cause-second f _ _ _ (block_fault-seen b H _ _ heads refl refl) e (cause-second f _ _ _ refl o (cause-second f _ _ _ refl w (cause-first f _ _ _ refl h)))
+    pub fine-filter : on_fault known levels 0 no_entry (out-Block b).entries ≡ None → written_fault known (rows_level H ∷ levels) (out-Block b).cond ≡ None → filter_fault known levels b H ≡ None
+    fine-filter o w = no-fault-both _ _ _ refl o w
 
-  pub cause-items : (b : n.Block) (H : List Heading) (one : Bool) (G : Grouping) (S : Sight) (f : ScopeFault) → H ≡ entries_headings (out-Block b).entries (map heading known) → one ≡ (is_some (out-Block b).having || items_have_aggregate_listed (out-Block b).items) → G ≡ grouping_listed (out-Block b).groups one H → S ≡ output_sight G
-      → entries_fault known levels [] (out-Block b).entries ≡ None → on_fault known levels 0 no_entry (out-Block b).entries ≡ None → written_fault known (rows_level H ∷ levels) (out-Block b).cond ≡ None → group_by_fault (rows_level H ∷ levels) (out-Block b).groups ≡ None → IsCause f (items_fault known (record { first = 0; headings = H; sight = S } ∷ levels) 0 (out-Block b).items) → IsCause f (block_fault known levels b)
-  cause-items b H one G S f heads ones groups sight e o w g h =
-      cause-second f _ _ _ (block_fault-seen b H G S heads (groups ∙ ap (λ x. grouping_listed (out-Block b).groups x H) ones) sight) e
-      (cause-second f _ _ _ refl o (cause-second f _ _ _ refl w (cause-second f _ _ _ refl g (cause-first f _ _ _ refl h))))
+  -- ---- what a block puts out, where its items and HAVING see this group
+  module _ (b : n.Block) (H : List Heading) (one : Bool) (G : Grouping) (S : Sight) (ones : one ≡ (is_some (out-Block b).having || items_have_aggregate_listed (out-Block b).items))
+      (groups : G ≡ grouping_listed (out-Block b).groups one H) (sight : S ≡ output_sight G) where
+    abbrev seen : Levels
+    seen = record { first = 0; headings = H; sight = S } ∷ levels
 
-  pub cause-having : (b : n.Block) (H : List Heading) (one : Bool) (G : Grouping) (S : Sight) (f : ScopeFault) → H ≡ entries_headings (out-Block b).entries (map heading known) → one ≡ (is_some (out-Block b).having || items_have_aggregate_listed (out-Block b).items) → G ≡ grouping_listed (out-Block b).groups one H → S ≡ output_sight G
-      → entries_fault known levels [] (out-Block b).entries ≡ None → on_fault known levels 0 no_entry (out-Block b).entries ≡ None → written_fault known (rows_level H ∷ levels) (out-Block b).cond ≡ None → group_by_fault (rows_level H ∷ levels) (out-Block b).groups ≡ None → items_fault known (record { first = 0; headings = H; sight = S } ∷ levels) 0 (out-Block b).items ≡ None → IsCause f (written_fault known (record { first = 0; headings = H; sight = S } ∷ levels) (out-Block b).having) → IsCause f (block_fault known levels b)
-  cause-having b H one G S f heads ones groups sight e o w g i h =
-      cause-second f _ _ _ (block_fault-seen b H G S heads (groups ∙ ap (λ x. grouping_listed (out-Block b).groups x H) ones) sight) e
-      (cause-second f _ _ _ refl o (cause-second f _ _ _ refl w (cause-second f _ _ _ refl g (cause-second f _ _ _ refl i h))))
+    over : G ≡ grouping_over b H
+    over = groups ∙ ap (λ x. grouping_listed (out-Block b).groups x H) ones
 
-  pub fine-block : (b : n.Block) (H : List Heading) (one : Bool) (G : Grouping) (S : Sight) → H ≡ entries_headings (out-Block b).entries (map heading known) → one ≡ (is_some (out-Block b).having || items_have_aggregate_listed (out-Block b).items) → G ≡ grouping_listed (out-Block b).groups one H → S ≡ output_sight G
-      → entries_fault known levels [] (out-Block b).entries ≡ None → on_fault known levels 0 no_entry (out-Block b).entries ≡ None → written_fault known (rows_level H ∷ levels) (out-Block b).cond ≡ None → group_by_fault (rows_level H ∷ levels) (out-Block b).groups ≡ None → items_fault known (record { first = 0; headings = H; sight = S } ∷ levels) 0 (out-Block b).items ≡ None → written_fault known (record { first = 0; headings = H; sight = S } ∷ levels) (out-Block b).having ≡ None → block_fault known levels b ≡ None
-  fine-block b H one G S heads ones groups sight e o w g i h =
-      no-fault-both _ _ _ (block_fault-seen b H G S heads (groups ∙ ap (λ x. grouping_listed (out-Block b).groups x H) ones) sight) e
-      (no-fault-both _ _ _ refl o (no-fault-both _ _ _ refl w (no-fault-both _ _ _ refl g (no-fault-both _ _ _ refl i h))))
+    output_fault-seen : output_fault known levels b H
+        ≡ option_or (group_by_fault (rows_level H ∷ levels) (out-Block b).groups) (option_or (items_fault known seen 0 (out-Block b).items) (written_fault known seen (out-Block b).having))
+    output_fault-seen = rw (sight, over) refl
 
-module _ (known : List Known) (levels : Levels) where
-  pub tree-block : (b : n.Block) (H : List Heading) (one : Bool) (G : Grouping) (S : Sight) → H ≡ entries_headings (out-Block b).entries (map heading known)
-      → one ≡ (is_some (out-Block b).having || items_have_aggregate_listed (out-Block b).items) → G ≡ grouping_listed (out-Block b).groups one H → S ≡ output_sight G
-      → resolved_block b known levels ≡ roll-RBlock (record {
-        distinct = (out-Block b).distinct;
-        entries = entries_listed known levels (out-Block b).entries;
-        conds = on_listed known levels 0 no_entry (out-Block b).entries ++ written_listed known (rows_level H ∷ levels) (out-Block b).cond;
-        grouping = G;
-        having = having_listed known (record { first = 0; headings = H; sight = S } ∷ levels) (out-Block b).having;
-        items = items_listed known (record { first = 0; headings = H; sight = S } ∷ levels) (out-Block b).items;
-      })
-  tree-block b H one G S heads ones groups sight =
-      block_tree-seen known levels b H G S heads (groups ∙ ap (λ x. grouping_listed (out-Block b).groups x H) ones) sight
+    pub cause-items : (f : ScopeFault) → group_by_fault (rows_level H ∷ levels) (out-Block b).groups ≡ None → IsCause f (items_fault known seen 0 (out-Block b).items) → IsCause f (output_fault known levels b H)
+    cause-items f g h = cause-second f _ _ _ output_fault-seen g (cause-first f _ _ _ refl h)
 
-pub ruleset tree = (tree-block, block_tree-seen)
+    pub cause-having : (f : ScopeFault) → group_by_fault (rows_level H ∷ levels) (out-Block b).groups ≡ None → items_fault known seen 0 (out-Block b).items ≡ None → IsCause f (written_fault known seen (out-Block b).having) → IsCause f (output_fault known levels b H)
+    cause-having f g i h = cause-second f _ _ _ output_fault-seen g (cause-second f _ _ _ refl i h)
 
-pub ruleset laws = (causes, cause-entries, cause-on, cause-where, cause-groups, cause-items, cause-having, fine-block)
+    pub fine-output : group_by_fault (rows_level H ∷ levels) (out-Block b).groups ≡ None → items_fault known seen 0 (out-Block b).items ≡ None → written_fault known seen (out-Block b).having ≡ None → output_fault known levels b H ≡ None
+    fine-output g i h = no-fault-both _ _ _ output_fault-seen g (no-fault-both _ _ _ refl i h)
+
+    pub grouping-output : G ≡ grouping_over b H
+    grouping-output = over
+
+    pub items-output : items_listed known seen (out-Block b).items ≡ output_items known levels b H
+    items-output = rw (sight, over) refl
+
+    pub having-output : having_listed known seen (out-Block b).having ≡ output_having known levels b H
+    having-output = rw (sight, over) refl
+
+  pub cause-groups : (b : n.Block) (H : List Heading) (f : ScopeFault) → IsCause f (group_by_fault (rows_level H ∷ levels) (out-Block b).groups) → IsCause f (output_fault known levels b H)
+  cause-groups b H f h = cause-first f _ _ _ refl h
+
+pub ruleset tree = (tree-block)
+
+pub ruleset filter = (causes, cause-on, cause-where, fine-filter)
+
+pub ruleset outputs = (causes, cause-groups, cause-items, cause-having, fine-output, grouping-output, items-output, having-output)
+
+pub ruleset laws = (causes, cause-entries, cause-filter, cause-output, fine-block)

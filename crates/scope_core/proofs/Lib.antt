@@ -9,6 +9,7 @@ pub mod Walks
 pub mod Groups
 pub mod Values
 pub mod Conditions
+pub mod Bounds
 pub mod Queries
 pub mod Fronts
 pub mod Blocks

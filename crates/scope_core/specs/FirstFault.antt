@@ -4,6 +4,7 @@ use Rattle.std.specs.Option.{option_or}
 use Rattle.sql_model.specs.Syntax as n
 use Rattle.sql_model.specs.Syntax.{Name, Query}
 use Rattle.sql_model.specs.Headings.{output_columns}
+use Rattle.sql_model.specs.Places.{place_of}
 use Rattle.sql_model.specs.declared.schema.Schema.{Schema}
 use Rattle.sql_model.specs.declared.schema.Relation.TheVariants as relation
 use Rattle.sql_model.specs.Relations.{Relation}
@@ -34,23 +35,6 @@ abbrev pub code_at : Site → Option ScopeCode
 code_at site = first_code (tests site)
 
 -- ---- the place
--- Of a node: that of its first token; of a column that is the qualifier, where it is written.
-abbrev pub place_of : n.Expr → ℕ
-place_of (n.Col None qual_at name at) = at
-place_of (n.Col (Some alias) qual_at name at) = qual_at
-place_of (n.Lit lit at) = at
-place_of (n.Fun sym s args at) = at
-place_of (n.Pred sym s args at) = at
-place_of (n.Call sym s args at) = at
-place_of (n.Agg fun is_distinct argument at) = at
-place_of (n.Sub query at) = at
-place_of (n.Eq left right at) = at
-place_of (n.And s parts at) = at
-place_of (n.Or s parts at) = at
-place_of (n.Not part at) = at
-place_of (n.Exists query at) = at
-place_of (n.In left query at in_at) = at
-
 -- a column's own word, where the expression is one
 abbrev pub word_of : n.Expr → ℕ
 word_of (n.Col qual qual_at name at) = at

@@ -66,11 +66,11 @@ is_lacking_in (Some alias) name headings = not (list_any (is_called name) (colum
 abbrev pub row_of : (exprs : List n.Expr) → n.Exprs (n.long (node.shape-the_row-Expr-0 exprs))
 row_of exprs = node.hidden-the_row-Expr-0 exprs
 
-abbrev pub items_row : (items : List n.Item) → n.Items (n.long (node.shape-the_row-Item-5 items))
-items_row items = node.hidden-the_row-Item-5 items
+abbrev pub items_row : (items : List n.Item) → n.Items (n.long (node.shape-the_row-Item-6 items))
+items_row items = node.hidden-the_row-Item-6 items
 
-abbrev pub entries_row : (entries : List Entry) → n.Entries (n.long (node.shape-the_row-Entry-6 entries))
-entries_row entries = node.hidden-the_row-Entry-6 entries
+abbrev pub entries_row : (entries : List Entry) → n.Entries (n.long (node.shape-the_row-Entry-7 entries))
+entries_row entries = node.hidden-the_row-Entry-7 entries
 
 unfoldable pub entries_headings : List Entry → List Heading → List Heading
 entries_headings entries relations = headings (entries_row entries) relations

@@ -1,7 +1,9 @@
 -- The first fault of each part of a query, and what its tree is made of, at lists as code has them.
-use Rattle.std.specs.Prelude.{◌≡◌, if◌then◌else◌, ℕ, Bool, true, false, List, [], ◌∷◌, map, Option, Some, None}
+use Rattle.std.specs.Option.{option_or}
+use Rattle.std.specs.Prelude.{◌≡◌, if◌then◌else◌, ℕ, Bool, true, false, List, [], ◌∷◌, ◌++◌, ◌||◌, is_some, map, Option, Some, None}
 use Rattle.sql_model.specs.Syntax as n
 use Rattle.sql_model.specs.Syntax.{Name}
+use Rattle.sql_model.specs.declared.tree.Block.{out-Block}
 use Rattle.sql_model.specs.declared.tree.Entry.{Entry}
 use Rattle.sql_model.specs.declared.tree.Expr.TheVariants as expr
 use Rattle.sql_model.specs.Frames.{ColumnName}
@@ -11,13 +13,13 @@ use Rattle.scope_core.specs.declared.fault.ScopeFault.{ScopeFault}
 use Rattle.scope_core.specs.declared.fault.ScopeFault.TheVariants as fault
 use Rattle.scope_core.specs.declared.tree.REntry.{REntry}
 use Rattle.scope_core.specs.Syntax.{RVal, RCond, Grouping}
-use Rattle.scope_core.specs.Scope.{Known, Level, Levels, Place, group_places}
+use Rattle.scope_core.specs.Scope.{Known, Level, Levels, Place, group_places, no_entry, output_level, rows_level}
 use Rattle.scope_core.specs.Resolving.{conjunction, conjuncts, resolved_value, entry_of, resolved_values, conjuncts_of_each, resolved_conditions, resolved_entries, on_conjuncts, resolved_items}
 use Rattle.scope_core.specs.Sites.{AGroupColumn, value_sites, values_sites, truth_sites, truths_sites, sites, block_sites, entry_sites, source_sites, on_sites, items_sites, item_sites, group_sites}
 use Rattle.scope_core.specs.FirstFault.{fault_at, first_fault}
 use Rattle.scope_core.specs.declared.tree.Grouping.TheVariants as g
 use Rattle.scope_core.specs.Faults.{is_scalar, is_one_aggregate, name_twice}
-use Rattle.scope_core.specs.Lent.{row_of, items_row, entries_row}
+use Rattle.scope_core.specs.Lent.{row_of, items_row, entries_row, entries_headings, items_have_aggregate_listed}
 
 module _ (known : List Known) (levels : Levels) where
   -- ---- faults
@@ -113,10 +115,48 @@ grouping_listed None false from = g.Plain
 grouping_listed None true from = g.One
 grouping_listed (Some columns) one_group from = g.Keys (places_listed from columns)
 
+-- ---- a block, over the headings of its entries
+abbrev pub from_headings : n.Block → List Heading → List Heading
+from_headings block relations = entries_headings (out-Block block).entries relations
+
+abbrev pub grouping_over : n.Block → List Heading → Grouping
+grouping_over block from = grouping_listed (out-Block block).groups (is_some (out-Block block).having || items_have_aggregate_listed (out-Block block).items) from
+
+module _ (known : List Known) (levels : Levels) (block : n.Block) (from : List Heading) where
+  -- ON and WHERE
+  abbrev pub filter_fault : Option ScopeFault
+  filter_fault = option_or (on_fault known levels 0 no_entry (out-Block block).entries) (written_fault known (rows_level from ∷ levels) (out-Block block).cond)
+
+  abbrev pub filter_listed : List RCond
+  filter_listed = on_listed known levels 0 no_entry (out-Block block).entries ++ written_listed known (rows_level from ∷ levels) (out-Block block).cond
+
+  -- GROUP BY, the items and HAVING
+  abbrev pub output_levels : Levels
+  output_levels = output_level from (grouping_over block from) ∷ levels
+
+  abbrev pub output_fault : Option ScopeFault
+  output_fault =
+      option_or (group_by_fault (rows_level from ∷ levels) (out-Block block).groups)
+      (option_or (items_fault known output_levels 0 (out-Block block).items) (written_fault known output_levels (out-Block block).having))
+
+  abbrev pub output_items : List RVal
+  output_items = items_listed known output_levels (out-Block block).items
+
+  abbrev pub output_having : Option RCond
+  output_having = having_listed known output_levels (out-Block block).having
+
 -- ---- conditions
 -- an expression is the AND of these
 abbrev pub IsAndOf : List n.Expr → n.Expr → Type 0
 IsAndOf parts e = (at : ℕ) × (e ≡ expr.And parts at)
+
+-- two predicates with these arguments, as those that BETWEEN stands for
+abbrev pub AreBounds : ℕ → List n.Expr → ℕ → List n.Expr → List n.Expr → Type 0
+AreBounds above low below high parts = (first second : ℕ) × (parts ≡ expr.Pred above low first ∷ expr.Pred below high second ∷ [])
+
+-- arguments of two predicates, the second of which begins with the value that the first one ends with
+abbrev pub AreBoundsOfOne : List n.Expr → List n.Expr → n.Expr → Type 0
+AreBoundsOfOne before args high = (low value : n.Expr) × (before ≡ low ∷ value ∷ []) × (args ≡ value ∷ high ∷ [])
 
 -- an expression that is its own conjunct
 unfoldable pub IsSingle : n.Expr → Type 0

@@ -9,7 +9,7 @@ use std::marker::Model;
 use std::mem;
 
 /// A row of values, which contracts see as their list. It is kept in parts, so that rows may share what is long.
-#[derive(Debug, Drop)]
+#[derive(Drop)]
 pub struct Items<T> {
     parts: Vec<Shared<List<T>>>,
     last: List<T>,

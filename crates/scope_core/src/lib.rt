@@ -7,6 +7,7 @@
 mod catalog;
 mod checks;
 mod column;
+mod copying;
 pub mod fault;
 mod grouping;
 mod heading;

@@ -13,7 +13,7 @@ use plain_data::List;
 use std::marker::Model;
 
 /// A resolved query.
-#[derive(Debug, Drop)]
+#[derive(Drop)]
 pub struct Resolved {
     tree: RQuery,
     width: u32,
@@ -75,7 +75,7 @@ impl Resolved {
 }
 
 /// The resolved queries of a schema's views, in order of declaration. Each is over the views before it.
-#[derive(Debug, Drop)]
+#[derive(Drop)]
 pub struct Views {
     trees: List<Resolved>,
 }

@@ -7,7 +7,7 @@ use sql_model::{AggFun, SetOp};
 
 /// A value.
 #[cycle(resolved)]
-#[derive(Debug, Drop)]
+#[derive(Drop)]
 pub enum RVal {
     /// A column of an entry of the block `up` blocks outwards.
     Col {
@@ -35,15 +35,15 @@ pub enum RVal {
         distinct: bool,
         arg: Option<Boxed<RVal>>,
     },
-    /// A scalar subquery.
+    /// A scalar subquery. Copies of the value share it.
     Sub {
-        block: Boxed<RBlock>,
+        block: Shared<RBlock>,
     },
 }
 
 /// A condition.
 #[cycle(resolved)]
-#[derive(Debug, Drop)]
+#[derive(Drop)]
 pub enum RCond {
     /// `left = right`. The equalities that a list of IN stands for share their left side.
     Eq { left: Shared<RVal>, right: RVal },
@@ -59,7 +59,7 @@ pub enum RCond {
 
 /// What an entry takes its rows from.
 #[cycle(resolved)]
-#[derive(Debug, Drop)]
+#[derive(Drop)]
 pub enum RSource {
     /// A base table, by its number.
     Table { number: u32 },
@@ -71,14 +71,14 @@ pub enum RSource {
 
 /// An entry of FROM and its number of columns.
 #[cycle(resolved)]
-#[derive(Debug, Drop)]
+#[derive(Drop)]
 pub struct REntry {
     pub source: RSource,
     pub width: u32,
 }
 
 /// How the combinations of a block fall into groups.
-#[derive(Debug, Drop)]
+#[derive(Drop)]
 pub enum Grouping {
     /// There are no groups: each combination gives a row.
     Plain,
@@ -91,7 +91,7 @@ pub enum Grouping {
 
 /// A query specification.
 #[cycle(resolved)]
-#[derive(Debug, Drop)]
+#[derive(Drop)]
 pub struct RBlock {
     pub distinct: bool,
     pub entries: List<REntry>,
@@ -105,10 +105,10 @@ pub struct RBlock {
 
 /// A query expression.
 #[cycle(resolved)]
-#[derive(Debug, Drop)]
+#[derive(Drop)]
 pub enum RQuery {
     Block {
-        block: Boxed<RBlock>,
+        block: Shared<RBlock>,
     },
     Set {
         op: SetOp,

@@ -83,9 +83,13 @@ going_on first = map (λ p. p.1 p.0) (seq (counted first) (ref expr_tail))
 abbrev pub going_on_by_and : The (Built Expr)
 going_on_by_and = map (λ p. p.1 p.0) (seq (alt not_neg exists) (ref and_tail))
 
+-- an expression that begins with a minus, a literal, a NOT, an EXISTS or such a first part
+abbrev pub expression_from : The (Built Expr) → The (Built Expr)
+expression_from first = alt (going_on (alt minus (alt literal first))) going_on_by_and
+
 -- an expression that begins with no parenthesis
 abbrev pub no_parenthesis : The (Built Expr)
-no_parenthesis = alt (going_on (alt minus (alt literal named_first))) going_on_by_and
+no_parenthesis = expression_from named_first
 
 -- ---- what stands in parentheses
 
@@ -137,7 +141,7 @@ named_item =
 
 -- an expression that begins with no name
 abbrev pub item_value : The (Built Expr)
-item_value = alt (going_on (alt minus (alt literal enclosed_first))) going_on_by_and
+item_value = expression_from enclosed_first
 
 abbrev pub plan_of_item : The (Built Item)
 plan_of_item =

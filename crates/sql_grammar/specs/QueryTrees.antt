@@ -15,28 +15,12 @@ use Rattle.sql_model.specs.declared.tree.Query.TheVariants as query
 use Rattle.sql_model.specs.Syntax as s
 use Rattle.sql_model.specs.Syntax.{Name, SetOp, AggFun}
 use Rattle.sql_lex.specs.Lexemes.{Lexeme}
+pub use Rattle.sql_model.specs.Places.{place_of}
 pub use Rattle.sql_grammar.specs.declared.listed.Listed.{Listed}
 use Rattle.sql_grammar.specs.Kinds as k
 use Rattle.sql_grammar.specs.Kinds.{Kind, kind_of}
 use Rattle.sql_grammar.specs.TokenValues.{name_of, inside, normalised}
 use Rattle.sql_grammar.specs.Numbering.{Built, plain, mapped, both, each, perhaps, copying, literal_number, symbol_number, first_numbers}
-
--- the place of an expression
-abbrev pub place : Expr → ℕ
-place (s.Col None qual_at name at) = at
-place (s.Col (Some qual) qual_at name at) = qual_at
-place (s.Lit lit at) = at
-place (s.Fun sym shape args at) = at
-place (s.Pred sym shape args at) = at
-place (s.Call sym shape args at) = at
-place (s.Agg f is_distinct argument at) = at
-place (s.Sub q at) = at
-place (s.Eq left right at) = at
-place (s.And shape parts at) = at
-place (s.Or shape parts at) = at
-place (s.Not part at) = at
-place (s.Exists q at) = at
-place (s.In left q at in_at) = at
 
 abbrev pub is_sub : Expr → Bool
 is_sub (s.Sub q at) = true
@@ -73,7 +57,7 @@ text_literal t = literal_at t.start (text_of t)
 -- a chain of one part is that part
 abbrev pub chained : (List Expr → ℕ → Expr) → Built Expr × List (Built Expr) → Built Expr
 chained node (first, []) = first
-chained node (first, next ∷ others) = mapped (λ p. node (p.0 ∷ p.1) (place p.0)) (both first (each (next ∷ others)))
+chained node (first, next ∷ others) = mapped (λ p. node (p.0 ∷ p.1) (place_of p.0)) (both first (each (next ∷ others)))
 
 abbrev pub or_node : List Expr → ℕ → Expr
 or_node parts at = expr.Or parts at
@@ -92,7 +76,7 @@ operator other = 7
 abbrev pub operated : Built Expr → List (Lexeme × Built Expr) → Built Expr
 operated left [] = left
 operated left (p ∷ others) =
-    operated (mapped (λ q. expr.Fun (operator (kind_of p.0)) (q.0 ∷ q.1 ∷ []) (place q.0)) (both left p.1)) others
+    operated (mapped (λ q. expr.Fun (operator (kind_of p.0)) (q.0 ∷ q.1 ∷ []) (place_of q.0)) (both left p.1)) others
 
 abbrev pub minus : Lexeme × Built Expr → Built Expr
 minus (sign, part) = mapped (λ x. expr.Fun 4 (x ∷ []) sign.start) part
@@ -103,12 +87,12 @@ not_of (word, part) = mapped (λ x. expr.Not x word.start) part
 -- ---- comparisons
 
 abbrev pub compared : Kind → Expr → Expr → Expr
-compared k.Equals x y = expr.Eq x y (place x)
-compared k.Differs x y = expr.Not (expr.Eq x y (place x)) (place x)
-compared k.Less x y = expr.Pred 0 (x ∷ y ∷ []) (place x)
-compared k.AtMost x y = expr.Pred 1 (x ∷ y ∷ []) (place x)
-compared k.Greater x y = expr.Pred 0 (y ∷ x ∷ []) (place x)
-compared other x y = expr.Pred 1 (y ∷ x ∷ []) (place x)
+compared k.Equals x y = expr.Eq x y (place_of x)
+compared k.Differs x y = expr.Not (expr.Eq x y (place_of x)) (place_of x)
+compared k.Less x y = expr.Pred 0 (x ∷ y ∷ []) (place_of x)
+compared k.AtMost x y = expr.Pred 1 (x ∷ y ∷ []) (place_of x)
+compared k.Greater x y = expr.Pred 0 (y ∷ x ∷ []) (place_of x)
+compared other x y = expr.Pred 1 (y ∷ x ∷ []) (place_of x)
 
 -- what stands to the left, with the number of its tokens
 abbrev pub Left : Type 0
@@ -121,21 +105,21 @@ weight left = left.1 + left.0.copies
 -- a NOT behind the left side makes a node in its place
 abbrev pub negated : Option Lexeme → Expr → Expr
 negated None x = x
-negated (Some word) x = expr.Not x (place x)
+negated (Some word) x = expr.Not x (place_of x)
 
 abbrev pub comparison : Lexeme → Built Expr → Left → Built Expr
 comparison sign right left = mapped (λ p. compared (kind_of sign) p.0 p.1) (both left.0 right)
 
 abbrev pub in_query : Option Lexeme → Lexeme → Built Query → Left → Built Expr
-in_query word in_word q left = mapped (λ p. negated word (expr.In p.0 p.1 (place p.0) in_word.start)) (both left.0 q)
+in_query word in_word q left = mapped (λ p. negated word (expr.In p.0 p.1 (place_of p.0) in_word.start)) (both left.0 q)
 
 abbrev pub equals_each : Expr → List Expr → List Expr
 equals_each x [] = []
-equals_each x (y ∷ ys) = expr.Eq x y (place x) ∷ equals_each x ys
+equals_each x (y ∷ ys) = expr.Eq x y (place_of x) ∷ equals_each x ys
 
 abbrev pub member : Expr → Expr → List Expr → Expr
-member x y [] = expr.Eq x y (place x)
-member x y (z ∷ zs) = expr.Or (equals_each x (y ∷ z ∷ zs)) (place x)
+member x y [] = expr.Eq x y (place_of x)
+member x y (z ∷ zs) = expr.Or (equals_each x (y ∷ z ∷ zs)) (place_of x)
 
 -- the left side is copied at each comma
 abbrev pub in_list : Option Lexeme → Built Expr × List (Built Expr) → Left → Built Expr
@@ -148,14 +132,14 @@ is_no_query (only, []) = not_sub only
 is_no_query (first, next ∷ others) = true
 
 abbrev pub bounds : Expr → Expr → Expr → Expr
-bounds x low high = expr.And (expr.Pred 1 (low ∷ x ∷ []) (place x) ∷ expr.Pred 1 (x ∷ high ∷ []) (place x) ∷ []) (place x)
+bounds x low high = expr.And (expr.Pred 1 (low ∷ x ∷ []) (place_of x) ∷ expr.Pred 1 (x ∷ high ∷ []) (place_of x) ∷ []) (place_of x)
 
 -- the left side is copied at BETWEEN
 abbrev pub between : Option Lexeme → Built Expr → Built Expr → Left → Built Expr
 between word low high left = copying (weight left) (mapped (λ p. negated word (bounds p.0 p.1.0 p.1.1)) (both left.0 (both low high)))
 
 abbrev pub like : Option Lexeme → Built Expr → Left → Built Expr
-like word pattern_ left = mapped (λ p. negated word (expr.Pred 2 (p.0 ∷ p.1 ∷ []) (place p.0))) (both left.0 pattern_)
+like word pattern_ left = mapped (λ p. negated word (expr.Pred 2 (p.0 ∷ p.1 ∷ []) (place_of p.0))) (both left.0 pattern_)
 
 abbrev pub tested : Left → Option (Left → Built Expr) → Built Expr
 tested left None = left.0

@@ -7,7 +7,8 @@ unfolding
     Rattle.sql_model.specs.declared.tree.Expr.TheBlock.shape-the_row-Expr-1 Rattle.sql_model.specs.declared.tree.Expr.TheBlock.hidden-the_row-Expr-1
     Rattle.sql_model.specs.declared.tree.Expr.TheBlock.shape-the_row-Query-2 Rattle.sql_model.specs.declared.tree.Expr.TheBlock.hidden-the_row-Query-2
     Rattle.sql_model.specs.declared.tree.Expr.TheBlock.shape-the_row-Expr-3 Rattle.sql_model.specs.declared.tree.Expr.TheBlock.hidden-the_row-Expr-3
-    Rattle.sql_model.specs.declared.tree.Expr.TheBlock.shape-the_row-Block-4 Rattle.sql_model.specs.declared.tree.Expr.TheBlock.hidden-the_row-Block-4
-    Rattle.sql_model.specs.declared.tree.Expr.TheBlock.shape-the_row-Item-5 Rattle.sql_model.specs.declared.tree.Expr.TheBlock.hidden-the_row-Item-5
-    Rattle.sql_model.specs.declared.tree.Expr.TheBlock.shape-the_row-Entry-6 Rattle.sql_model.specs.declared.tree.Expr.TheBlock.hidden-the_row-Entry-6
+    Rattle.sql_model.specs.declared.tree.Expr.TheBlock.shape-the_row-Expr-4 Rattle.sql_model.specs.declared.tree.Expr.TheBlock.hidden-the_row-Expr-4
+    Rattle.sql_model.specs.declared.tree.Expr.TheBlock.shape-the_row-Block-5 Rattle.sql_model.specs.declared.tree.Expr.TheBlock.hidden-the_row-Block-5
+    Rattle.sql_model.specs.declared.tree.Expr.TheBlock.shape-the_row-Item-6 Rattle.sql_model.specs.declared.tree.Expr.TheBlock.hidden-the_row-Item-6
+    Rattle.sql_model.specs.declared.tree.Expr.TheBlock.shape-the_row-Entry-7 Rattle.sql_model.specs.declared.tree.Expr.TheBlock.hidden-the_row-Entry-7
 everything = tt

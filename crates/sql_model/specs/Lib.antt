@@ -13,6 +13,7 @@ pub mod Relations
 pub mod Meets
 pub mod Equivalent
 pub mod SelectStar
+pub mod Places
 pub mod Everywhere
 pub mod Compute
 pub mod samples

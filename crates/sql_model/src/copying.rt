@@ -1,4 +1,4 @@
-//! Equal trees, in memory of their own but for names and the left sides of `=` and of IN.
+//! Equal trees, in memory of their own but for names, the left sides of `=` and of IN, and the parts of ANDs.
 //!
 //! A chain of operators is as deep as it is long, so the functions on the way down keep small frames: what needs room of its own is
 //! kept out of them by `inline(never)`.
@@ -12,7 +12,7 @@ use plain_data::{Boxed, List};
 use std::alloc::Global;
 
 impl Expr {
-    /// An equal tree. What stands to the left of `=` and of IN shares the memory of this one's.
+    /// An equal tree. What stands to the left of `=` and of IN, and the parts of ANDs, share the memory of this one's.
     #[cycle(copy)]
     pub fn copy(&self, alloc: Global) -> Result<Expr, NoMemory>
         ensures { IfOk result (λ copy. copy ≡ self.now) }
@@ -56,7 +56,7 @@ impl Expr {
                 at: *at,
             }),
             Expr::And { parts, at } => Ok(Expr::And {
-                parts: copy_exprs(alloc, parts.as_slice())?,
+                parts: parts.share()?,
                 at: *at,
             }),
             Expr::Or { parts, at } => Ok(Expr::Or {
@@ -87,7 +87,7 @@ impl Expr {
 }
 
 impl Query {
-    /// An equal tree. What stands to the left of `=` and of IN shares the memory of this one's.
+    /// An equal tree. What stands to the left of `=` and of IN, and the parts of ANDs, share the memory of this one's.
     pub fn copy(&self, alloc: Global) -> Result<Query, NoMemory>
         ensures { IfOk result (λ copy. copy ≡ self.now) }
     {

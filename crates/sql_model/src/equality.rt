@@ -122,8 +122,8 @@ fn same_expr(a: &Expr, b: &Expr) -> bool
                 parts: other_parts,
                 at: other_at,
             },
-        )
-        | (
+        ) => at == other_at && same_exprs(parts.as_slice(), other_parts.as_slice()),
+        (
             Expr::Or { parts, at },
             Expr::Or {
                 parts: other_parts,

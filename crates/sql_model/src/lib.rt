@@ -13,7 +13,7 @@ pub mod symbols;
 pub mod tree;
 
 pub use name::Name;
-pub use plain_data::{Boxed, List, Shared};
+pub use plain_data::{Boxed, List, Shared, SharedList};
 pub use schema::{Fkey, Relation, Schema, Table};
 pub use statement::{NameAt, Statement, TableRule};
 pub use std::alloc::AllocError as NoMemory;

@@ -6,7 +6,7 @@ use indexmap::IndexMap;
 use plain_data::List;
 
 /// A base table. Base tables are numbered from 0 in order of declaration.
-#[derive(Debug, Drop)]
+#[derive(Drop)]
 pub struct Table {
     pub number: u32,
     pub columns: List<Name>,
@@ -17,7 +17,7 @@ pub struct Table {
 }
 
 /// What a name of FROM may stand for. An index is the view that shows its columns, and then those of its table's primary key that are not yet shown.
-#[derive(Debug, Drop)]
+#[derive(Drop)]
 pub enum Relation {
     Table { table: Table },
     View { query: Query, at: u32 },
@@ -25,7 +25,7 @@ pub enum Relation {
 
 /// A foreign key: for each row of table `from` some row of table `to` has in the columns `key` what the row has in `cols`,
 /// pair by pair.
-#[derive(Debug, Drop)]
+#[derive(Drop)]
 pub struct Fkey {
     pub from: u32,
     pub cols: List<u32>,
@@ -34,7 +34,7 @@ pub struct Fkey {
 }
 
 /// The relations by name, in order of declaration, and the foreign keys of the whole case in text order.
-#[derive(Debug, Drop)]
+#[derive(Drop)]
 pub struct Schema {
     pub relations: IndexMap<Name, Relation>,
     pub fkeys: List<Fkey>,

@@ -5,14 +5,14 @@ use crate::tree::Query;
 use plain_data::List;
 
 /// A name and its place in the text.
-#[derive(Debug, Drop)]
+#[derive(Drop)]
 pub struct NameAt {
     pub name: Name,
     pub at: u32,
 }
 
 /// A key or a foreign key of a `CREATE TABLE`.
-#[derive(Debug, Drop)]
+#[derive(Drop)]
 pub enum TableRule {
     /// `PRIMARY KEY` or `UNIQUE`. `at` is the place of that word.
     Key {
@@ -29,7 +29,7 @@ pub enum TableRule {
 }
 
 /// A statement `CREATE ..` of a case, with the places of its names.
-#[derive(Debug, Drop)]
+#[derive(Drop)]
 pub enum Statement {
     Table {
         name: NameAt,

@@ -17,14 +17,14 @@ pub enum LitKind {
 }
 
 /// A literal. A number has its normalised text: no leading zeros but for one before the point, no trailing ones after it.
-#[derive(Debug, Drop, PartialEq, Eq, Hash)]
+#[derive(Drop, PartialEq, Eq, Hash)]
 pub struct Lit {
     pub kind: LitKind,
     pub text: Name,
 }
 
 /// The literals and the symbols of a case; each has its place here as its number.
-#[derive(Debug, Drop)]
+#[derive(Drop)]
 pub struct Symbols {
     pub lits: IndexSet<Lit>,
     pub syms: IndexSet<Name>,

@@ -2,7 +2,7 @@
 //! the text of its first token, unless its comment says otherwise.
 
 use crate::name::Name;
-use plain_data::{Boxed, List, Shared};
+use plain_data::{Boxed, List, Shared, SharedList};
 
 /// A set function (SQL, ISO/IEC 9075-2, 6.9). Its number in a reading is its place here, from 0.
 #[derive(Clone, Copy, Debug, PartialEq, Eq)]
@@ -26,7 +26,7 @@ pub enum SetOp {
 
 /// A value or a condition.
 #[cycle(sql)]
-#[derive(Debug, Drop)]
+#[derive(Drop)]
 pub enum Expr {
     /// A column. `at` is the place of its own word, `qual_at` that of its qualifier.
     Col {
@@ -76,8 +76,9 @@ pub enum Expr {
         right: Boxed<Expr>,
         at: u32,
     },
+    /// Copies share the parts, so that BETWEENs within BETWEENs, each an AND that holds its value twice, are not copied again.
     And {
-        parts: List<Expr>,
+        parts: SharedList<Expr>,
         at: u32,
     },
     Or {
@@ -104,7 +105,7 @@ pub enum Expr {
 
 /// What an entry of FROM takes its rows from: a relation of the schema, or a subquery.
 #[cycle(sql)]
-#[derive(Debug, Drop)]
+#[derive(Drop)]
 pub enum Source {
     Named { name: Name, at: u32 },
     Query { query: Boxed<Query> },
@@ -112,7 +113,7 @@ pub enum Source {
 
 /// An entry of FROM. `at` is the place of its alias, or of its name where no alias is written.
 #[cycle(sql)]
-#[derive(Debug, Drop)]
+#[derive(Drop)]
 pub struct Entry {
     pub source: Source,
     /// The name of its table where no alias is written.
@@ -125,7 +126,7 @@ pub struct Entry {
 
 /// An item of SELECT.
 #[cycle(sql)]
-#[derive(Debug, Drop)]
+#[derive(Drop)]
 pub enum Item {
     /// `*`
     Star { at: u32 },
@@ -136,7 +137,7 @@ pub enum Item {
 
 /// A query specification (SQL, ISO/IEC 9075-2, 7.12).
 #[cycle(sql)]
-#[derive(Debug, Drop)]
+#[derive(Drop)]
 pub struct Block {
     pub distinct: bool,
     pub items: List<Item>,
@@ -150,7 +151,7 @@ pub struct Block {
 
 /// A query expression (SQL, ISO/IEC 9075-2, 7.13).
 #[cycle(sql)]
-#[derive(Debug, Drop)]
+#[derive(Drop)]
 pub enum Query {
     Block {
         block: Boxed<Block>,

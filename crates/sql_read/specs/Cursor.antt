@@ -61,9 +61,13 @@ to_come None lexer = nothing
 to_come (Some (Ok token)) lexer = with_first (lexeme_of token) lexer
 to_come (Some (Err fault)) lexer = fault_alone fault
 
--- a text has no more bytes, so no more tokens
+-- the bytes of a text
+abbrev pub most_bytes : ℕ
+most_bytes = 1048576
+
+-- each token has a byte
 abbrev pub most_tokens : ℕ
-most_tokens = 1048576
+most_tokens = most_bytes
 
 -- the kind of the token that stands next, where one does
 abbrev pub IsKindOf : Option (Result Token LexFault) → Kind → Type 0

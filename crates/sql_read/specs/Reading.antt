@@ -272,11 +272,11 @@ enclosed_of (grouped.Expr x) = x
 
 -- one more operand of an operator
 abbrev pub operated : Reader Expr → Expr → Lexeme → Reader Expr
-operated f left sign c = f c >>= λ right. done (an_expr.Fun (t.operator (kind_of sign)) (left ∷ right ∷ []) (t.place left))
+operated f left sign c = f c >>= λ right. done (an_expr.Fun (t.operator (kind_of sign)) (left ∷ right ∷ []) (t.place_of left))
 
 abbrev pub any_of : Expr → List Expr → Expr → Expr
 any_of sought [] last = last
-any_of sought (x ∷ xs) last = an_expr.Or ((x ∷ xs) ++ last ∷ []) (t.place sought)
+any_of sought (x ∷ xs) last = an_expr.Or ((x ∷ xs) ++ last ∷ []) (t.place_of sought)
 
 -- ---- parts that open no level
 
@@ -286,7 +286,7 @@ group_by c =
 
 -- the value compared with a member: a copy of it
 unfoldable pub compared_copy : Sought → Expr → Reader Expr
-compared_copy sought member c = copied sought.weight c >>= λ u. done (an_expr.Eq sought.value member (t.place sought.value))
+compared_copy sought member c = copied sought.weight c >>= λ u. done (an_expr.Eq sought.value member (t.place_of sought.value))
 
 -- ---- what is one level deeper
 
@@ -376,13 +376,13 @@ module _ (levels : ℕ) (deeper : Deeper) where
       eaten (same k.In) c >>= on
       (λ word c. opened c >>= λ open_. closed (deeper.in_inner (record { value = left; weight = weight; in_at = word.start })) (λ x. x))
       (λ c. eaten (same k.Between) c >>= on (λ word. bounds weight left)
-      (λ c. expected (same k.Like) c >>= λ word c. value c >>= λ pattern_. done (an_expr.Pred 2 (left ∷ pattern_ ∷ []) (t.place left))))
+      (λ c. expected (same k.Like) c >>= λ word c. value c >>= λ pattern_. done (an_expr.Pred 2 (left ∷ pattern_ ∷ []) (t.place_of left))))
 
   unfoldable pub rest : ℕ → Expr → Reader Expr
   rest weight left c =
       eaten (among comparisons) c >>= on
       (λ sign c. value c >>= λ right. done (t.compared (kind_of sign) left right))
-      (λ c. eaten (same k.Not) c >>= on (λ word c. by_word weight left c >>= λ test. done (an_expr.Not test (t.place test))) (by_word weight left))
+      (λ c. eaten (same k.Not) c >>= on (λ word c. by_word weight left c >>= λ test. done (an_expr.Not test (t.place_of test))) (by_word weight left))
 
   -- the test of the value that began at the mark, if one follows
   unfoldable pub tested : Mark → Expr → Reader Expr
@@ -404,13 +404,13 @@ module _ (levels : ℕ) (deeper : Deeper) where
   neg c = eaten_within (among (k.Not ∷ [])) levels c >>= on negated tested_value
 
   unfoldable pub ands : Expr → Reader Expr
-  ands first = seen (same k.And) (λ c. repeated and_word (one_more neg) most_separators (first ∷ []) c >>= λ parts. done (an_expr.And parts (t.place first))) (done first)
+  ands first = seen (same k.And) (λ c. repeated and_word (one_more neg) most_separators (first ∷ []) c >>= λ parts. done (an_expr.And parts (t.place_of first))) (done first)
 
   unfoldable pub conj : Reader Expr
   conj c = neg c >>= ands
 
   unfoldable pub ors : Expr → Reader Expr
-  ors first = seen (same k.Or) (λ c. repeated or_word (one_more conj) most_separators (first ∷ []) c >>= λ parts. done (an_expr.Or parts (t.place first))) (done first)
+  ors first = seen (same k.Or) (λ c. repeated or_word (one_more conj) most_separators (first ∷ []) c >>= λ parts. done (an_expr.Or parts (t.place_of first))) (done first)
 
   unfoldable pub expr : Reader Expr
   expr c = conj c >>= ors
@@ -437,7 +437,7 @@ module _ (levels : ℕ) (deeper : Deeper) where
   -- the members of a list of IN behind the first
   unfoldable pub members : Sought → Expr → Reader Expr
   members sought first c =
-      repeated comma (next_member sought) most_separators ([], first) c >>= λ found. done (any_of sought.value found.0 (an_expr.Eq sought.value found.1 (t.place sought.value)))
+      repeated comma (next_member sought) most_separators ([], first) c >>= λ found. done (any_of sought.value found.0 (an_expr.Eq sought.value found.1 (t.place_of sought.value)))
 
   -- ---- items
 
@@ -570,7 +570,7 @@ module _ (levels : ℕ) (deeper : Deeper) where
 
   -- the value sought in a query
   abbrev in_query : Sought → Query → Reader Expr
-  in_query sought q = done (an_expr.In sought.value q (t.place sought.value) sought.in_at)
+  in_query sought q = done (an_expr.In sought.value q (t.place_of sought.value) sought.in_at)
 
   unfoldable pub in_after_query : Sought → Mark → Query → ℕ → Reader Expr
   in_after_query sought start q at =

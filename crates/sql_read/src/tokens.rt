@@ -53,14 +53,14 @@ impl<'a> Model for Tokens<'a> {
 impl<'a> Tokens<'a> {
     ghost use Rattle.sql_lex.specs.Tokens.{Lexes};
     ghost use Rattle.sql_grammar.specs.Kinds.{kind_of};
-    ghost use Rattle.sql_read.specs.Cursor.{behind_next, first, lent, lexeme_ahead, most_tokens, next_of, numbers_of};
+    ghost use Rattle.sql_read.specs.Cursor.{behind_next, first, lent, lexeme_ahead, most_bytes, most_tokens, next_of, numbers_of};
     ghost use Rattle.sql_grammar.specs.QueryCopies.{most_copies};
     ghost use Rattle.sql_grammar.specs.Numbering.{first_numbers};
     ghost use Rattle.sql_read.specs.Refusals.{refusal};
 
     /// Before the first token of the text.
     pub fn new(alloc: Global, text: &'a [u8]) -> Result<Tokens<'a>, NoMemory>
-        requires { length text.now ≤ 1048576 }
+        requires { length text.now ≤ most_bytes }
         ensures tokens { IfOk result (λ tokens. Lexes 0 text.now tokens.tokens tokens.fault) }
         ensures end { IfOk result (λ tokens. tokens.end ≡ length text.now) }
         ensures numbers { IfOk result (λ tokens. tokens.numbers ≡ first_numbers) }

@@ -3,11 +3,11 @@ ghost use Rattle.std.specs.Prelude.{◌≡◌, ◌<◌, ◌^◌, [], ◌∷◌, 
 ghost use Rattle.sql_lex.specs.Lexemes.{lexeme_of};
 ghost use Rattle.sql_model.specs.declared.tree.Query.TheVariants as a_query;
 ghost use Rattle.sql_model.specs.declared.tree.Expr.TheVariants as an_expr;
-ghost use Rattle.sql_grammar.specs.QueryTrees.{bounds, column, compared, operator, place};
+ghost use Rattle.sql_grammar.specs.QueryTrees.{bounds, column, compared, operator, place_of};
 
 use crate::tokens::place;
 use crate::values::name_in;
-use plain_data::{Boxed, List, Shared};
+use plain_data::{Boxed, List, Shared, SharedList};
 use sql_grammar::Kind;
 use sql_lex::Token;
 use sql_model::{Expr, NoMemory, Query, SetOp};
@@ -34,7 +34,7 @@ pub fn set_query(
 /// The place of an expression: that of its first operand in the text, or of its operator where that comes first.
 #[tactic(auto, unfolding(sql_model::specs::Compute::everything))]
 pub fn place_of(expr: &Expr) -> u32
-    ensures { result ≡ place expr.now }
+    ensures { result ≡ place_of expr.now }
 {
     match expr {
         Expr::Col {
@@ -70,23 +70,24 @@ fn two_parts(alloc: Global, left: Expr, right: Expr) -> Result<List<Expr>, NoMem
     Ok(List::from_vec(vec![in alloc; left, right]?))
 }
 
-/// `left = right`, where others may have the same left side.
-pub fn equal(alloc: Global, left: Shared<Expr>, right: Expr) -> Result<Expr, NoMemory>
-    ensures { IfOk result (λ expr. expr ≡ an_expr.Eq left right (place left)) }
+/// `left = right`. Others may have the same left side.
+pub fn equal(alloc: Global, left: &Shared<Expr>, right: Expr) -> Result<Expr, NoMemory>
+    ensures { IfOk result (λ expr. expr ≡ an_expr.Eq left.now right (place_of left.now)) }
 {
     let at = place_of(left.get());
+    let right = Boxed::new(alloc, right)?;
     Ok(Expr::Eq {
-        left,
-        right: Boxed::new(alloc, right)?,
+        left: left.share()?,
+        right,
         at,
     })
 }
 
 /// `left = right`
 fn equality(alloc: Global, left: Expr, right: Expr) -> Result<Expr, NoMemory>
-    ensures { IfOk result (λ expr. expr ≡ an_expr.Eq left right (place left)) }
+    ensures { IfOk result (λ expr. expr ≡ an_expr.Eq left right (place_of left)) }
 {
-    equal(alloc, Shared::new(alloc, left)?, right)
+    equal(alloc, &Shared::new(alloc, left)?, right)
 }
 
 /// The predicate of this number on the two in this order, at the place of one of them.
@@ -102,7 +103,7 @@ fn predicate(alloc: Global, sym: u32, first: Expr, second: Expr, at: u32) -> Res
 
 /// A `NOT` around the part, at the part's place.
 pub fn negated(alloc: Global, part: Expr) -> Result<Expr, NoMemory>
-    ensures { IfOk result (λ expr. expr ≡ an_expr.Not part (place part)) }
+    ensures { IfOk result (λ expr. expr ≡ an_expr.Not part (place_of part)) }
 {
     let at = place_of(&part);
     Ok(Expr::Not {
@@ -123,7 +124,7 @@ pub fn not_at(alloc: Global, part: Expr, at: u32) -> Result<Expr, NoMemory>
 
 /// `left LIKE right`
 pub fn like(alloc: Global, left: Expr, right: Expr) -> Result<Expr, NoMemory>
-    ensures { IfOk result (λ expr. expr ≡ an_expr.Pred 2 (left ∷ right ∷ []) (place left)) }
+    ensures { IfOk result (λ expr. expr ≡ an_expr.Pred 2 (left ∷ right ∷ []) (place_of left)) }
 {
     let at = place_of(&left);
     predicate(alloc, 2, left, right, at)
@@ -144,22 +145,24 @@ pub fn compared(alloc: Global, sign: Kind, left: Expr, right: Expr) -> Result<Ex
     }
 }
 
-/// `low <= value`, at the place of the value.
-pub fn at_most(alloc: Global, low: Expr, value: Expr) -> Result<Expr, NoMemory>
-    ensures { IfOk result (λ expr. expr ≡ an_expr.Pred 1 (low ∷ value ∷ []) (place value)) }
+/// `value <= high`, of a copy of the value.
+fn at_most(alloc: Global, value: &Expr, high: Expr) -> Result<Expr, NoMemory>
+    ensures { IfOk result (λ expr. expr ≡ an_expr.Pred 1 (value.now ∷ high ∷ []) (place_of value.now)) }
 {
-    let at = place_of(&value);
-    predicate(alloc, 1, low, value, at)
+    let copy = value.copy(alloc)?;
+    predicate(alloc, 1, copy, high, place_of(value))
 }
 
-/// `value BETWEEN low AND high`, where `above` is `low <= value`.
-pub fn between(alloc: Global, above: Expr, value: Expr, high: Expr) -> Result<Expr, NoMemory>
-    ensures { IfOk result (λ expr. (low : _) → above ≡ an_expr.Pred 1 (low ∷ value ∷ []) (place value) → expr ≡ bounds value low high) }
+/// `value BETWEEN low AND high`
+pub fn between(alloc: Global, value: Expr, low: Expr, high: Expr) -> Result<Expr, NoMemory>
+    ensures { IfOk result (λ expr. expr ≡ bounds value low high) }
 {
     let at = place_of(&value);
-    let below = predicate(alloc, 1, value, high, at)?;
+    let below = at_most(alloc, &value, high)?;
+    let above = predicate(alloc, 1, low, value, at)?;
+    let parts = two_parts(alloc, above, below)?;
     Ok(Expr::And {
-        parts: two_parts(alloc, above, below)?,
+        parts: SharedList::new(alloc, parts)?,
         at,
     })
 }
@@ -179,7 +182,7 @@ fn operator_number(sign: Kind) -> u32
 
 /// An operator on two values.
 pub fn operated(alloc: Global, sign: Kind, left: Expr, right: Expr) -> Result<Expr, NoMemory>
-    ensures { IfOk result (λ expr. expr ≡ an_expr.Fun (operator sign) (left ∷ right ∷ []) (place left)) }
+    ensures { IfOk result (λ expr. expr ≡ an_expr.Fun (operator sign) (left ∷ right ∷ []) (place_of left)) }
 {
     let at = place_of(&left);
     Ok(Expr::Fun {
@@ -213,16 +216,17 @@ pub fn subquery(alloc: Global, query: Query, at: u32) -> Result<Expr, NoMemory>
 /// `value IN (query)`, with the place of its word.
 pub fn in_query(
     alloc: Global,
-    value: Shared<Expr>,
+    value: &Shared<Expr>,
     query: Query,
     in_at: u32,
 ) -> Result<Expr, NoMemory>
-    ensures { IfOk result (λ expr. expr ≡ an_expr.In value query (place value) in_at) }
+    ensures { IfOk result (λ expr. expr ≡ an_expr.In value.now query (place_of value.now) in_at) }
 {
     let at = place_of(value.get());
+    let query = Boxed::new(alloc, query)?;
     Ok(Expr::In {
-        value,
-        query: Boxed::new(alloc, query)?,
+        value: value.share()?,
+        query,
         at,
         in_at,
     })

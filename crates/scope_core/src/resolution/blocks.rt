@@ -5,7 +5,7 @@ ghost use Rattle.scope_core.specs.Answer.{IsCause};
 ghost use Rattle.scope_core.specs.FirstFault.{fault_at};
 ghost use Rattle.scope_core.specs.Held.{columns_held};
 ghost use Rattle.scope_core.specs.Lent.{entries_headings, headings_of, levels_of, relations_of};
-ghost use Rattle.scope_core.specs.Parts.{block_fault, entries_fault, entries_listed, item_fault, items_fault, items_listed, on_fault, on_listed, source_fault};
+ghost use Rattle.scope_core.specs.Parts.{block_fault, entries_fault, entries_listed, filter_fault, filter_listed, from_headings, grouping_over, item_fault, items_fault, items_listed, on_fault, on_listed, output_fault, output_having, output_items, source_fault};
 ghost use Rattle.scope_core.specs.Resolving.{resolved_block, resolved_item, resolved_source};
 ghost use Rattle.scope_core.specs.Scope.{no_entry};
 ghost use Rattle.scope_core.specs.Sites.{AnAlias};
@@ -22,7 +22,7 @@ use crate::items::Items;
 use crate::level::{Levels, Sight};
 use crate::output::{Projection, named_columns};
 use crate::star::{add_alias_star, add_star};
-use crate::tree::{RBlock, RCond, REntry, RSource, RVal};
+use crate::tree::{Grouping, RBlock, RCond, REntry, RSource, RVal};
 use plain_data::List;
 use sql_model::{Block, Entry, Item, Query, Source};
 use std::alloc::Global;
@@ -42,40 +42,98 @@ pub fn resolve_block<'k, 'a>(
     ensures columns { IfOk result (λ v. v.columns ≡ block_columns block.now (headings_of known.now)) }
     ensures err { IfErr result (λ f. IsCause f (block_fault (relations_of known.now) (levels_of levels.now) block.now)) }
 {
-    let entries = block.entries.as_slice();
-    let from = resolve_entries(alloc, entries, &*known, &*levels)?;
+    let from = resolve_entries(alloc, block.entries.as_slice(), &*known, &*levels)?;
     let headings = from.headings.as_slice();
-    let mut conds = Vec::new(alloc);
-    add_on_conditions(&mut conds, alloc, entries, headings, &*known, &*levels)?;
-    let rows = Levels::Block {
-        first: 0,
-        headings: headings,
-        sight: Sight::Rows,
-        outer: &*levels,
-    };
-    add_written(&mut conds, alloc, &block.cond, &*known, &rows)?;
-    let one_group = is_one_group(block.items.as_slice(), &block.having);
-    let grouping = resolve_grouping(alloc, &block.groups, one_group, headings, &*levels)?;
-    let output = Levels::Block {
-        first: 0,
-        headings: headings,
-        sight: sight_by(&grouping),
-        outer: &*levels,
-    };
-    let items = resolve_items(alloc, block.items.as_slice(), &*known, &output)?;
-    let having = resolve_having(alloc, &block.having, &*known, &output)?;
-    let width = items.len();
+    let conds = resolve_filter(alloc, block, headings, &*known, &*levels)?;
+    let output = resolve_output(alloc, block, headings, &*known, &*levels)?;
+    let width = output.items.len();
     let tree = RBlock {
         distinct: block.distinct,
         entries: from.entries,
-        conds: List::from_vec(conds),
-        grouping,
-        having,
-        items,
+        conds,
+        grouping: output.grouping,
+        having: output.having,
+        items: output.items,
     };
     Ok(Projected {
         tree,
         columns: Projection::new(block.items.as_slice(), from.headings, width),
+    })
+}
+
+/// What the rows of a block's entries have to meet: the conjuncts of ON and WHERE.
+#[cycle(resolve)]
+#[inline(never)]
+#[tactic(auto, using(crate::proofs::Blocks::filter))]
+fn resolve_filter<'s, 'k, 'a>(
+    alloc: Global,
+    block: &'a Block,
+    headings: &'s [Heading<'k, 'a>],
+    known: &'k [Known<'a>],
+    levels: &'s Levels<'s, 'k, 'a>,
+) -> Result<List<RCond>, ScopeFault>
+    requires { headings.now ≡ from_headings block.now (headings_of known.now) }
+    ensures fine { IfOk result (λ v. filter_fault (relations_of known.now) (levels_of levels.now) block.now headings.now ≡ None) }
+    ensures value { IfOk result (λ v. v ≡ filter_listed (relations_of known.now) (levels_of levels.now) block.now headings.now) }
+    ensures err { IfErr result (λ f. IsCause f (filter_fault (relations_of known.now) (levels_of levels.now) block.now headings.now)) }
+{
+    let mut conditions = Vec::new(alloc);
+    add_on_conditions(
+        &mut conditions,
+        alloc,
+        block.entries.as_slice(),
+        headings,
+        known,
+        &*levels,
+    )?;
+    let rows = Levels::Block {
+        first: 0,
+        headings,
+        sight: Sight::Rows,
+        outer: levels,
+    };
+    add_written(&mut conditions, alloc, &block.cond, known, &rows)?;
+    Ok(List::from_vec(conditions))
+}
+
+/// What a block makes of the rows that are left: their groups, those of them that HAVING keeps, and the items.
+#[derive(Drop)]
+struct Output {
+    grouping: Grouping,
+    items: Items<RVal>,
+    having: Option<RCond>,
+}
+
+#[cycle(resolve)]
+#[inline(never)]
+#[tactic(auto, using(crate::proofs::Blocks::outputs))]
+fn resolve_output<'s, 'k, 'a>(
+    alloc: Global,
+    block: &'a Block,
+    headings: &'s [Heading<'k, 'a>],
+    known: &'k [Known<'a>],
+    levels: &'s Levels<'s, 'k, 'a>,
+) -> Result<Output, ScopeFault>
+    ensures fine { IfOk result (λ v. output_fault (relations_of known.now) (levels_of levels.now) block.now headings.now ≡ None) }
+    ensures grouping { IfOk result (λ v. v.grouping ≡ grouping_over block.now headings.now) }
+    ensures items { IfOk result (λ v. v.items ≡ output_items (relations_of known.now) (levels_of levels.now) block.now headings.now) }
+    ensures having { IfOk result (λ v. v.having ≡ output_having (relations_of known.now) (levels_of levels.now) block.now headings.now) }
+    ensures err { IfErr result (λ f. IsCause f (output_fault (relations_of known.now) (levels_of levels.now) block.now headings.now)) }
+{
+    let one_group = is_one_group(block.items.as_slice(), &block.having);
+    let grouping = resolve_grouping(alloc, &block.groups, one_group, &*headings, &*levels)?;
+    let output = Levels::Block {
+        first: 0,
+        headings: &*headings,
+        sight: sight_by(&grouping),
+        outer: &*levels,
+    };
+    let items = resolve_items(alloc, block.items.as_slice(), known, &output)?;
+    let having = resolve_having(alloc, &block.having, known, &output)?;
+    Ok(Output {
+        grouping,
+        items,
+        having,
     })
 }
 

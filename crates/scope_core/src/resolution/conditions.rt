@@ -1,10 +1,10 @@
 //! Conditions, and the lists of their conjuncts.
-ghost use Rattle.std.specs.Prelude.{◌≡◌, ◌++◌, OnOk, IfOk, IfErr, IfSome, None};
+ghost use Rattle.std.specs.Prelude.{◌≡◌, ◌++◌, ◌∷◌, [], OnOk, IfOk, IfErr, IfSome, None};
 ghost use Rattle.sql_model.specs.declared.tree.Expr.TheVariants as expr;
 ghost use Rattle.scope_core.specs.declared.tree.RCond.TheVariants as condition;
 ghost use Rattle.scope_core.specs.Answer.{IsCause};
 ghost use Rattle.scope_core.specs.Lent.{levels_of, relations_of};
-ghost use Rattle.scope_core.specs.Parts.{conditions_listed, conjuncts_listed, truth_fault, truths_fault, value_fault, values_fault, values_listed, written_fault, written_listed, having_listed};
+ghost use Rattle.scope_core.specs.Parts.{AreBounds, AreBoundsOfOne, conditions_listed, conjuncts_listed, truth_fault, truths_fault, value_fault, values_fault, values_listed, written_fault, written_listed, having_listed};
 ghost use Rattle.scope_core.specs.Resolving.{conjunction, conjuncts, resolved, resolved_value};
 
 use super::check_subquery;
@@ -36,6 +36,41 @@ impl Operand {
             expr: self.expr.share()?,
             value: self.value.share()?,
         })
+    }
+}
+
+/// Two predicates, as those that BETWEEN stands for: each by its number in `Symbols`, and its arguments.
+#[derive(Drop)]
+struct Bounds<'a> {
+    above: u32,
+    low: &'a [Expr],
+    below: u32,
+    high: &'a [Expr],
+}
+
+/// The two predicates that these parts are.
+fn bounds_in(parts: &[Expr]) -> Option<Bounds<'_>>
+    ensures { IfSome result (λ b. AreBounds b.above b.low.now b.below b.high.now parts.now) }
+{
+    match parts {
+        [
+            Expr::Pred {
+                sym: above,
+                args: low,
+                ..
+            },
+            Expr::Pred {
+                sym: below,
+                args: high,
+                ..
+            },
+        ] => Some(Bounds {
+            above: *above,
+            low: low.as_slice(),
+            below: *below,
+            high: high.as_slice(),
+        }),
+        _ => None,
     }
 }
 
@@ -146,7 +181,7 @@ fn resolve_and<'k, 'a>(
     ensures err { IfErr result (λ f. IsCause f (truths_fault (relations_of known.now) (levels_of levels.now) parts.now)) }
 {
     let mut conditions = Vec::new(alloc);
-    add_conjuncts_of_each(&mut conditions, alloc, parts, known, levels)?;
+    add_parts(&mut conditions, alloc, parts, known, levels)?;
     Ok(conjunction(conditions))
 }
 
@@ -262,13 +297,114 @@ fn add_conjuncts<'k, 'a>(
     ensures err { IfErr result (λ f. IsCause f (truth_fault (relations_of known.now) (levels_of levels.now) expr.now)) }
 {
     match conjuncts_of(expr) {
-        Some(parts) => add_conjuncts_of_each(conditions, alloc, parts, known, levels),
+        Some(parts) => add_parts(conditions, alloc, parts, known, levels),
         None => {
             let condition = resolve_condition(alloc, expr, known, levels)?;
             conditions.push(condition)?;
             Ok(())
         }
     }
+}
+
+/// Appends the conjuncts of an AND's parts.
+#[cycle(resolve)]
+#[inline(never)]
+#[tactic(auto, using(crate::proofs::Conditions::laws))]
+fn add_parts<'k, 'a>(
+    conditions: &mut Vec<RCond>,
+    alloc: Global,
+    parts: &'a [Expr],
+    known: &'k [Known<'a>],
+    levels: &Levels<'_, 'k, 'a>,
+) -> Result<(), ScopeFault>
+    ensures fine { OnOk result (truths_fault (relations_of known.now) (levels_of levels.now) parts.now ≡ None) }
+    ensures value { OnOk result (conditions.new.items ≡ conditions.old.items ++ conjuncts_listed (relations_of known.now) (levels_of levels.now) parts.now) }
+    ensures err { IfErr result (λ f. IsCause f (truths_fault (relations_of known.now) (levels_of levels.now) parts.now)) }
+{
+    let Some(bounds) = bounds_in(parts) else {
+        return add_conjuncts_of_each(conditions, alloc, parts, known, levels);
+    };
+    let low = resolve_values(alloc, bounds.low, known, levels)?;
+    let high = resolve_behind(
+        alloc,
+        bounds.high,
+        bounds.low,
+        low.as_slice(),
+        known,
+        levels,
+    )?;
+    push_predicates(conditions, (bounds.above, low), (bounds.below, high))?;
+    Ok(())
+}
+
+/// The arguments of a predicate behind another one with these, which are resolved. A value between two bounds is the last of these and
+/// the first of its own, and is not resolved again. Both are compared once they are known to be values.
+#[cycle(resolve)]
+#[inline(never)]
+#[tactic(auto, using(crate::proofs::Values::laws))]
+fn resolve_behind<'k, 'a>(
+    alloc: Global,
+    args: &'a [Expr],
+    before: &'a [Expr],
+    resolved: &[RVal],
+    known: &'k [Known<'a>],
+    levels: &Levels<'_, 'k, 'a>,
+) -> Result<List<RVal>, ScopeFault>
+    requires fine { values_fault (relations_of known.now) (levels_of levels.now) before.now ≡ None }
+    requires value { resolved.now ≡ values_listed (relations_of known.now) (levels_of levels.now) before.now }
+    ensures fine { IfOk result (λ vs. values_fault (relations_of known.now) (levels_of levels.now) args.now ≡ None) }
+    ensures value { IfOk result (λ vs. vs ≡ values_listed (relations_of known.now) (levels_of levels.now) args.now) }
+    ensures err { IfErr result (λ f. IsCause f (values_fault (relations_of known.now) (levels_of levels.now) args.now)) }
+{
+    let Some(high) = high_bound(before, args) else {
+        return resolve_values(alloc, args, known, levels);
+    };
+    let [_, value] = resolved else {
+        return resolve_values(alloc, args, known, levels);
+    };
+    let high = resolve_value(alloc, high, known, levels)?;
+    Ok(copied_before(alloc, value, high)?)
+}
+
+/// The high bound in the arguments of the second of two predicates, where the value that it bounds ends those of the first.
+fn high_bound<'a>(before: &'a [Expr], args: &'a [Expr]) -> Option<&'a Expr>
+    ensures { IfSome result (λ high. AreBoundsOfOne before.now args.now high.now) }
+{
+    let ([_, value], [again, high]) = (before, args) else {
+        return None;
+    };
+    if !value.is_same(again) {
+        return None;
+    }
+    Some(high)
+}
+
+/// A copy of a value, and another one behind it.
+fn copied_before(alloc: Global, value: &RVal, behind: RVal) -> Result<List<RVal>, NoMemory>
+    ensures { IfOk result (λ pair. pair ≡ value.now ∷ behind ∷ []) }
+{
+    let value = value.copy(alloc)?;
+    Ok(List::from_vec(vec![in alloc; value, behind]?))
+}
+
+/// Appends two predicates, each by its number and its arguments.
+fn push_predicates(
+    conditions: &mut Vec<RCond>,
+    first: (u32, List<RVal>),
+    second: (u32, List<RVal>),
+) -> Result<(), NoMemory>
+    ensures { OnOk result (conditions.new.items ≡ conditions.old.items ++ condition.Pred first.0 first.1 ∷ condition.Pred second.0 second.1 ∷ []) }
+{
+    conditions.reserve(2)?;
+    conditions.push_reserved(RCond::Pred {
+        sym: first.0,
+        args: first.1,
+    });
+    conditions.push_reserved(RCond::Pred {
+        sym: second.0,
+        args: second.1,
+    });
+    Ok(())
 }
 
 #[cycle(resolve)]

@@ -17,19 +17,19 @@ use crate::fault::ScopeFault;
 use crate::heading::Known;
 use crate::level::Levels;
 use crate::tree::{RBlock, RQuery};
-use plain_data::Boxed;
+use plain_data::{Boxed, Shared};
 use sql_model::{Block, Query, SetOp};
 use std::alloc::Global;
 
 #[cycle(resolve)]
 #[inline(never)]
 #[tactic(auto, using(crate::proofs::Values::laws))]
-pub fn resolve_boxed_block<'k, 'a>(
+pub fn resolve_shared_block<'k, 'a>(
     alloc: Global,
     block: &'a Boxed<Block>,
     known: &'k [Known<'a>],
     levels: &Levels<'_, 'k, 'a>,
-) -> Result<Projected<'k, 'a, Boxed<RBlock>>, ScopeFault>
+) -> Result<Projected<'k, 'a, Shared<RBlock>>, ScopeFault>
     ensures fine { IfOk result (λ v. block_fault (relations_of known.now) (levels_of levels.now) block.now ≡ None) }
     ensures value { IfOk result (λ v. v.tree ≡ resolved_block block.now (relations_of known.now) (levels_of levels.now)) }
     ensures columns { IfOk result (λ v. v.columns ≡ block_columns block.now (headings_of known.now)) }
@@ -37,7 +37,7 @@ pub fn resolve_boxed_block<'k, 'a>(
 {
     let block = resolve_block(alloc, block.get(), known, levels)?;
     Ok(Projected {
-        tree: Boxed::new(alloc, block.tree)?,
+        tree: Shared::new(alloc, block.tree)?,
         columns: block.columns,
     })
 }
@@ -95,7 +95,7 @@ fn resolve_block_query<'k, 'a>(
     ensures columns { IfOk result (λ v. v.columns ≡ block_columns block.now (headings_of known.now)) }
     ensures err { IfErr result (λ f. IsCause f (block_fault (relations_of known.now) (levels_of levels.now) block.now)) }
 {
-    let block = resolve_boxed_block(alloc, block, known, levels)?;
+    let block = resolve_shared_block(alloc, block, known, levels)?;
     let tree = RQuery::Block { block: block.tree };
     Ok(Projected {
         tree: Boxed::new(alloc, tree)?,

@@ -7,7 +7,7 @@ ghost use Rattle.scope_core.specs.Parts.{value_fault, values_fault, values_liste
 ghost use Rattle.scope_core.specs.Resolving.{resolved_value};
 
 use super::check_subquery;
-use super::queries::resolve_boxed_block;
+use super::queries::resolve_shared_block;
 use crate::checks::is_scalar;
 use crate::column::resolve_column;
 use crate::fault::{ScopeCode, ScopeFault, refused};
@@ -145,7 +145,7 @@ fn resolve_scalar<'k, 'a>(
             if !is_scalar(block.get()) {
                 return Err(refused(ScopeCode::ScalarNotAggregate, at));
             }
-            let block = resolve_boxed_block(alloc, block, known, levels)?;
+            let block = resolve_shared_block(alloc, block, known, levels)?;
             Ok(RVal::Sub { block: block.tree })
         }
         Query::Set { .. } => Err(refused(ScopeCode::ScalarNotAggregate, at)),

@@ -159,16 +159,16 @@ module _ (literal : ℕ → ℕ → Type 0) (entries : ℕ → Type 0) (m : ℕ)
       let r = sets_keep ps (mapped (λ q. query_tree.Set p.0.0 q.0 q.1 p.0.1) (both left p.1)) in
       (λ f. r.0 (n.0 (f.0, f.1.0), f.1.1), λ o. let g = r.1 o in let h = n.1 g.0 in (h.0, (h.1, g.1)))
 
-  operation_keeps : (symbol : ℕ) → Keeps (pair AnExpr AnExpr) (λ v. mapped (λ q. expr_tree.Fun symbol (q.0 ∷ q.1 ∷ []) (t.place q.0)) (both v.0 v.1)) AnExpr
+  operation_keeps : (symbol : ℕ) → Keeps (pair AnExpr AnExpr) (λ v. mapped (λ q. expr_tree.Fun symbol (q.0 ∷ q.1 ∷ []) (t.place_of q.0)) (both v.0 v.1)) AnExpr
   unfolding everything Everywhere
-  operation_keeps symbol = both_keep exprs exprs exprs (λ q. expr_tree.Fun symbol (q.0 ∷ q.1 ∷ []) (t.place q.0)) (λ l e q. (λ f. (f.0, (f.1, tt)), λ f. (f.0, f.1.0)))
+  operation_keeps symbol = both_keep exprs exprs exprs (λ q. expr_tree.Fun symbol (q.0 ∷ q.1 ∷ []) (t.place_of q.0)) (λ l e q. (λ f. (f.0, (f.1, tt)), λ f. (f.0, f.1.0)))
 
   operated_keeps : (ps : List (Lexeme × Built Expr)) (left : Built Expr)
       → (AnExpr.always left × Each (λ p. AnExpr.always p.1) ps → AnExpr.always (t.operated left ps)) × (AnExpr.once (t.operated left ps) → AnExpr.once left × Each (λ p. AnExpr.once p.1) ps)
   operated_keeps [] left = (λ f. f.0, λ o. (o, tt))
   operated_keeps (p ∷ ps) left =
       let n = operation_keeps (t.operator (kind_of p.0)) (left, p.1) in
-      let r = operated_keeps ps (mapped (λ q. expr_tree.Fun (t.operator (kind_of p.0)) (q.0 ∷ q.1 ∷ []) (t.place q.0)) (both left p.1)) in
+      let r = operated_keeps ps (mapped (λ q. expr_tree.Fun (t.operator (kind_of p.0)) (q.0 ∷ q.1 ∷ []) (t.place_of q.0)) (both left p.1)) in
       (λ f. r.0 (n.0 (f.0, f.1.0), f.1.1), λ o. let g = r.1 o in let h = n.1 g.0 in (h.0, (h.1, g.1)))
 
   -- a node of a chain, as AND and OR are
@@ -186,7 +186,7 @@ module _ (literal : ℕ → ℕ → Type 0) (entries : ℕ → Type 0) (m : ℕ)
   chained_keeps : (node : List Expr → ℕ → Expr) → HoldsOf node → Keeps (pair AnExpr (all AnExpr)) (t.chained node) AnExpr
   chained_keeps node g (x, []) = (λ f. f.0, λ o. (o, tt))
   chained_keeps node g (x, next ∷ others) =
-      let n = both_keep exprs rows exprs (λ p. node (p.0 ∷ p.1) (t.place p.0)) (λ l e p. g l e (p.0 ∷ p.1) (t.place p.0)) (x, each (next ∷ others)) in
+      let n = both_keep exprs rows exprs (λ p. node (p.0 ∷ p.1) (t.place_of p.0)) (λ l e p. g l e (p.0 ∷ p.1) (t.place_of p.0)) (x, each (next ∷ others)) in
       (λ f. n.0 (f.0, fit_each (next ∷ others) f.1), λ o. let b = n.1 o in (b.0, once_each (next ∷ others) b.1))
 
   -- ---- tests
@@ -206,7 +206,7 @@ module _ (literal : ℕ → ℕ → Type 0) (entries : ℕ → Type 0) (m : ℕ)
 
   in_query_tests : (word : Option Lexeme) (in_word : Lexeme) → Tests AQuery (t.in_query word in_word)
   unfolding everything Everywhere
-  in_query_tests word in_word q left = tested_keeps queries word (λ p. expr_tree.In p.0 p.1 (t.place p.0) in_word.start) (λ l e p. (λ f. f, λ f. f)) (left.0, q)
+  in_query_tests word in_word q left = tested_keeps queries word (λ p. expr_tree.In p.0 p.1 (t.place_of p.0) in_word.start) (λ l e p. (λ f. f, λ f. f)) (left.0, q)
 
   in_list_tests : (word : Option Lexeme) → Tests (pair AnExpr (all AnExpr)) (t.in_list word)
   in_list_tests word members left =
@@ -230,7 +230,7 @@ module _ (literal : ℕ → ℕ → Type 0) (entries : ℕ → Type 0) (m : ℕ)
 
   like_tests : (word : Option Lexeme) → Tests AnExpr (t.like word)
   unfolding everything Everywhere
-  like_tests word right left = tested_keeps exprs word (λ p. expr_tree.Pred 2 (p.0 ∷ p.1 ∷ []) (t.place p.0)) (λ l e p. (λ f. (f.0, (f.1, tt)), λ f. (f.0, f.1.0))) (left.0, right)
+  like_tests word right left = tested_keeps exprs word (λ p. expr_tree.Pred 2 (p.0 ∷ p.1 ∷ []) (t.place_of p.0)) (λ l e p. (λ f. (f.0, (f.1, tt)), λ f. (f.0, f.1.0))) (left.0, right)
 
   -- ---- calls
 

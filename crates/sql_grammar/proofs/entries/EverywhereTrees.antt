@@ -22,11 +22,11 @@ use Rattle.sql_grammar.specs.QueryTrees.{Listed}
 abbrev pub row_of : (exprs : List Expr) → n.Exprs (n.long (node.shape-the_row-Expr-0 exprs))
 row_of exprs = node.hidden-the_row-Expr-0 exprs
 
-abbrev items_row : (items : List Item) → n.Items (n.long (node.shape-the_row-Item-5 items))
-items_row items = node.hidden-the_row-Item-5 items
+abbrev items_row : (items : List Item) → n.Items (n.long (node.shape-the_row-Item-6 items))
+items_row items = node.hidden-the_row-Item-6 items
 
-abbrev entries_row : (entries : List Entry) → n.Entries (n.long (node.shape-the_row-Entry-6 entries))
-entries_row entries = node.hidden-the_row-Entry-6 entries
+abbrev entries_row : (entries : List Entry) → n.Entries (n.long (node.shape-the_row-Entry-7 entries))
+entries_row entries = node.hidden-the_row-Entry-7 entries
 
 -- P holds of it, where it is there
 abbrev pub Perhaps : {X : Type 0} → (X → Type 0) → Option X → Type 0
@@ -38,8 +38,8 @@ abbrev pub Iff : Type 0 → Type 0 → Type 0
 Iff A B = (A → B) × (B → A)
 
 -- `compared` swaps its sides or not, and makes an equality, its negation or one of two comparisons
-pub compared_any : (C : Expr → Type 0) (kind : Kind) (x y : Expr) → C (expr.Eq x y (t.place x)) → C (expr.Not (expr.Eq x y (t.place x)) (t.place x))
-    → ((symbol : ℕ) → C (expr.Pred symbol (x ∷ y ∷ []) (t.place x))) → ((symbol : ℕ) → C (expr.Pred symbol (y ∷ x ∷ []) (t.place x))) → C (t.compared kind x y)
+pub compared_any : (C : Expr → Type 0) (kind : Kind) (x y : Expr) → C (expr.Eq x y (t.place_of x)) → C (expr.Not (expr.Eq x y (t.place_of x)) (t.place_of x))
+    → ((symbol : ℕ) → C (expr.Pred symbol (x ∷ y ∷ []) (t.place_of x))) → ((symbol : ℕ) → C (expr.Pred symbol (y ∷ x ∷ []) (t.place_of x))) → C (t.compared kind x y)
 compared_any C k.Equals x y equal differs straight swapped = equal
 compared_any C k.Differs x y equal differs straight swapped = differs
 compared_any C k.Less x y equal differs straight swapped = straight 0

@@ -18,7 +18,7 @@ compared_is k.Equals x y = refl
 compared_is other x y = refl
 
 abbrev step : Built Expr → Lexeme × Built Expr → Built Expr
-step x p = mapped (λ q. expr.Fun (t.operator (kind_of p.0)) (q.0 ∷ q.1 ∷ []) (t.place q.0)) (both x p.1)
+step x p = mapped (λ q. expr.Fun (t.operator (kind_of p.0)) (q.0 ∷ q.1 ∷ []) (t.place_of q.0)) (both x p.1)
 
 pub operated_is : (ps : List (Lexeme × Built Expr)) (x : Built Expr) → not_sub x ≡ true → not_sub (t.operated x ps) ≡ true
 unfolding everything

@@ -173,7 +173,7 @@ module _ (levels : ℕ) (deeper : Deeper) (d : DeeperAgrees levels deeper) where
     pub in_after_query_agrees : InAfter (in_after_query levels deeper sought start q at now)
     unfolding in_after_query
     in_after_query_agrees = by_next InAfter (among set_kinds) now
-        (λ n. makes (set_tail levels deeper q now) (λ x. an_expr.In sought.value x (t.place sought.value) sought.in_at) (mapped (first_next (among set_kinds) whole refl set_tail_begins n)) (λ v. omega (arith, value.copies))
+        (λ n. makes (set_tail levels deeper q now) (λ x. an_expr.In sought.value x (t.place_of sought.value) sought.in_at) (mapped (first_next (among set_kinds) whole refl set_tail_begins n)) (λ v. omega (arith, value.copies))
         (λ v y end u. built_in_query word before (v found) count in_at value u) (set_tail_there opening found tokens_inside middle now start q at place marked b n))
         (λ no_set. let l = other_unless (among set_kinds) (whole {start = now}) refl refl no_set in
         by_next InAfter (among tail_kinds) now
@@ -209,7 +209,7 @@ module _ (levels : ℕ) (deeper : Deeper) (d : DeeperAgrees levels deeper) where
         (λ n. let l = mapped (first_where (same kind.Select) l refl refl n) in
         then_rest (block levels deeper c) (block_agrees levels deeper d c)
         (λ first mid u. let read = u.reads.answers in
-        makes (set_tail levels deeper first mid) (λ x. an_expr.In sought.value x (t.place sought.value) sought.in_at) (second l refl u) (λ v. omega (arith, value.copies))
+        makes (set_tail levels deeper first mid) (λ x. an_expr.In sought.value x (t.place_of sought.value) sought.in_at) (second l refl u) (λ v. omega (arith, value.copies))
         (λ v y end u. built_in_query word before (v read.read) count in_at value u) (set_tail_agrees levels deeper d read.read c mid first read.builds))
         l refl fill_set_tail (λ v. omega (arith, value.copies)))
         (λ n. by_next In (same kind.Open) c

@@ -37,16 +37,16 @@ use Rattle.sql_read.proofs.steps.ReadSteps.{built_both, plain_here}
 
 -- ---- what is built
 
-equals_more : (x : Expr) (ys : List Expr) (v : Expr) → t.equals_each x (ys ++ v ∷ []) ≡ t.equals_each x ys ++ an_expr.Eq x v (t.place x) ∷ []
+equals_more : (x : Expr) (ys : List Expr) (v : Expr) → t.equals_each x (ys ++ v ∷ []) ≡ t.equals_each x ys ++ an_expr.Eq x v (t.place_of x) ∷ []
 equals_more x [] v = refl
-equals_more x (y ∷ ys) v = ap (λ z. an_expr.Eq x y (t.place x) ∷ z) (equals_more x ys v)
+equals_more x (y ∷ ys) v = ap (λ z. an_expr.Eq x y (t.place_of x) ∷ z) (equals_more x ys v)
 
-any_is : (x : Expr) (parts : List Expr) (last y : Expr) (others : List Expr) → t.equals_each x (y ∷ others) ≡ parts ++ an_expr.Eq x last (t.place x) ∷ [] → t.member x y others ≡ any_of x parts (an_expr.Eq x last (t.place x))
+any_is : (x : Expr) (parts : List Expr) (last y : Expr) (others : List Expr) → t.equals_each x (y ∷ others) ≡ parts ++ an_expr.Eq x last (t.place_of x) ∷ [] → t.member x y others ≡ any_of x parts (an_expr.Eq x last (t.place_of x))
 any_is x [] last y [] e = cc
 any_is x [] last y (z ∷ others) e = cc
 any_is x (p ∷ []) last y [] e = cc
 any_is x (p ∷ (q ∷ parts)) last y [] e = cc
-any_is x (p ∷ parts) last y (z ∷ others) e = ap (λ z. an_expr.Or z (t.place x)) e
+any_is x (p ∷ parts) last y (z ∷ others) e = ap (λ z. an_expr.Or z (t.place_of x)) e
 
 numbers_more : (before first r : Built Expr) (done : List (Built Expr)) (n now after : Numbers) (x y v : Expr) (ys : List Expr)
     → (both before (both first (each done))).build n ≡ ((x, (y, ys)), now) → r.build now ≡ (v, after)
@@ -92,10 +92,10 @@ module _ (levels : ℕ) (deeper : Deeper) (d : DeeperAgrees levels deeper) where
       others : List Expr
       numbers : (both before (both member (each done))).build began.numbers ≡ ((sought.value, (one, others)), now.numbers)
       copies : now.copies ≡ began.copies + cost done
-      members : t.equals_each sought.value (one ∷ others) ≡ found.0 ++ an_expr.Eq sought.value found.1 (t.place sought.value) ∷ []
+      members : t.equals_each sought.value (one ∷ others) ≡ found.0 ++ an_expr.Eq sought.value found.1 (t.place_of sought.value) ∷ []
 
     abbrev Tested : Reading (List Expr × Expr) → Type 0
-    Tested r = Listed (r >>= λ found. done (any_of sought.value found.0 (an_expr.Eq sought.value found.1 (t.place sought.value))))
+    Tested r = Listed (r >>= λ found. done (any_of sought.value found.0 (an_expr.Eq sought.value found.1 (t.place_of sought.value))))
 
     module _ (some : List (Built Expr)) (found : List Expr × Expr) (now : Cursor) (l : SoFar some found now) where
       members_end : Takes tails.commas levels begun.tokens some now.tokens → Extends begun now → Tested (Ok found, now)
@@ -108,14 +108,14 @@ module _ (levels : ℕ) (deeper : Deeper) (d : DeeperAgrees levels deeper) where
         still : mid.copies ≡ now.copies
         still = ap (λ z. z.copies) i.passes.moved
 
-        one_read : {paid after : Cursor} {y : Expr} (x : Built Expr) → Paid sought.weight mid paid → Builds x paid y after → SoFar (some ++ x ∷ []) (found.0 ++ an_expr.Eq sought.value found.1 (t.place sought.value) ∷ [], y) after
+        one_read : {paid after : Cursor} {y : Expr} (x : Built Expr) → Paid sought.weight mid paid → Builds x paid y after → SoFar (some ++ x ∷ []) (found.0 ++ an_expr.Eq sought.value found.1 (t.place_of sought.value) ∷ [], y) after
         one_read {after = after} {y = y} x c b = record {
           one = l.one;
           others = l.others ++ y ∷ [];
           numbers = numbers_more before member x some began.numbers now.numbers after.numbers sought.value l.one y l.others l.numbers
               (subst (λ z. x.build z ≡ (y, after.numbers)) (ap (λ z. z.numbers) c ∙ ap (λ z. z.numbers) i.passes.moved) b.numbers);
           copies = omega (arith, l.copies, b.copies, cost_one some x, still, ap (λ z. z.copies) c);
-          members = equals_more sought.value (l.one ∷ l.others) y ∙ ap (λ z. z ++ an_expr.Eq sought.value y (t.place sought.value) ∷ []) l.members;
+          members = equals_more sought.value (l.one ∷ l.others) y ∙ ap (λ z. z ++ an_expr.Eq sought.value y (t.place_of sought.value) ∷ []) l.members;
         }
 
         -- a copy passes the limit
@@ -142,9 +142,9 @@ module _ (levels : ℕ) (deeper : Deeper) (d : DeeperAgrees levels deeper) where
         (λ room now go. by_eaten_alone Tested k.Comma now room go) refl (begins_skip (same k.Comma) (ref grammar.expr)) refl (next_member levels deeper sought) SoFar (λ some x now l. l.copies) (λ some x now l room at v t. t)
         (λ some x now l none n takes e. members_end some x now l takes e)
         (λ some found now l goes room word mid i s again go.
-        by_copied (λ r. Tested ((r >>= λ equal c. expr levels deeper c >>= λ y. done (found.0 ++ equal ∷ [], y)) >>= again)) mid sought.weight (λ u. done (an_expr.Eq sought.value found.1 (t.place sought.value)))
+        by_copied (λ r. Tested ((r >>= λ equal c. expr levels deeper c >>= λ y. done (found.0 ++ equal ∷ [], y)) >>= again)) mid sought.weight (λ u. done (an_expr.Eq sought.value found.1 (t.place_of sought.value)))
         (λ paid c. let m = there (whole {N = ref grammar.expr} {start = mid}) (tokens_copied sought.weight mid paid c) (extends_copied sought.weight c) in
-        by_made Tested (Agrees (ref grammar.expr) levels (λ read. read) (λ read. read) paid paid) (expr levels deeper paid) (λ y. (found.0 ++ an_expr.Eq sought.value found.1 (t.place sought.value) ∷ [], y)) again
+        by_made Tested (Agrees (ref grammar.expr) levels (λ read. read) (λ read. read) paid paid) (expr levels deeper paid) (λ y. (found.0 ++ an_expr.Eq sought.value found.1 (t.place_of sought.value) ∷ [], y)) again
         (expr_agrees levels deeper d paid)
         (λ y after u. let read = u.reads.answers in go read.read _ after (steps.takes m.left read.takes) (m.extends ⨟ u.extends) (one_read some found now l i read.read c read.builds))
         (λ fault after u. stopped (inside s (all_left m)) (λ x. omega (arith, cost_one some x, l.copies, still some found now l i, ap (λ z. z.copies) c)) u))

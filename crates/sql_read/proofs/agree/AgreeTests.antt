@@ -77,7 +77,7 @@ negates room ts f sign left (inr (inr (u, s, e))) = subst (λ z. Negates z sign 
 
 -- what NOT makes of a test
 built_negated : {d : ℕ} {here rest : List Lexeme} {f : Option Lexeme → t.Left → Built Expr} {x : Expr} {began a : Cursor} (sign : Lexeme) (left : t.Left) → Takes plan.by_word d here f rest
-    → Builds (f None left) began x a → Builds (f (Some sign) left) began (an_expr.Not x (t.place x)) a
+    → Builds (f None left) began x a → Builds (f (Some sign) left) began (an_expr.Not x (t.place_of x)) a
 built_negated {d = d} {f = f} sign left s b = built_by (negates (Some d) s.took.taken f sign left s.took.spelled) (built_map (t.negated (Some sign)) b)
 
 -- ---- what is copied
@@ -160,12 +160,12 @@ module _ (levels : ℕ) (deeper : Deeper) (d : DeeperAgrees levels deeper) where
 
       -- LIKE stands here, or no test by a word
       like_agrees : is_next (same k.In) now.tokens ≡ false → is_next (same k.Between) now.tokens ≡ false
-          → ByWord now (expected (same k.Like) now >>= λ word c. value levels deeper c >>= λ pattern_. done (an_expr.Pred 2 (left ∷ pattern_ ∷ []) (t.place left)))
+          → ByWord now (expected (same k.Like) now >>= λ word c. value levels deeper c >>= λ pattern_. done (an_expr.Pred 2 (left ∷ pattern_ ∷ []) (t.place_of left)))
       like_agrees n m =
           let l = mapped (mapped (other_unless (same k.Between) (other_unless (same k.In) (whole {start = now}) refl refl n) refl refl m)) in
           needs l refl (fill_seq (fill_token k.Like (spelled (codes "like")) refl refl) fill_value) (omega (arith, b.copies))
-          (λ word mid i. makes (value levels deeper mid) (λ pattern_. an_expr.Pred 2 (left ∷ pattern_ ∷ []) (t.place left)) (behind l refl i) (λ v. omega (arith, b.copies, ap (λ z. z.copies) i.moved))
-          (λ v x end c. built_map (λ p. an_expr.Pred 2 (p.0 ∷ p.1 ∷ []) (t.place p.0)) (built_both b (steps.behind i c))) (value_agrees levels deeper d mid))
+          (λ word mid i. makes (value levels deeper mid) (λ pattern_. an_expr.Pred 2 (left ∷ pattern_ ∷ []) (t.place_of left)) (behind l refl i) (λ v. omega (arith, b.copies, ap (λ z. z.copies) i.moved))
+          (λ v x end c. built_map (λ p. an_expr.Pred 2 (p.0 ∷ p.1 ∷ []) (t.place_of p.0)) (built_both b (steps.behind i c))) (value_agrees levels deeper d mid))
 
     pub by_word_agrees : (now : Cursor) (left : Expr) → Builds before began left now → ByWord now (by_word levels deeper weight left now)
     unfolding by_word

@@ -5,7 +5,7 @@ use Rattle.std.proofs.lemmas.Bool.{cases_Bool, eqb-true, ltb-true}
 use native.Mathlib.Numerals.{unary_clauses}
 use Rattle.sql_grammar.specs.Kinds.{among, name_kinds, same}
 use Rattle.sql_grammar.specs.QueryEntries.{most_entries}
-use Rattle.sql_grammar.specs.QueryTrees.{place}
+use Rattle.sql_grammar.specs.QueryTrees.{place_of}
 use Rattle.sql_grammar.specs.declared.kinds.Kind.{Kind}
 use Rattle.sql_grammar.specs.declared.kinds.Kind.TheVariants as k
 use Rattle.sql_grammar.specs.declared.listed.Listed.{Listed}
@@ -81,7 +81,7 @@ module _ {A B W : Type 0} (word : ℕ → Reader (Option W)) (next : A → W →
     pub made_part_read : (y : A) (f : Cursor) → next x w d ≡ (Ok y, f) → (repeated word next (room - 1) y f >>= made) ≡ start
     made_part_read y f n = rw (part_read word next room x c _ refl w d e some y f n) same
 
-pub several : (sought : Expr) (xs : List Expr) (last : Expr) → (xs ≡ [] → ⊥) → any_of sought xs last ≡ Or (xs ++ last ∷ []) (place sought)
+pub several : (sought : Expr) (xs : List Expr) (last : Expr) → (xs ≡ [] → ⊥) → any_of sought xs last ≡ Or (xs ++ last ∷ []) (place_of sought)
 several sought [] last some = absurd (some refl)
 several sought (x ∷ xs) last some = refl
 

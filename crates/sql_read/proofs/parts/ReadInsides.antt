@@ -189,8 +189,8 @@ built_sub opening {q = q} i u = record { builds = built_as (ap (λ z. expr.Sub q
 -- ---- tests by a query
 
 pub built_in_query : (word : Lexeme) (before : Built Expr) (inside : Built Query) (count : ℕ) {at : ℕ} {began middle here : Cursor} {x : Expr} {q : Query} → word.start ≡ at → Builds before began x middle → Builds inside middle q here
-    → Builds (t.in_query None word inside (before, count)) began (expr.In x q (t.place x) at) here
-built_in_query word before inside count {x = x} {q = q} i u v = built_as (ap (λ z. expr.In x q (t.place x) z) (sym i)) (built_map (λ p. expr.In p.0 p.1 (t.place p.0) word.start) (built_both u v))
+    → Builds (t.in_query None word inside (before, count)) began (expr.In x q (t.place_of x) at) here
+built_in_query word before inside count {x = x} {q = q} i u v = built_as (ap (λ z. expr.In x q (t.place_of x) z) (sym i)) (built_map (λ p. expr.In p.0 p.1 (t.place_of p.0) word.start) (built_both u v))
 
 -- ---- a list whose first member is a query
 

@@ -15,7 +15,7 @@ use Rattle.sql_grammar.specs.declared.kinds.Kind.{Kind}
 use Rattle.sql_grammar.specs.Kinds.{among, kind_of, same}
 use Rattle.sql_grammar.specs.Numbering.{Built, both, each, mapped}
 use Rattle.sql_grammar.specs.QueryGrammar.{The, a, listed}
-use Rattle.sql_grammar.specs.QueryTrees.{chained, operated, operator, place, all_of}
+use Rattle.sql_grammar.specs.QueryTrees.{chained, operated, operator, place_of, all_of}
 use Rattle.sql_grammar.proofs.queries.QueryTable.{planned}
 use Rattle.sql_read.proofs.steps.AgreeLoops.{parts_repeat, skipped_word, token_word, each_more_same, same_by}
 use Rattle.sql_read.proofs.steps.AgreeSteps.{by_eaten_alone, none_here}
@@ -31,9 +31,9 @@ use Rattle.sql_grammar.proofs.copies.QueryFillings.{fill_none}
 -- ---- operators
 
 operated_more : (first : Built Expr) (done : List (Lexeme × Built Expr)) (t : Lexeme) (x : Built Expr)
-    → operated first (done ++ (t, x) ∷ []) ≡ mapped (λ p. an_expr.Fun (operator (kind_of t)) (p.0 ∷ p.1 ∷ []) (place p.0)) (both (operated first done) x)
+    → operated first (done ++ (t, x) ∷ []) ≡ mapped (λ p. an_expr.Fun (operator (kind_of t)) (p.0 ∷ p.1 ∷ []) (place_of p.0)) (both (operated first done) x)
 operated_more first [] t x = refl
-operated_more first (p ∷ done) t x = operated_more (mapped (λ q. an_expr.Fun (operator (kind_of p.0)) (q.0 ∷ q.1 ∷ []) (place q.0)) (both first p.1)) done t x
+operated_more first (p ∷ done) t x = operated_more (mapped (λ q. an_expr.Fun (operator (kind_of p.0)) (q.0 ∷ q.1 ∷ []) (place_of q.0)) (both first p.1)) done t x
 
 module _ (q : Kind → Bool) (g : The (Built Expr)) (levels : ℕ) (reader : Reader Expr) (agrees : (c : Cursor) → Agrees g levels (λ read. read) (λ read. read) c c (reader c))
     (o : ok planned (star None (seq (token q) g)) ≡ true) (s : ok planned (seq (token q) g) ≡ true) (w : begins_with q (ahead planned (seq (token q) g)) ≡ true) (before : Built Expr) (start begun : Cursor) where
@@ -42,7 +42,7 @@ module _ (q : Kind → Bool) (g : The (Built Expr)) (levels : ℕ) (reader : Rea
 
   pub operators_agree : (left : Expr) → Builds before start left begun → Chain (repeated (eaten_within q) (reading.operated reader) 63 left begun)
   operators_agree left b = parts_repeat begun g (λ t x. (t, x)) q (λ more. more) Chain (eaten_within q) (λ room now t mid. PassesWithin q room now t mid) (λ room now t mid i. token_word s i)
-      (λ room now go. by_eaten_within Chain q now room go) o (begins_seq q g) w reader agrees (λ x t y. an_expr.Fun (operator (kind_of t)) (x ∷ y ∷ []) (place x)) (operated before)
+      (λ room now go. by_eaten_within Chain q now room go) o (begins_seq q g) w reader agrees (λ x t y. an_expr.Fun (operator (kind_of t)) (x ∷ y ∷ []) (place_of x)) (operated before)
       (λ done t x. same_by (operated_more before done t x)) (λ done. refl)
       (λ fault end t. t) (λ done x now r first n t e. agreeing.built whole done t e r) 63 left b whole
 
@@ -53,12 +53,12 @@ chain_price node first [] = omega arith
 chain_price node first (x ∷ xs) = refl
 
 chained_built : (node : List Expr → ℕ → Expr) {first : Built Expr} {start begun now : Cursor} {x : Expr} {parts : List Expr} (done : List (Built Expr)) → (done ≡ [] → ⊥)
-    → Builds first start x begun → Builds (each (first ∷ done)) start parts now → Builds (chained node (first, done)) start (node parts (place x)) now
+    → Builds first start x begun → Builds (each (first ∷ done)) start parts now → Builds (chained node (first, done)) start (node parts (place_of x)) now
 chained_built node [] n t u = absurd (n refl)
 chained_built node {first = first} {start = start} {now = now} {parts = parts} (next ∷ others) n t u =
-    let built : (place (first.build start.numbers).0) ≡ _ = ap (λ q. place q.0) t.numbers in
+    let built : (place_of (first.build start.numbers).0) ≡ _ = ap (λ q. place_of q.0) t.numbers in
     record {
-      numbers = ap (λ q. (node q.0 (place (first.build start.numbers).0), q.1)) u.numbers ∙ ap (λ z. (node parts z, now.numbers)) built;
+      numbers = ap (λ q. (node q.0 (place_of (first.build start.numbers).0), q.1)) u.numbers ∙ ap (λ z. (node parts z, now.numbers)) built;
       copies = u.copies;
     }
 
@@ -69,7 +69,7 @@ module _ (kind : Kind) (g : The (Built Expr)) (levels : ℕ) (reader : Reader Ex
   Parts r = Agrees (star (Some 255) (skip_then (a kind) g)) levels (λ more. chained node (before, more)) (λ more. chained node (before, more)) start begun r
 
   abbrev of_parts : List Expr → Reader Expr
-  of_parts parts = done (node parts (place first))
+  of_parts parts = done (node parts (place_of first))
 
   abbrev further : ℕ → List Expr → Reader (List Expr)
   further = repeated (eaten_within (among (kind ∷ []))) (one_more reader)

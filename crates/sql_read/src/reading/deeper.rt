@@ -92,10 +92,10 @@ pub fn deeper_in_inner(
     alloc: Global,
     tokens: &mut Tokens<'_>,
     levels: u8,
-    sought: Sought,
+    sought: &Sought,
 ) -> Result<Expr, ReadFault>
     requires { 0 < levels }
-    ensures does { Gives result tokens.new ((at levels).in_inner sought tokens.old) }
+    ensures does { Gives result tokens.new ((at levels).in_inner sought.now tokens.old) }
     ensures extends { Extends tokens.old tokens.new }
 {
     in_inner(alloc, tokens, levels - 1, sought)

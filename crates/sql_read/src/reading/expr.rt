@@ -10,7 +10,7 @@ use super::{MOST_OPERATORS, MOST_SEPARATORS};
 use crate::fault::ReadFault;
 use crate::tokens::{Mark, Tokens, place};
 use crate::trees::{minus, not_at, operated, place_of};
-use plain_data::List;
+use plain_data::{List, SharedList};
 use sql_grammar::kinds::{Kind, kind_of};
 use sql_model::Expr;
 use std::alloc::Global;
@@ -162,6 +162,7 @@ fn ands(alloc: Global, tokens: &mut Tokens<'_>, levels: u8, first: Expr) -> Resu
         let part = neg(alloc, tokens, levels)?;
         parts.push(part)?;
     }
+    let parts = SharedList::new(alloc, parts)?;
     Ok(Expr::And { parts, at })
 }
 

@@ -167,15 +167,15 @@ pub fn in_inner(
     alloc: Global,
     tokens: &mut Tokens<'_>,
     levels: u8,
-    sought: Sought,
+    sought: &Sought,
 ) -> Result<Expr, ReadFault>
-    ensures does { Does (λ levels deeper. reading.in_inner levels deeper sought) levels tokens.old result tokens.new }
+    ensures does { Does (λ levels deeper. reading.in_inner levels deeper sought.now) levels tokens.old result tokens.new }
     ensures extends { Extends tokens.old tokens.new }
 {
     if tokens.sees(Kind::Select) {
         let first = block(alloc, tokens, levels)?;
         let query = set_tail(alloc, tokens, levels, first)?;
-        return Ok(in_query(alloc, sought.value, query, sought.in_at)?);
+        return Ok(in_query(alloc, &sought.value, query, sought.in_at)?);
     }
     if !tokens.sees(Kind::Open) {
         let first = expr(alloc, tokens, levels)?;
@@ -192,12 +192,12 @@ fn in_after_group(
     alloc: Global,
     tokens: &mut Tokens<'_>,
     levels: u8,
-    sought: Sought,
+    sought: &Sought,
     start: Mark,
     group: Grouped,
 ) -> Result<Expr, ReadFault>
     requires { IsBehind start tokens.old }
-    ensures does { Does (λ levels deeper. reading.in_after_group levels deeper sought start group) levels tokens.old result tokens.new }
+    ensures does { Does (λ levels deeper. reading.in_after_group levels deeper sought.now start group) levels tokens.old result tokens.new }
     ensures extends { Extends tokens.old tokens.new }
 {
     match group {
@@ -218,18 +218,18 @@ fn in_after_query(
     alloc: Global,
     tokens: &mut Tokens<'_>,
     levels: u8,
-    sought: Sought,
+    sought: &Sought,
     start: Mark,
     query: Query,
     at: u32,
 ) -> Result<Expr, ReadFault>
     requires { IsBehind start tokens.old }
-    ensures does { Does (λ levels deeper. reading.in_after_query levels deeper sought start query at) levels tokens.old result tokens.new }
+    ensures does { Does (λ levels deeper. reading.in_after_query levels deeper sought.now start query at) levels tokens.old result tokens.new }
     ensures extends { Extends tokens.old tokens.new }
 {
     if tokens.sees_any(&SET_KINDS) {
         let query = set_tail(alloc, tokens, levels, query)?;
-        return Ok(in_query(alloc, sought.value, query, sought.in_at)?);
+        return Ok(in_query(alloc, &sought.value, query, sought.in_at)?);
     }
     if tokens.sees_any(&TAIL_KINDS) {
         let first = subquery(alloc, query, at)?;
@@ -240,5 +240,5 @@ fn in_after_query(
         let first = subquery(alloc, query, at)?;
         return members(alloc, tokens, levels, sought, first);
     }
-    Ok(in_query(alloc, sought.value, query, sought.in_at)?)
+    Ok(in_query(alloc, &sought.value, query, sought.in_at)?)
 }

@@ -8,7 +8,7 @@ use super::deeper::{deeper_in_inner, deeper_query};
 use super::expr::{expr, value};
 use crate::fault::ReadFault;
 use crate::tokens::{Mark, Tokens, place};
-use crate::trees::{at_most, between, compared, equal, like, negated, place_of};
+use crate::trees::{between, compared, equal, like, negated, place_of};
 use plain_data::{Boxed, List, Shared};
 use sql_grammar::kinds::{Kind, kind_of};
 use sql_model::Expr;
@@ -38,7 +38,8 @@ const TEST_KINDS: [Kind; 10] = [
     Kind::AtLeast,
 ];
 
-/// A value that IN seeks, with the weight of a copy of it and the place of the word.
+/// A value that IN seeks, with the weight of a copy of it and the place of the word. It is lent to what reads on, so that a refusal there
+/// drops nothing.
 #[derive(Drop)]
 pub struct Sought {
     pub value: Shared<Expr>,
@@ -127,13 +128,13 @@ fn by_word(
 {
     if let Some(word) = tokens.eat(Kind::In) {
         // Shared before the parenthesis is read: a missing one then drops no tree.
-        let value = Sought {
+        let sought = Sought {
             value: Shared::new(alloc, left)?,
             weight,
             in_at: place(&word),
         };
         tokens.expect_within(alloc, &[Kind::Open], levels)?;
-        let found = deeper_in_inner(alloc, tokens, levels, value)?;
+        let found = deeper_in_inner(alloc, tokens, levels, &sought)?;
         tokens.expect(alloc, Kind::Close)?;
         return Ok(found);
     }
@@ -159,12 +160,10 @@ fn bounds(
     ensures extends { Extends tokens.old tokens.new }
 {
     tokens.add_copy(weight)?;
-    let copy = left.copy(alloc)?;
     let low = value(alloc, tokens, levels)?;
-    let above = at_most(alloc, low, left)?;
     tokens.expect(alloc, Kind::And)?;
     let high = value(alloc, tokens, levels)?;
-    Ok(between(alloc, above, copy, high)?)
+    Ok(between(alloc, left, low, high)?)
 }
 
 /// The value compared with a member. It shares the value's memory, but counts as a copy.
@@ -179,8 +178,7 @@ fn compared_copy(
     ensures extends { Extends tokens.old tokens.new }
 {
     tokens.add_copy(sought.weight)?;
-    let value = sought.value.share()?;
-    Ok(equal(alloc, value, member)?)
+    Ok(equal(alloc, &sought.value, member)?)
 }
 
 /// The members of a list of IN behind the first; the value before the list counts as a copy at each comma.
@@ -190,10 +188,10 @@ pub fn members(
     alloc: Global,
     tokens: &mut Tokens<'_>,
     levels: u8,
-    sought: Sought,
+    sought: &Sought,
     first: Expr,
 ) -> Result<Expr, ReadFault>
-    ensures does { Does (λ levels deeper. reading.members levels deeper sought first) levels tokens.old result tokens.new }
+    ensures does { Does (λ levels deeper. reading.members levels deeper sought.now first) levels tokens.old result tokens.new }
     ensures extends { Extends tokens.old tokens.new }
 {
     let at = place_of(sought.value.get());
@@ -202,10 +200,10 @@ pub fn members(
     let mut room = MOST_SEPARATORS;
     'more: while let Some(_) = tokens.eat_within(&[Kind::Comma], room)? {
         room -= 1;
-        parts.push(compared_copy(alloc, tokens, &sought, last)?)?;
+        parts.push(compared_copy(alloc, tokens, sought, last)?)?;
         last = expr(alloc, tokens, levels)?;
     }
-    let last = equal(alloc, sought.value, last)?;
+    let last = equal(alloc, &sought.value, last)?;
     if parts.is_empty() {
         return Ok(last);
     }

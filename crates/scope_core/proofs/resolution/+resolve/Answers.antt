@@ -2,6 +2,7 @@ use Rattle.std.proofs.Common.{rules, ◌≡◌, ◌++◌, ◌∷◌, ◌+◌, �
 use Rattle.std.specs.Option.{option_or}
 use Rattle.std.proofs.lemmas.List.{append_assoc, map-append, length-append}
 use Rattle.sql_model.specs.Headings.{item_columns, source_columns}
+use Rattle.sql_model.specs.declared.tree.Block.{out-Block}
 use Rattle.sql_model.specs.Headings.{Heading as TheHeading}
 use Rattle.scope_core.specs.FirstFault.{fault_at}
 use Rattle.scope_core.specs.Sites.{AnAlias, Outputs}
@@ -12,6 +13,8 @@ use Rattle.scope_core.specs.Answer.{IsCause}
 use Rattle.scope_core.specs.Lent.{entries_headings, headings_of, levels_of, list_columns, relations_of}
 use Rattle.scope_core.specs.Parts.{conditions_listed, conjuncts_listed, entries_fault, entries_listed, items_fault, items_listed, on_fault, on_listed, truths_fault, values_fault, values_listed, written_fault, written_listed}
 use Rattle.scope_core.specs.Resolving.{conjunction, conjuncts, entry_of, resolved_item, resolved_source, resolved_value}
+use Rattle.scope_core.specs.declared.tree.RCond.TheVariants as condition
+use Rattle.scope_core.proofs.Bounds.{cause-behind, cause-low, cause-high, conjuncts-bounds, fine-behind, fine-bounds, tree-behind}
 use Rattle.scope_core.proofs.Lists.{at-head, at-end, between, walk-step, walk-end}
 use Rattle.scope_core.proofs.Walks.{cause-first, cause-same, cause-second, fault-step, fault-here, handed_on, no_value}
 use Rattle.scope_core.proofs.Values.{values-drop, values-past, trees-cons, trees-nil, operator-cause, operator-fine, operator-tree}
@@ -169,6 +172,58 @@ conditions::add_conjuncts_of_each-returns-clause-value t c =
     let xs = c.args.parts.now in
     let i = c.loop-part.part-index in
     walk-end (conjuncts_listed K L) xs i _ _ c.loop-part-test.false (conjuncts-nil K L tt) c.loop-part.invariant.1
+
+pub conditions::add_parts-returns-in_err-low-clause-err : goal.conditions::add_parts-returns-in_err-low-clause-err
+conditions::add_parts-returns-in_err-low-clause-err t c =
+    let K = relations_of c.args.known.now in
+    let L = levels_of c.args.levels.now in
+    let b = c.in-Some.bounds in
+    let refused = c.in_err-low.field-0.0 in
+    handed_on c.from_residual.result refused (λ f. IsCause f (truths_fault K L c.args.parts.now)) c.from_residual.ensures.1
+    (cause-low K L b.above b.low.now b.below b.high.now c.args.parts.now c.in-Some.ensures refused c.in_err-low.ensures.err)
+
+pub conditions::add_parts-returns-in_err-high-clause-err : goal.conditions::add_parts-returns-in_err-high-clause-err
+conditions::add_parts-returns-in_err-high-clause-err t c =
+    let K = relations_of c.args.known.now in
+    let L = levels_of c.args.levels.now in
+    let b = c.in-Some.bounds in
+    let refused = c.in_err-high.field-0.0 in
+    handed_on c.from_residual-in_err-high.result refused (λ f. IsCause f (truths_fault K L c.args.parts.now)) c.from_residual-in_err-high.ensures.1
+    (cause-high K L b.above b.low.now b.below b.high.now c.args.parts.now c.in-Some.ensures refused c.in_ok-low.ensures.fine c.in_err-high.ensures.err)
+
+pub conditions::add_parts-returns-clause-fine : goal.conditions::add_parts-returns-clause-fine
+conditions::add_parts-returns-clause-fine t c =
+    let b = c.in-Some.bounds in
+    fine-bounds (relations_of c.args.known.now) (levels_of c.args.levels.now) b.above b.low.now b.below b.high.now c.args.parts.now c.in-Some.ensures c.in_ok-low.ensures.fine c.in_ok-high.ensures.fine
+
+pub conditions::add_parts-returns-clause-value : goal.conditions::add_parts-returns-clause-value
+conditions::add_parts-returns-clause-value t c =
+    let K = relations_of c.args.known.now in
+    let L = levels_of c.args.levels.now in
+    let b = c.in-Some.bounds in
+    let low = c.in_ok-low.ensures.value in
+    let high = c.in_ok-high.ensures.value in
+    c.in_ok-push_predicates.ensures
+    ∙ ap (λ cs. c.args.conditions.now.items ++ cs) ((λ i. condition.Pred b.above (low i) ∷ condition.Pred b.below (high i) ∷ [])
+    ∙ sym (conjuncts-bounds K L b.above b.low.now b.below b.high.now c.args.parts.now c.in-Some.ensures))
+
+pub conditions::resolve_behind-returns-in_err-high-clause-err : goal.conditions::resolve_behind-returns-in_err-high-clause-err
+conditions::resolve_behind-returns-in_err-high-clause-err t c =
+    let K = relations_of c.args.known.now in
+    let L = levels_of c.args.levels.now in
+    let refused = c.in_err-high.field-0.0 in
+    handed_on c.from_residual.result refused (λ f. IsCause f (values_fault K L c.args.args.now)) c.from_residual.ensures.1
+    (cause-behind K L c.args.before.now c.args.args.now c.in-Some.high.now c.in-Some.ensures refused c.requires.fine c.in_err-high.ensures.err)
+
+pub conditions::resolve_behind-returns-clause-fine : goal.conditions::resolve_behind-returns-clause-fine
+conditions::resolve_behind-returns-clause-fine t c =
+    fine-behind (relations_of c.args.known.now) (levels_of c.args.levels.now) c.args.before.now c.args.args.now c.in-Some.high.now c.in-Some.ensures c.requires.fine c.in_ok-high.ensures.fine
+
+pub conditions::resolve_behind-returns-clause-value : goal.conditions::resolve_behind-returns-clause-value
+conditions::resolve_behind-returns-clause-value t c =
+    c.in_ok-copied_before.ensures
+    ∙ tree-behind (relations_of c.args.known.now) (levels_of c.args.levels.now) c.args.before.now c.args.args.now c.in-Some.high.now c.in-Some.ensures c.args.resolved.now c.value-item.result _ c.requires.value
+    c.value-item.is c.in_ok-high.ensures.value
 
 pub conditions::add_conjuncts-returns-in_ok-push-in-None-clause-value : goal.conditions::add_conjuncts-returns-in_ok-push-in-None-clause-value
 conditions::add_conjuncts-returns-in_ok-push-in-None-clause-value t c =
@@ -420,14 +475,14 @@ blocks::add_on_conditions-loop-index-preserved t c =
 
 pub blocks::resolve_block-new-requires : goal.blocks::resolve_block-new-requires
 blocks::resolve_block-new-requires t c =
-    let same = c.as_slice-2.ensures ∙ sym c.as_slice-3.ensures in
+    let items = c.as_slice-2.ensures in
     c.len-width.ensures
-    ∙ (ap (λ vs. length vs) c.in_ok-items.ensures.value
-    ∙ (length-items_listed c.as_slice-2.result.now (relations_of c.args.known.now) _
-    ∙ (λ i. length (list_columns (same i) (c.as_slice-headings.ensures.value i)))))
+    ∙ (ap (λ vs. length vs) c.in_ok-output.ensures.items
+    ∙ (length-items_listed (out-Block c.args.block.now).items (relations_of c.args.known.now) _
+    ∙ (λ i. length (list_columns (sym items i) (c.as_slice-headings.ensures.value i)))))
 
 pub blocks::resolve_block-returns-clause-columns : goal.blocks::resolve_block-returns-clause-columns
 blocks::resolve_block-returns-clause-columns t c =
     c.new.ensures
-    ∙ (rw (c.as_slice-3.ensures, c.in_ok-from.ensures.headings, c.as_slice-entries.ensures)
+    ∙ (rw (c.as_slice-2.ensures, c.in_ok-from.ensures.headings, c.as_slice.ensures)
     (sym (block_columns-fields c.args.block.now (headings_of c.args.known.now))))

@@ -2,7 +2,7 @@ use Rattle.std.proofs.Common.{rules, ◌≡◌, ◌<◌, ◌∙◌, [], ◌∷�
 use Rattle.sql_grammar.specs.Kinds.{same}
 use Rattle.sql_lex.specs.Lexemes.{lexeme_of}
 use Rattle.sql_grammar.specs.QueryEntries.{most_entries}
-use Rattle.sql_grammar.specs.QueryTrees.{place}
+use Rattle.sql_grammar.specs.QueryTrees.{place_of}
 use Rattle.sql_grammar.specs.declared.kinds.Kind.TheVariants as k
 use Rattle.sql_model.specs.declared.tree.Expr.TheVariants as an_expr
 use Rattle.sql_read.specs.Reading as reading
@@ -41,7 +41,7 @@ deeper::deeper_inner-returns-clause-does t c =
 
 pub deeper::deeper_in_inner-returns-clause-does : goal.deeper::deeper_in_inner-returns-clause-does
 deeper::deeper_in_inner-returns-clause-does t c =
-    subst (λ (d : Deeper). Gives c.in_inner.result c.in_inner.new.tokens (d.in_inner c.args.sought c.args.tokens.now)) (one_fewer c.args.levels c.requires) c.in_inner.ensures.does
+    subst (λ (d : Deeper). Gives c.in_inner.result c.in_inner.new.tokens (d.in_inner c.args.sought.now c.args.tokens.now)) (one_fewer c.args.levels c.requires) c.in_inner.ensures.does
 
 -- ---- loops
 
@@ -155,7 +155,7 @@ expr::ands-more-preserved t c =
 
 pub expr::ands-returns-clause-does : goal.expr::ands-returns-clause-does
 expr::ands-returns-clause-does t c =
-    rw c.place_of-at.ensures (made_no_word _ _ _ _ _ _ _ c.more.invariant.same _ (rw c.in_default.is at c.in_ok-eat_within.ensures.gives))
+    rw (c.in_ok-parts.ensures, c.place_of-at.ensures) (made_no_word _ _ _ _ _ _ _ c.more.invariant.same _ (rw c.in_default.is at c.in_ok-eat_within.ensures.gives))
 
 pub expr::products-returns-in_err-sign-clause-does : goal.expr::products-returns-in_err-sign-clause-does
 expr::products-returns-in_err-sign-clause-does t c =
@@ -248,7 +248,6 @@ test::members-more-preserved t c =
     let q = rw c.in-Some.is at c.in_ok-eat_within.ensures.eats in
     record {
       same = rw c.in_ok-push.ensures.ok (made_part_read _ _ _ _ _ _ _ c.more.invariant.same _ _ (eaten_some q) q.room_left _ _ (rw c.in_ok-compared_copy.ensures.does (rw c.in_ok-last.ensures.does refl)));
-      sought = c.more.invariant.sought;
       extends = c.more.invariant.extends ⨟ extends_within q ⨟ c.in_ok-compared_copy.ensures.extends ⨟ c.in_ok-last.ensures.extends;
     }
 
@@ -260,7 +259,7 @@ test::members-returns-then-is_empty-clause-does t c =
 pub test::members-returns-clause-does : goal.test::members-returns-clause-does
 test::members-returns-clause-does t c =
     let e = made_no_word _ _ _ _ _ _ _ c.more.invariant.same _ (rw c.in_default.is at c.in_ok-eat_within.ensures.gives) in
-    let s = several c.args.sought.value c.more.parts (an_expr.Eq c.args.sought.value c.more.last (place c.args.sought.value)) (λ none. let no : true ≡ false = sym (c.is_empty.ensures.1 none) ∙ c.if-is_empty.false in cc) in
+    let s = several c.args.sought.now.value c.more.parts (an_expr.Eq c.args.sought.now.value c.more.last (place_of c.args.sought.now.value)) (λ none. let no : true ≡ false = sym (c.is_empty.ensures.1 none) ∙ c.if-is_empty.false in cc) in
     rw (c.in_ok-push-2.ensures.ok, c.in_ok-last-2.ensures, c.place_of-at.ensures, c.get.ensures, ← s) e
 
 pub entry::entries-returns-in_err-eat_within-clause-does : goal.entry::entries-returns-in_err-eat_within-clause-does

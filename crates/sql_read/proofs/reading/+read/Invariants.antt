@@ -242,13 +242,13 @@ invariant-expr::sums-more l = record {
 
 abbrev pub invariant-expr::ands-more : goal.invariant-expr::ands-more
 invariant-expr::ands-more l = record {
-  same : (repeated r.and_word (one_more (r.neg l.levels (at l.levels))) l.room l.parts l.tokens >>= λ parts. done (an_expr.And parts (t.place l.fn.first))) ≡ r.ands l.levels (at l.levels) l.fn.first l.fn.tokens;
+  same : (repeated r.and_word (one_more (r.neg l.levels (at l.levels))) l.room l.parts l.tokens >>= λ parts. done (an_expr.And parts (t.place_of l.fn.first))) ≡ r.ands l.levels (at l.levels) l.fn.first l.fn.tokens;
   extends : Extends l.fn.tokens l.tokens;
 }
 
 abbrev pub invariant-expr::ors-more : goal.invariant-expr::ors-more
 invariant-expr::ors-more l = record {
-  same : (repeated r.or_word (one_more (r.conj l.levels (at l.levels))) l.room l.parts l.tokens >>= λ parts. done (an_expr.Or parts (t.place l.fn.first))) ≡ r.ors l.levels (at l.levels) l.fn.first l.fn.tokens;
+  same : (repeated r.or_word (one_more (r.conj l.levels (at l.levels))) l.room l.parts l.tokens >>= λ parts. done (an_expr.Or parts (t.place_of l.fn.first))) ≡ r.ors l.levels (at l.levels) l.fn.first l.fn.tokens;
   extends : Extends l.fn.tokens l.tokens;
 }
 
@@ -266,10 +266,9 @@ invariant-block::items-more l = record {
 
 abbrev pub invariant-test::members-more : goal.invariant-test::members-more
 invariant-test::members-more l = record {
-  same : (repeated comma (r.next_member l.levels (at l.levels) l.fn.sought) l.room (l.parts, l.last) l.tokens
-      >>= λ found. done (any_of l.fn.sought.value found.0 (an_expr.Eq l.fn.sought.value found.1 (t.place l.fn.sought.value))))
-      ≡ r.members l.levels (at l.levels) l.fn.sought l.fn.first l.fn.tokens;
-  sought : l.sought ≡ l.fn.sought;
+  same : (repeated comma (r.next_member l.levels (at l.levels) l.sought) l.room (l.parts, l.last) l.tokens
+      >>= λ found. done (any_of l.sought.value found.0 (an_expr.Eq l.sought.value found.1 (t.place_of l.sought.value))))
+      ≡ r.members l.levels (at l.levels) l.sought l.fn.first l.fn.tokens;
   extends : Extends l.fn.tokens l.tokens;
 }
 
