@@ -11,7 +11,7 @@ use std::marker::Model;
 use u_terms::Facts;
 
 /// A schema, and two resolved queries of one width over it.
-#[derive(Debug, Drop)]
+#[derive(Drop)]
 pub struct Case {
     schema: Schema,
     views: Views,

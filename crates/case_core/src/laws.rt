@@ -8,6 +8,7 @@ ghost use Rattle.sql_grammar.specs.Numbering.{Built, Numbers};
 ghost use Rattle.sql_read.specs.ReadingTexts.{Passes, PassesDepth, TextLimit};
 ghost use Rattle.schema_read.specs.FewEntries.{HasFewEntries, ViewHasFew};
 ghost use Rattle.sql_grammar.specs.Queries.{of_form};
+ghost use Rattle.sql_grammar.specs.QueryEntries.{most_entries};
 ghost use Rattle.case_core.specs.declared.text.CaseText.{CaseText as Written};
 ghost use Rattle.case_core.specs.CaseGrammar as g;
 ghost use Rattle.case_core.specs.Cases.{BeginsCase, IsRead, SpellsCase, cases, shallow_cases, texts};
@@ -48,9 +49,9 @@ pub fn one_limit()
 
 /// No block of a case that is read has more than 32 entries: of its queries, of its views, or of a subquery of these.
 pub fn few_in_each_block()
-    ensures views { (text : List ℕ) (written : Written) (numbers : Numbers) → IsRead text written numbers → Each (ViewHasFew 32) written.statements }
-    ensures left { (text : List ℕ) (written : Written) (numbers : Numbers) → IsRead text written numbers → HasFewEntries 32 written.left }
-    ensures right { (text : List ℕ) (written : Written) (numbers : Numbers) → IsRead text written numbers → HasFewEntries 32 written.right }
+    ensures views { (text : List ℕ) (written : Written) (numbers : Numbers) → IsRead text written numbers → Each (ViewHasFew most_entries) written.statements }
+    ensures left { (text : List ℕ) (written : Written) (numbers : Numbers) → IsRead text written numbers → HasFewEntries most_entries written.left }
+    ensures right { (text : List ℕ) (written : Written) (numbers : Numbers) → IsRead text written numbers → HasFewEntries most_entries written.right }
 {}
 
 /// The number of each literal in the views and the two queries that a text spells is that of one of the case's literals.

@@ -1,7 +1,7 @@
 //! The text of a case.
 ghost use Rattle.std.specs.Prelude.{◌≡◌, ◌≤◌, ◌<◌, ◌^◌, length, IfErr, IfOk, OnOk};
 ghost use Rattle.data_model.specs.Lists.{Each};
-ghost use Rattle.sql_read.specs.Cursor.{numbers_of};
+ghost use Rattle.sql_read.specs.Cursor.{most_bytes, numbers_of};
 ghost use Rattle.sql_read.specs.Eating.{Extends};
 ghost use Rattle.sql_grammar.specs.Queries.{most_levels};
 ghost use Rattle.sql_read.specs.Reads.{Reads};
@@ -22,7 +22,7 @@ use sql_read::{MOST_LEVELS, ReadFault, Tokens, place, read_inner_query};
 use std::alloc::Global;
 
 /// Statements and two queries, as they are written.
-#[derive(Debug, Drop)]
+#[derive(Drop)]
 pub struct CaseText {
     pub statements: List<Statement>,
     pub left: Query,
@@ -31,7 +31,7 @@ pub struct CaseText {
 
 /// What a text spells, and the numbers of its literals and called names.
 pub fn read_text(alloc: Global, bytes: &[u8]) -> Result<(CaseText, Symbols), CaseFault>
-    requires { length bytes.now ≤ 1048576 }
+    requires { length bytes.now ≤ most_bytes }
     ensures read { IfOk result (λ p. IsRead bytes.now p.0 (numbers_of p.1)) }
     ensures refused { IfErr result (λ fault. IsNoText bytes.now fault) }
 {

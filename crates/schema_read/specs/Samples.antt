@@ -7,12 +7,16 @@ use Rattle.sql_model.specs.declared.statement.Statement.{Statement}
 use Rattle.sql_model.specs.declared.statement.Statement.TheVariants as statement
 use Rattle.sql_model.specs.declared.schema.Table.{Table}
 use Rattle.sql_model.specs.Syntax.{Name}
+use Rattle.sql_model.specs.Compute.{everything}
+use Rattle.sql_model.specs.Meaning.{rows}
+use Rattle.sql_model.specs.Relations.{world_of, shown_relations}
+use Rattle.sql_model.specs.samples.Forms.{all_of, reading}
 use Rattle.schema_read.specs.declared.fault.SchemaCode.{SchemaCode}
 use Rattle.schema_read.specs.declared.fault.SchemaCode.TheVariants as code
 use Rattle.schema_read.specs.Order.{Fault}
 use Rattle.schema_read.specs.Indexes.{shown_columns}
 use Rattle.schema_read.specs.Faults.{own_table}
-use Rattle.schema_read.specs.Declarations.{table_named, fkeys_of}
+use Rattle.schema_read.specs.Declarations.{table_named, fkeys_of, relations_of}
 use Rattle.schema_read.specs.Builds.{schema_fault}
 
 abbrev at_ : Name → ℕ → NameAt
@@ -150,3 +154,11 @@ a_key_of_an_index = refl
 -- the columns that it names, and then those of the primary key that it does not name
 an_index_shows_the_key : shown_columns (a ∷ []) 9 (own_table 0 (a ∷ b ∷ []) (primary (b ∷ a ∷ []) 5 ∷ [])) ≡ a ∷ at_ (codes "b") 9 ∷ []
 an_index_shows_the_key = refl
+
+-- CREATE TABLE r (a, b, PRIMARY KEY (a)), CREATE INDEX s ON r (b), and SELECT * FROM s where r has the rows (0, 1) and (2, 1)
+abbrev indexed_rows : List Statement → List (List ℕ)
+indexed_rows statements = rows (all_of s) (world_of 3 reading (shown_relations 3 reading (record { table = 0; rows = (0 ∷ 1 ∷ []) ∷ (2 ∷ 1 ∷ []) ∷ [] } ∷ []) [] (relations_of statements))) []
+
+a_query_over_an_index : indexed_rows (table_r (primary (a ∷ []) 5 ∷ []) ∷ index_on false r (b ∷ []) ∷ []) ≡ (1 ∷ 0 ∷ []) ∷ (1 ∷ 2 ∷ []) ∷ []
+unfolding everything
+a_query_over_an_index = refl

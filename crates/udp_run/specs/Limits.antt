@@ -1,9 +1,10 @@
 -- How large texts may be.
 use Rattle.std.specs.Prelude.{ℕ}
+use Rattle.sql_read.specs.Cursor.{most_bytes}
 
 -- bytes of a case
 abbrev pub most_case_bytes : ℕ
-most_case_bytes = 1048576
+most_case_bytes = most_bytes
 
 -- bytes of a proof that are taken at once
 abbrev pub most_piece_bytes : ℕ
