@@ -447,6 +447,7 @@ pub fn add_written<'k, 'a>(
     }
 }
 
+/// The condition of HAVING, if one is written.
 #[cycle(resolve)]
 #[inline(never)]
 #[tactic(auto, using(crate::proofs::Conditions::laws))]

@@ -21,6 +21,7 @@ use plain_data::{Boxed, Shared};
 use sql_model::{Block, Query, SetOp};
 use std::alloc::Global;
 
+/// A block within the blocks around it, so that copies of a value share it. The columns are those of its items.
 #[cycle(resolve)]
 #[inline(never)]
 #[tactic(auto, using(crate::proofs::Values::laws))]
