@@ -1,4 +1,4 @@
-//! A list, a box and a box of several owners that contracts see as what they hold.
+//! Lists and boxes, of one owner or of several, and values dropped by one call, that contracts see as what they hold.
 //!
 //! In a clause a `Vec`, a `Box` and an `Rc` show their pointer, so a copy of a tree over them is not equal to its
 //! source. A tree over these types has no pointer in its value: equal trees are equal in clauses, and
@@ -6,6 +6,7 @@
 #![tactic(auto)]
 
 mod boxed;
+mod kept;
 mod list;
 mod shared;
 mod shared_list;
@@ -13,6 +14,7 @@ mod shared_list;
 mod tests;
 
 pub use boxed::Boxed;
+pub use kept::Kept;
 pub use list::List;
 pub use shared::Shared;
 pub use shared_list::SharedList;

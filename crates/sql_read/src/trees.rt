@@ -7,7 +7,7 @@ ghost use Rattle.sql_grammar.specs.QueryTrees.{bounds, column, compared, operato
 
 use crate::tokens::place;
 use crate::values::name_in;
-use plain_data::{Boxed, List, Shared, SharedList};
+use plain_data::{Boxed, Kept, List, Shared, SharedList};
 use sql_grammar::Kind;
 use sql_lex::Token;
 use sql_model::{Expr, NoMemory, Query, SetOp};
@@ -146,21 +146,26 @@ pub fn compared(alloc: Global, sign: Kind, left: Expr, right: Expr) -> Result<Ex
 }
 
 /// `value <= high`, of a copy of the value.
-fn at_most(alloc: Global, value: &Expr, high: Expr) -> Result<Expr, NoMemory>
+fn at_most(alloc: Global, value: &Expr, high: Kept<Expr>) -> Result<Expr, NoMemory>
     ensures { IfOk result (λ expr. expr ≡ an_expr.Pred 1 (value.now ∷ high ∷ []) (place_of value.now)) }
 {
     let copy = value.copy(alloc)?;
-    predicate(alloc, 1, copy, high, place_of(value))
+    predicate(alloc, 1, copy, high.into_inner(), place_of(value))
 }
 
 /// `value BETWEEN low AND high`
-pub fn between(alloc: Global, value: Expr, low: Expr, high: Expr) -> Result<Expr, NoMemory>
+pub fn between(
+    alloc: Global,
+    value: Kept<Expr>,
+    low: Kept<Expr>,
+    high: Kept<Expr>,
+) -> Result<Expr, NoMemory>
     ensures { IfOk result (λ expr. expr ≡ bounds value low high) }
 {
-    let at = place_of(&value);
-    let below = at_most(alloc, &value, high)?;
-    let above = predicate(alloc, 1, low, value, at)?;
-    let parts = two_parts(alloc, above, below)?;
+    let at = place_of(value.get());
+    let below = Kept::new(at_most(alloc, value.get(), high)?);
+    let above = predicate(alloc, 1, low.into_inner(), value.into_inner(), at)?;
+    let parts = two_parts(alloc, above, below.into_inner())?;
     Ok(Expr::And {
         parts: SharedList::new(alloc, parts)?,
         at,

@@ -6,6 +6,7 @@ ghost use Rattle.u_deriv.specs.Steps.{Replaced};
 ghost use Rattle.u_moves.specs.Lifting.{Stands};
 
 use crate::NoMemory;
+use plain_data::Kept;
 use std::alloc::{AllocError, Global};
 use std::marker::Model;
 use u_deriv::{Path, replace};
@@ -14,7 +15,7 @@ use u_terms::{U, nodes};
 /// A term, and how many nodes it has.
 #[derive(Drop)]
 pub struct Counted {
-    term: U,
+    term: Kept<U>,
     nodes: u64,
 }
 
@@ -36,10 +37,10 @@ impl Model for Counted {
 
 impl Counted {
     /// Counts the nodes. There is no memory for 2^64 - 1 of them.
-    pub fn new(term: U) -> Result<Counted, NoMemory>
+    pub fn new(term: Kept<U>) -> Result<Counted, NoMemory>
         ensures { IfOk result (λ counted. counted ≡ term) }
     {
-        let nodes = nodes(&term);
+        let nodes = nodes(term.get());
         if nodes == u64::MAX {
             return Err(AllocError);
         }
@@ -51,7 +52,7 @@ impl Counted {
         ensures { IfOk result (λ copy. copy ≡ self.now) }
     {
         Ok(Counted {
-            term: self.term.copy(alloc)?,
+            term: Kept::new(self.term.get().copy(alloc)?),
             nodes: self.nodes,
         })
     }
@@ -60,7 +61,7 @@ impl Counted {
     pub fn term(&self) -> &U
         ensures { result.now ≡ self.now }
     {
-        &self.term
+        self.term.get()
     }
 
     /// Hands the term on.
@@ -68,7 +69,7 @@ impl Counted {
         ensures { result ≡ self }
     {
         let Counted { term, nodes: _ } = self;
-        term
+        term.into_inner()
     }
 
     /// How many nodes it has.
@@ -95,7 +96,13 @@ impl Counted {
             return Err(AllocError);
         };
         let Counted { term, nodes: _ } = to;
-        match replace(outs, &mut self.term, path, &from.term, term) {
+        match replace(
+            outs,
+            self.term.get_mut(),
+            path,
+            from.term.get(),
+            term.into_inner(),
+        ) {
             Ok(()) => {
                 self.nodes = sum - from.nodes;
                 Ok(())

@@ -14,6 +14,7 @@ use crate::counted::Counted;
 use crate::lifting::lift;
 use crate::runs::turn_count;
 use crate::turning::turn_back;
+use plain_data::Kept;
 use std::alloc::{AllocError, Global};
 use std::marker::Model;
 use u_deriv::{Path, Step, StepFault, apply};
@@ -74,7 +75,7 @@ impl<'f> Deriv<'f> {
         requires shallow { outs + depth_of u.now < 2 ^ 32 }
         ensures { IfOk result (IsStill facts.now outs u.now) }
     {
-        let from = Counted::new(u.copy(alloc)?)?;
+        let from = Counted::new(Kept::new(u.copy(alloc)?))?;
         let to = from.copy(alloc)?;
         let nodes = from.nodes();
         Ok(Deriv {
@@ -102,12 +103,12 @@ impl<'f> Deriv<'f> {
         ensures step { IfOk result (λ d. IsOneStep facts.now outs u.now step d.to d) }
         ensures none { HasNoResult facts.now outs u.now step result }
     {
-        let mut to = u.copy(alloc)?;
-        match apply(alloc, facts, outs, &mut to, &step) {
+        let mut to = Kept::new(u.copy(alloc)?);
+        match apply(alloc, facts, outs, to.get_mut(), &step) {
             Ok(()) => {}
             Err(fault) => return Err(fault),
         }
-        let from = u.copy(alloc)?;
+        let from = Kept::new(u.copy(alloc)?);
         Ok(Deriv::one_step(alloc, facts, outs, from, step, to)?)
     }
 
@@ -116,9 +117,9 @@ impl<'f> Deriv<'f> {
         alloc: Global,
         facts: &'f Facts,
         outs: u32,
-        from: U,
+        from: Kept<U>,
         step: Step,
-        to: U,
+        to: Kept<U>,
     ) -> Result<Deriv<'f>, NoMemory>
         requires known { IsKnown 0 outs from }
         requires made { Rewrites facts.now outs from step to }
@@ -387,14 +388,14 @@ struct Ends {
 
 impl Ends {
     // There is no memory for terms that leave no room for names behind `outs`.
-    fn new(outs: u32, from: U, to: U) -> Result<Ends, NoMemory>
+    fn new(outs: u32, from: Kept<U>, to: Kept<U>) -> Result<Ends, NoMemory>
         ensures from { IfOk result (λ ends. ends.from ≡ from) }
         ensures to { IfOk result (λ ends. ends.to ≡ to) }
         ensures nodes { IfOk result (λ ends. ends.bounds.nodes ≡ max (nodes_of from) (nodes_of to)) }
         ensures depth { IfOk result (λ ends. ends.bounds.depth ≡ max (depth_of from) (depth_of to)) }
         ensures room { IfOk result (λ ends. outs + max (depth_of from) (depth_of to) < 2 ^ 32) }
     {
-        let depth = depth(&from).max(depth(&to));
+        let depth = depth(from.get()).max(depth(to.get()));
         if !has_room(outs, depth) {
             return Err(AllocError);
         }

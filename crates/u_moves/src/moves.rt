@@ -13,6 +13,7 @@ mod sums;
 
 use crate::NoMemory;
 use crate::deriv::Deriv;
+use plain_data::Kept;
 use std::alloc::{AllocError, Global};
 use u_deriv::{Path, Step};
 use u_rules::{Arg, InstanceFault, Rule, instance};
@@ -43,6 +44,7 @@ impl<'f> Moves<'f> {
                     args,
                     inner: List::new(self.alloc),
                 };
+                let (from, to) = (Kept::new(from), Kept::new(to));
                 Deriv::one_step(self.alloc, self.facts, self.outs, from, step, to)
             }
             Err(InstanceFault::NoMemory) => Err(AllocError),

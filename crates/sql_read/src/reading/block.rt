@@ -11,7 +11,7 @@ use super::{MOST_SEPARATORS, accept};
 use crate::fault::ReadFault;
 use crate::growing::push;
 use crate::tokens::Tokens;
-use plain_data::{Boxed, List};
+use plain_data::{Boxed, Kept, List};
 use sql_grammar::Kind;
 use sql_model::{Block, Entry, Expr, Item, Query};
 use std::alloc::Global;
@@ -45,15 +45,15 @@ fn clauses(
     ensures does { Does (λ levels deeper. reading.clauses levels deeper distinct items entries) levels tokens.old result tokens.new }
     ensures extends { Extends tokens.old tokens.new }
 {
-    let cond = condition(alloc, tokens, levels, Kind::Where)?;
-    let groups = group_by(alloc, tokens)?;
+    let cond = Kept::new(condition(alloc, tokens, levels, Kind::Where)?);
+    let groups = Kept::new(group_by(alloc, tokens)?);
     let having = condition(alloc, tokens, levels, Kind::Having)?;
     let block = Block {
         distinct,
         items,
         entries,
-        cond,
-        groups,
+        cond: cond.into_inner(),
+        groups: groups.into_inner(),
         having,
     };
     Ok(Query::Block {

@@ -13,7 +13,7 @@ use crate::fault::{LimitKind, ReadFault};
 use crate::growing::push;
 use crate::listed::{entry_of, listed_query, listed_table};
 use crate::tokens::Tokens;
-use plain_data::List;
+use plain_data::{Kept, List};
 use sql_grammar::{Kind, Listed};
 use sql_model::Entry;
 use std::alloc::Global;
@@ -99,10 +99,10 @@ fn joined_on(
 {
     accept(tokens, Kind::Inner);
     tokens.expect(alloc, Kind::Join)?;
-    let listed = entry(alloc, tokens, levels, count)?;
+    let listed = Kept::new(entry(alloc, tokens, levels, count)?);
     tokens.expect(alloc, Kind::On)?;
     let on = expr(alloc, tokens, levels)?;
-    Ok(Some(entry_of(listed, true, Some(on))))
+    Ok(Some(entry_of(listed.into_inner(), true, Some(on))))
 }
 
 /// An entry behind so many others.
@@ -122,10 +122,10 @@ fn entry(
     let Some(_) = tokens.eat_within(&[Kind::Open], levels)? else {
         return table_entry(alloc, tokens);
     };
-    let inside = deeper_query(alloc, tokens, levels)?;
+    let inside = Kept::new(deeper_query(alloc, tokens, levels)?);
     tokens.expect(alloc, Kind::Close)?;
     let alias = alias(alloc, tokens)?;
-    Ok(listed_query(alloc, inside, &alias)?)
+    Ok(listed_query(alloc, inside.into_inner(), &alias)?)
 }
 
 /// A table, and its alias where one is written.

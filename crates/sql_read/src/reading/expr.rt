@@ -10,7 +10,7 @@ use super::{MOST_OPERATORS, MOST_SEPARATORS};
 use crate::fault::ReadFault;
 use crate::tokens::{Mark, Tokens, place};
 use crate::trees::{minus, not_at, operated, place_of};
-use plain_data::{List, SharedList};
+use plain_data::{Kept, List, SharedList};
 use sql_grammar::kinds::{Kind, kind_of};
 use sql_model::Expr;
 use std::alloc::Global;
@@ -178,14 +178,14 @@ fn products(
     ensures does { Does (λ levels deeper. reading.products levels deeper first) levels tokens.old result tokens.new }
     ensures extends { Extends tokens.old tokens.new }
 {
-    let mut left = first;
+    let mut left = Kept::new(first);
     let mut room = MOST_OPERATORS;
     'more: while let Some(sign) = tokens.eat_within(&[Kind::Star, Kind::Slash], room)? {
         room -= 1;
         let right = unary(alloc, tokens, levels)?;
-        left = operated(alloc, kind_of(&sign), left, right)?;
+        left = Kept::new(operated(alloc, kind_of(&sign), left.into_inner(), right)?);
     }
-    Ok(left)
+    Ok(left.into_inner())
 }
 
 /// The operands behind `+`, `-` and `||`.
@@ -195,7 +195,7 @@ fn sums(alloc: Global, tokens: &mut Tokens<'_>, levels: u8, first: Expr) -> Resu
     ensures does { Does (λ levels deeper. reading.sums levels deeper first) levels tokens.old result tokens.new }
     ensures extends { Extends tokens.old tokens.new }
 {
-    let mut left = first;
+    let mut left = Kept::new(first);
     let mut room = MOST_OPERATORS;
     'more: while let Some(sign) = tokens.eat_within(
         &[Kind::Plus, Kind::Minus, Kind::Concat],
@@ -203,7 +203,7 @@ fn sums(alloc: Global, tokens: &mut Tokens<'_>, levels: u8, first: Expr) -> Resu
     )? {
         room -= 1;
         let right = term(alloc, tokens, levels)?;
-        left = operated(alloc, kind_of(&sign), left, right)?;
+        left = Kept::new(operated(alloc, kind_of(&sign), left.into_inner(), right)?);
     }
-    Ok(left)
+    Ok(left.into_inner())
 }

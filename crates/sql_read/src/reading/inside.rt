@@ -13,6 +13,7 @@ use super::test::{Sought, members};
 use crate::fault::ReadFault;
 use crate::tokens::{Mark, Tokens, place};
 use crate::trees::{in_query, subquery};
+use plain_data::Kept;
 use sql_grammar::Kind;
 use sql_model::{Expr, Query};
 use std::alloc::Global;
@@ -79,9 +80,9 @@ fn in_parentheses(alloc: Global, tokens: &mut Tokens<'_>, levels: u8) -> Result<
     ensures extends { Extends tokens.old tokens.new }
 {
     let open = tokens.expect_within(alloc, &[Kind::Open], levels)?;
-    let inside = deeper_inner(alloc, tokens, levels)?;
+    let inside = Kept::new(deeper_inner(alloc, tokens, levels)?);
     tokens.expect(alloc, Kind::Close)?;
-    Ok(with_parentheses(inside, place(&open)))
+    Ok(with_parentheses(inside.into_inner(), place(&open)))
 }
 
 /// What stands in the parentheses that open at this place, with them.

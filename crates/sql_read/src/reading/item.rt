@@ -11,6 +11,7 @@ use crate::fault::ReadFault;
 use crate::tokens::{Tokens, place};
 use crate::trees::{bare_column, qualified_column};
 use crate::values::name_in;
+use plain_data::Kept;
 use sql_grammar::Kind;
 use sql_lex::Token;
 use sql_model::{Expr, Item, Name};
@@ -58,9 +59,12 @@ pub fn item(alloc: Global, tokens: &mut Tokens<'_>, levels: u8) -> Result<Item, 
     if tokens.sees_any(&NAME_KINDS) {
         return named_item(alloc, tokens, levels);
     }
-    let expr = expr(alloc, tokens, levels)?;
+    let expr = Kept::new(expr(alloc, tokens, levels)?);
     let name = item_name(alloc, tokens)?;
-    Ok(Item::Value { expr, name })
+    Ok(Item::Value {
+        expr: expr.into_inner(),
+        name,
+    })
 }
 
 /// An item that begins with a name.
@@ -75,9 +79,12 @@ fn named_item(alloc: Global, tokens: &mut Tokens<'_>, levels: u8) -> Result<Item
         Starred::All(item) => return Ok(item),
         Starred::First(first) => first,
     };
-    let expr = expr_tail(alloc, tokens, levels, start, first)?;
+    let expr = Kept::new(expr_tail(alloc, tokens, levels, start, first)?);
     let name = item_name(alloc, tokens)?;
-    Ok(Item::Value { expr, name })
+    Ok(Item::Value {
+        expr: expr.into_inner(),
+        name,
+    })
 }
 
 /// `name.*`, or what begins with a name otherwise.

@@ -15,7 +15,7 @@ use crate::fault::ReadFault;
 use crate::tokens::{Tokens, place};
 use crate::trees::{bare_column, qualified_column};
 use crate::values::{name_in, number_in, text_in};
-use plain_data::{Boxed, List};
+use plain_data::{Boxed, Kept, List};
 use sql_grammar::kinds::{Kind, kind_of};
 use sql_lex::Token;
 use sql_model::{AggFun, Expr, NoMemory};
@@ -200,9 +200,9 @@ pub fn count_arguments(
             at: place(word),
         });
     }
-    let found = deeper_argument(alloc, tokens, levels, word)?;
+    let found = Kept::new(deeper_argument(alloc, tokens, levels, word)?);
     tokens.expect(alloc, Kind::Close)?;
-    Ok(found)
+    Ok(found.into_inner())
 }
 
 /// The argument of another aggregate.
@@ -219,9 +219,9 @@ pub fn aggregate(
     ensures extends { Extends tokens.old tokens.new }
 {
     tokens.expect_within(alloc, &[Kind::Open], levels)?;
-    let found = deeper_argument(alloc, tokens, levels, word)?;
+    let found = Kept::new(deeper_argument(alloc, tokens, levels, word)?);
     tokens.expect(alloc, Kind::Close)?;
-    Ok(found)
+    Ok(found.into_inner())
 }
 
 /// The aggregate of an argument, with or without DISTINCT.

@@ -10,6 +10,7 @@ use super::deeper::deeper_query;
 use crate::fault::ReadFault;
 use crate::tokens::{Tokens, place};
 use crate::trees::set_query;
+use plain_data::Kept;
 use sql_grammar::Kind;
 use sql_model::{Query, SetOp};
 use std::alloc::Global;
@@ -45,9 +46,9 @@ fn operand(alloc: Global, tokens: &mut Tokens<'_>, levels: u8) -> Result<Query, 
 {
     match tokens.eat_within(&[Kind::Open], levels)? {
         Some(_) => {
-            let inside = deeper_query(alloc, tokens, levels)?;
+            let inside = Kept::new(deeper_query(alloc, tokens, levels)?);
             tokens.expect(alloc, Kind::Close)?;
-            Ok(inside)
+            Ok(inside.into_inner())
         }
         None => block(alloc, tokens, levels),
     }
@@ -81,14 +82,21 @@ fn intersects(
     ensures does { Does (λ levels deeper. reading.intersects levels deeper first) levels tokens.old result tokens.new }
     ensures extends { Extends tokens.old tokens.new }
 {
-    let mut left = first;
+    let mut left = Kept::new(first);
     let mut room = MOST_OPERATORS;
     'more: while let Some(word) = tokens.eat_within(&[Kind::Intersect], room)? {
         room -= 1;
         let right = operand(alloc, tokens, levels)?;
-        left = set_query(alloc, SetOp::Intersect, left, right, place(&word))?;
+        let both = set_query(
+            alloc,
+            SetOp::Intersect,
+            left.into_inner(),
+            right,
+            place(&word),
+        )?;
+        left = Kept::new(both);
     }
-    Ok(left)
+    Ok(left.into_inner())
 }
 
 /// The parts behind `UNION` and `EXCEPT`.
@@ -103,14 +111,14 @@ fn unions(
     ensures does { Does (λ levels deeper. reading.unions levels deeper first) levels tokens.old result tokens.new }
     ensures extends { Extends tokens.old tokens.new }
 {
-    let mut left = first;
+    let mut left = Kept::new(first);
     let mut room = MOST_OPERATORS;
     'more: while let Some((op, at)) = union_or_except(tokens, room)? {
         room -= 1;
         let right = part(alloc, tokens, levels)?;
-        left = set_query(alloc, op, left, right, at)?;
+        left = Kept::new(set_query(alloc, op, left.into_inner(), right, at)?);
     }
-    Ok(left)
+    Ok(left.into_inner())
 }
 
 /// `UNION`, `UNION ALL` or `EXCEPT`, if one stands next, and the place of its first word.

@@ -9,7 +9,7 @@ use super::expr::{expr, value};
 use crate::fault::ReadFault;
 use crate::tokens::{Mark, Tokens, place};
 use crate::trees::{between, compared, equal, like, negated, place_of};
-use plain_data::{Boxed, List, Shared};
+use plain_data::{Boxed, Kept, List, Shared};
 use sql_grammar::kinds::{Kind, kind_of};
 use sql_model::Expr;
 use std::alloc::Global;
@@ -56,10 +56,10 @@ pub fn test(alloc: Global, tokens: &mut Tokens<'_>, levels: u8) -> Result<Expr, 
 {
     if let Some(word) = tokens.eat(Kind::Exists) {
         tokens.expect_within(alloc, &[Kind::Open], levels)?;
-        let query = deeper_query(alloc, tokens, levels)?;
+        let query = Kept::new(deeper_query(alloc, tokens, levels)?);
         tokens.expect(alloc, Kind::Close)?;
         return Ok(Expr::Exists {
-            query: Boxed::new(alloc, query)?,
+            query: Boxed::new(alloc, query.into_inner())?,
             at: place(&word),
         });
     }
@@ -86,7 +86,7 @@ pub fn tested(
         return Ok(left);
     }
     let weight = tokens.weight_since(start);
-    rest(alloc, tokens, levels, weight, left)
+    rest(alloc, tokens, levels, weight, Kept::new(left))
 }
 
 /// The test of the value, a copy of which has this weight.
@@ -97,14 +97,14 @@ fn rest(
     tokens: &mut Tokens<'_>,
     levels: u8,
     weight: u32,
-    left: Expr,
+    left: Kept<Expr>,
 ) -> Result<Expr, ReadFault>
     ensures does { Does (λ levels deeper. reading.rest levels deeper weight left) levels tokens.old result tokens.new }
     ensures extends { Extends tokens.old tokens.new }
 {
     if let Some(sign) = tokens.eat_any(&COMPARISONS) {
         let right = value(alloc, tokens, levels)?;
-        return Ok(compared(alloc, kind_of(&sign), left, right)?);
+        return Ok(compared(alloc, kind_of(&sign), left.into_inner(), right)?);
     }
     let Some(_) = tokens.eat(Kind::Not) else {
         return by_word(alloc, tokens, levels, weight, left);
@@ -121,7 +121,7 @@ fn by_word(
     tokens: &mut Tokens<'_>,
     levels: u8,
     weight: u32,
-    left: Expr,
+    left: Kept<Expr>,
 ) -> Result<Expr, ReadFault>
     ensures does { Does (λ levels deeper. reading.by_word levels deeper weight left) levels tokens.old result tokens.new }
     ensures extends { Extends tokens.old tokens.new }
@@ -129,21 +129,21 @@ fn by_word(
     if let Some(word) = tokens.eat(Kind::In) {
         // Shared before the parenthesis is read: a missing one then drops no tree.
         let sought = Sought {
-            value: Shared::new(alloc, left)?,
+            value: Shared::new(alloc, left.into_inner())?,
             weight,
             in_at: place(&word),
         };
         tokens.expect_within(alloc, &[Kind::Open], levels)?;
-        let found = deeper_in_inner(alloc, tokens, levels, &sought)?;
+        let found = Kept::new(deeper_in_inner(alloc, tokens, levels, &sought)?);
         tokens.expect(alloc, Kind::Close)?;
-        return Ok(found);
+        return Ok(found.into_inner());
     }
     if let Some(_) = tokens.eat(Kind::Between) {
         return bounds(alloc, tokens, levels, weight, left);
     }
     tokens.expect(alloc, Kind::Like)?;
     let pattern = value(alloc, tokens, levels)?;
-    Ok(like(alloc, left, pattern)?)
+    Ok(like(alloc, left.into_inner(), pattern)?)
 }
 
 /// What follows BETWEEN; the value before it is copied.
@@ -154,15 +154,15 @@ fn bounds(
     tokens: &mut Tokens<'_>,
     levels: u8,
     weight: u32,
-    left: Expr,
+    left: Kept<Expr>,
 ) -> Result<Expr, ReadFault>
     ensures does { Does (λ levels deeper. reading.bounds levels deeper weight left) levels tokens.old result tokens.new }
     ensures extends { Extends tokens.old tokens.new }
 {
     tokens.add_copy(weight)?;
-    let low = value(alloc, tokens, levels)?;
+    let low = Kept::new(value(alloc, tokens, levels)?);
     tokens.expect(alloc, Kind::And)?;
-    let high = value(alloc, tokens, levels)?;
+    let high = Kept::new(value(alloc, tokens, levels)?);
     Ok(between(alloc, left, low, high)?)
 }
 
@@ -172,13 +172,13 @@ fn compared_copy(
     alloc: Global,
     tokens: &mut Tokens<'_>,
     sought: &Sought,
-    member: Expr,
+    member: Kept<Expr>,
 ) -> Result<Expr, ReadFault>
     ensures does { Gives result tokens.new (reading.compared_copy sought.now member tokens.old) }
     ensures extends { Extends tokens.old tokens.new }
 {
     tokens.add_copy(sought.weight)?;
-    Ok(equal(alloc, &sought.value, member)?)
+    Ok(equal(alloc, &sought.value, member.into_inner())?)
 }
 
 /// The members of a list of IN behind the first; the value before the list counts as a copy at each comma.
@@ -196,14 +196,14 @@ pub fn members(
 {
     let at = place_of(sought.value.get());
     let mut parts = List::new(alloc);
-    let mut last = first;
+    let mut last = Kept::new(first);
     let mut room = MOST_SEPARATORS;
     'more: while let Some(_) = tokens.eat_within(&[Kind::Comma], room)? {
         room -= 1;
         parts.push(compared_copy(alloc, tokens, sought, last)?)?;
-        last = expr(alloc, tokens, levels)?;
+        last = Kept::new(expr(alloc, tokens, levels)?);
     }
-    let last = equal(alloc, &sought.value, last)?;
+    let last = equal(alloc, &sought.value, last.into_inner())?;
     if parts.is_empty() {
         return Ok(last);
     }

@@ -9,6 +9,7 @@ ghost use Rattle.u_moves.specs.Moving.{AreKnownValues, IsKnownValue, IsMove, fix
 use crate::NoMemory;
 use crate::deriv::Deriv;
 use crate::moves::Moves;
+use plain_data::Kept;
 use u_deriv::{Path, Step};
 use u_rules::{Arg, Rule};
 use u_terms::{Boxed, List, U, Val};
@@ -78,9 +79,10 @@ impl<'f> Moves<'f> {
         ensures { IfOk result (IsOneStep self.entry.facts.now self.entry.outs (sq square.entry.to) (fix_step square.entry) square.entry.to) }
     {
         let (x, inner) = square.into_end();
-        let from = U::Squash(Boxed::new(self.alloc, x.copy(self.alloc)?)?);
-        let to = x.copy(self.alloc)?;
-        let args = vec![in self.alloc; Arg::Term(x)]?;
+        let x = Kept::new(x);
+        let from = Kept::new(U::Squash(Boxed::new(self.alloc, x.get().copy(self.alloc)?)?));
+        let to = Kept::new(x.get().copy(self.alloc)?);
+        let args = vec![in self.alloc; Arg::Term(x.into_inner())]?;
         let step = Step {
             path: Path::new(self.alloc),
             forward: true,

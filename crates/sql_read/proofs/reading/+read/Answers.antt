@@ -59,13 +59,13 @@ pub query::intersects-more-preserved : goal.query::intersects-more-preserved
 query::intersects-more-preserved t c =
     let q = rw c.in-Some.is at c.in_ok-word.ensures.eats in
     record {
-      same = rw (c.in_ok-left.ensures, c.place.ensures) (part_read _ _ _ _ _ _ c.more.invariant.same _ _ (eaten_some q) q.room_left _ _ (rw c.in_ok-right.ensures.does refl));
+      same = rw (c.new-left-in-Some.ensures, c.in_ok-both.ensures, c.into_inner.ensures, c.place.ensures) (part_read _ _ _ _ _ _ c.more.invariant.same _ _ (eaten_some q) q.room_left _ _ (rw c.in_ok-right.ensures.does refl));
       extends = c.more.invariant.extends ⨟ extends_within q ⨟ c.in_ok-right.ensures.extends;
     }
 
 pub query::intersects-returns-clause-does : goal.query::intersects-returns-clause-does
 query::intersects-returns-clause-does t c =
-    no_word _ _ _ _ _ _ c.more.invariant.same _ (rw c.in_default.is at c.in_ok-word.ensures.gives)
+    rw c.into_inner-2.ensures (no_word _ _ _ _ _ _ c.more.invariant.same _ (rw c.in_default.is at c.in_ok-word.ensures.gives))
 
 pub query::unions-returns-in_err-op-clause-does : goal.query::unions-returns-in_err-op-clause-does
 query::unions-returns-in_err-op-clause-does t c =
@@ -83,13 +83,13 @@ query::unions-more-preserved t c =
     let w = rw c.in-Some.is at c.in_ok-op.ensures.does in
     let q = rw c.in-Some.is at c.in_ok-op.ensures.room in
     record {
-      same = rw c.in_ok-left.ensures (part_read _ _ _ _ _ _ c.more.invariant.same _ _ w q _ _ (rw c.in_ok-right.ensures.does refl));
+      same = rw (c.new-left-in-Some.ensures, c.in_ok-set_query.ensures, c.into_inner.ensures) (part_read _ _ _ _ _ _ c.more.invariant.same _ _ w q _ _ (rw c.in_ok-right.ensures.does refl));
       extends = c.more.invariant.extends ⨟ c.in_ok-op.ensures.extends ⨟ c.in_ok-right.ensures.extends;
     }
 
 pub query::unions-returns-clause-does : goal.query::unions-returns-clause-does
 query::unions-returns-clause-does t c =
-    no_word _ _ _ _ _ _ c.more.invariant.same _ (rw c.in_default.is at c.in_ok-op.ensures.does)
+    rw c.into_inner-2.ensures (no_word _ _ _ _ _ _ c.more.invariant.same _ (rw c.in_default.is at c.in_ok-op.ensures.does))
 
 pub block::items-returns-in_err-eat_within-clause-does : goal.block::items-returns-in_err-eat_within-clause-does
 block::items-returns-in_err-eat_within-clause-does t c =
@@ -171,13 +171,13 @@ pub expr::products-more-preserved : goal.expr::products-more-preserved
 expr::products-more-preserved t c =
     let q = rw c.in-Some.is at c.in_ok-sign.ensures.eats in
     record {
-      same = rw (c.in_ok-left.ensures, c.kind_of.ensures) (part_read _ _ _ _ _ _ c.more.invariant.same _ _ (eaten_some q) q.room_left _ _ (rw c.in_ok-right.ensures.does refl));
+      same = rw (c.new-left-in-Some.ensures, c.in_ok-operated.ensures, c.into_inner.ensures, c.kind_of.ensures) (part_read _ _ _ _ _ _ c.more.invariant.same _ _ (eaten_some q) q.room_left _ _ (rw c.in_ok-right.ensures.does refl));
       extends = c.more.invariant.extends ⨟ extends_within q ⨟ c.in_ok-right.ensures.extends;
     }
 
 pub expr::products-returns-clause-does : goal.expr::products-returns-clause-does
 expr::products-returns-clause-does t c =
-    no_word _ _ _ _ _ _ c.more.invariant.same _ (rw c.in_default.is at c.in_ok-sign.ensures.gives)
+    rw c.into_inner-2.ensures (no_word _ _ _ _ _ _ c.more.invariant.same _ (rw c.in_default.is at c.in_ok-sign.ensures.gives))
 
 pub expr::sums-returns-in_err-sign-clause-does : goal.expr::sums-returns-in_err-sign-clause-does
 expr::sums-returns-in_err-sign-clause-does t c =
@@ -193,13 +193,13 @@ pub expr::sums-more-preserved : goal.expr::sums-more-preserved
 expr::sums-more-preserved t c =
     let q = rw c.in-Some.is at c.in_ok-sign.ensures.eats in
     record {
-      same = rw (c.in_ok-left.ensures, c.kind_of.ensures) (part_read _ _ _ _ _ _ c.more.invariant.same _ _ (eaten_some q) q.room_left _ _ (rw c.in_ok-right.ensures.does refl));
+      same = rw (c.new-left-in-Some.ensures, c.in_ok-operated.ensures, c.into_inner.ensures, c.kind_of.ensures) (part_read _ _ _ _ _ _ c.more.invariant.same _ _ (eaten_some q) q.room_left _ _ (rw c.in_ok-right.ensures.does refl));
       extends = c.more.invariant.extends ⨟ extends_within q ⨟ c.in_ok-right.ensures.extends;
     }
 
 pub expr::sums-returns-clause-does : goal.expr::sums-returns-clause-does
 expr::sums-returns-clause-does t c =
-    no_word _ _ _ _ _ _ c.more.invariant.same _ (rw c.in_default.is at c.in_ok-sign.ensures.gives)
+    rw c.into_inner-2.ensures (no_word _ _ _ _ _ _ c.more.invariant.same _ (rw c.in_default.is at c.in_ok-sign.ensures.gives))
 
 pub primary::exprs-returns-in_err-eat_within-clause-does : goal.primary::exprs-returns-in_err-eat_within-clause-does
 unfolding reading.exprs
@@ -237,30 +237,30 @@ test::members-returns-in_err-compared_copy-clause-does t c =
     let s = stops_first c.in_err-compared_copy.field-0.0 c.compared_copy.new.tokens _ _ c.in_err-compared_copy.ensures.does in
     let e = made_part_stops _ _ _ _ _ _ _ c.more.invariant.same _ _ (eaten_some q) q.room_left c.in_err-compared_copy.field-0.0 c.compared_copy.new.tokens s in search rules
 
-pub test::members-returns-in_err-last-clause-does : goal.test::members-returns-in_err-last-clause-does
-test::members-returns-in_err-last-clause-does t c =
+pub test::members-returns-in_err-expr-clause-does : goal.test::members-returns-in_err-expr-clause-does
+test::members-returns-in_err-expr-clause-does t c =
     let q = rw c.in-Some.is at c.in_ok-eat_within.ensures.eats in
-    let s = stops_first c.in_err-last.field-0.0 c.expr.new.tokens _ _ c.in_err-last.ensures.does in
-    let e = made_part_stops _ _ _ _ _ _ _ c.more.invariant.same _ _ (eaten_some q) q.room_left c.in_err-last.field-0.0 c.expr.new.tokens (rw c.in_ok-compared_copy.ensures.does s) in search rules
+    let s = stops_first c.in_err-expr.field-0.0 c.expr.new.tokens _ _ c.in_err-expr.ensures.does in
+    let e = made_part_stops _ _ _ _ _ _ _ c.more.invariant.same _ _ (eaten_some q) q.room_left c.in_err-expr.field-0.0 c.expr.new.tokens (rw c.in_ok-compared_copy.ensures.does s) in search rules
 
 pub test::members-more-preserved : goal.test::members-more-preserved
 test::members-more-preserved t c =
     let q = rw c.in-Some.is at c.in_ok-eat_within.ensures.eats in
     record {
-      same = rw c.in_ok-push.ensures.ok (made_part_read _ _ _ _ _ _ _ c.more.invariant.same _ _ (eaten_some q) q.room_left _ _ (rw c.in_ok-compared_copy.ensures.does (rw c.in_ok-last.ensures.does refl)));
-      extends = c.more.invariant.extends ⨟ extends_within q ⨟ c.in_ok-compared_copy.ensures.extends ⨟ c.in_ok-last.ensures.extends;
+      same = rw (c.new-last-in-Some.ensures, c.in_ok-push.ensures.ok) (made_part_read _ _ _ _ _ _ _ c.more.invariant.same _ _ (eaten_some q) q.room_left _ _ (rw c.in_ok-compared_copy.ensures.does (rw c.in_ok-expr.ensures.does refl)));
+      extends = c.more.invariant.extends ⨟ extends_within q ⨟ c.in_ok-compared_copy.ensures.extends ⨟ c.in_ok-expr.ensures.extends;
     }
 
 pub test::members-returns-then-is_empty-clause-does : goal.test::members-returns-then-is_empty-clause-does
 test::members-returns-then-is_empty-clause-does t c =
     let e = made_no_word _ _ _ _ _ _ _ c.more.invariant.same _ (rw c.in_default.is at c.in_ok-eat_within.ensures.gives) in
-    e ∙ rw (c.is_empty.ensures.0 c.if-is_empty.true, c.in_ok-last-2.ensures) refl
+    e ∙ rw (c.is_empty.ensures.0 c.if-is_empty.true, c.in_ok-last.ensures, c.into_inner.ensures) refl
 
 pub test::members-returns-clause-does : goal.test::members-returns-clause-does
 test::members-returns-clause-does t c =
     let e = made_no_word _ _ _ _ _ _ _ c.more.invariant.same _ (rw c.in_default.is at c.in_ok-eat_within.ensures.gives) in
     let s = several c.args.sought.now.value c.more.parts (an_expr.Eq c.args.sought.now.value c.more.last (place_of c.args.sought.now.value)) (λ none. let no : true ≡ false = sym (c.is_empty.ensures.1 none) ∙ c.if-is_empty.false in cc) in
-    rw (c.in_ok-push-2.ensures.ok, c.in_ok-last-2.ensures, c.place_of-at.ensures, c.get.ensures, ← s) e
+    rw (c.in_ok-push-2.ensures.ok, c.in_ok-last.ensures, c.into_inner.ensures, c.place_of-at.ensures, c.get.ensures, ← s) e
 
 pub entry::entries-returns-in_err-eat_within-clause-does : goal.entry::entries-returns-in_err-eat_within-clause-does
 entry::entries-returns-in_err-eat_within-clause-does t c =
