@@ -15,6 +15,7 @@ use crate::case::Case;
 use crate::facts::facts_of;
 use crate::fault::CaseFault;
 use crate::text::{CaseText, read_text};
+use plain_data::Kept;
 use schema_read::read_schema;
 use scope_core::{Resolved, Views, resolve, resolve_views};
 use sql_model::Schema;
@@ -61,18 +62,18 @@ fn resolve_text(alloc: Global, text: &CaseText) -> Result<ResolvedText, CaseFaul
     ensures right { IfOk result (λ r. FitsViews r.views r.right) }
     ensures refused { IfErr result (λ fault. (bytes : List ℕ) (numbers : Numbers) → IsRead bytes text.now numbers → IsRefused bytes fault) }
 {
-    let schema = read_schema(alloc, &text.statements)?;
-    let views = resolve_views(alloc, &schema)?;
-    let left = resolve(alloc, &schema, &views, &text.left)?;
-    let right = resolve(alloc, &schema, &views, &text.right)?;
-    expect_one_width(&left, &right)?;
-    let facts = facts_of(alloc, &schema)?;
+    let schema = Kept::new(read_schema(alloc, &text.statements)?);
+    let views = Kept::new(resolve_views(alloc, schema.get())?);
+    let left = Kept::new(resolve(alloc, schema.get(), views.get(), &text.left)?);
+    let right = Kept::new(resolve(alloc, schema.get(), views.get(), &text.right)?);
+    expect_one_width(left.get(), right.get())?;
+    let facts = facts_of(alloc, schema.get())?;
     Ok(ResolvedText {
-        schema,
-        views,
+        schema: schema.into_inner(),
+        views: views.into_inner(),
         facts,
-        left,
-        right,
+        left: left.into_inner(),
+        right: right.into_inner(),
     })
 }
 

@@ -167,11 +167,11 @@ impl Builder {
             return Err(SchemaCode::UnknownTable.at(on.at));
         };
         check_columns(table.columns.as_slice(), columns.as_slice())?;
+        let key = places_in(alloc, table.columns.as_slice(), columns.as_slice())?;
         let view = Relation::View {
             query: index_query(alloc, on, columns.as_slice(), table)?,
             at: name.at,
         };
-        let key = places_in(alloc, table.columns.as_slice(), columns.as_slice())?;
         declare(&mut self.relations, &name.name, view)?;
         add_index_key(&mut self.relations, unique, &on.name, key)?;
         Ok(())

@@ -7,7 +7,7 @@ use super::MOST_RELATIONS;
 use super::elements::{Elements, table_elements};
 use super::index::index;
 use super::names::name;
-use plain_data::List;
+use plain_data::{Kept, List};
 use sql_grammar::Kind;
 use sql_model::Statement;
 use sql_read::{LimitKind, MOST_LEVELS, ReadFault, Tokens, read_inner_query};
@@ -38,9 +38,9 @@ fn ended_statement(alloc: Global, tokens: &mut Tokens<'_>) -> Result<Statement, 
     ensures does { Gives result tokens.new (reader.ended_statement tokens.old) }
     ensures extends { Extends tokens.old tokens.new }
 {
-    let statement = statement(alloc, tokens)?;
+    let statement = Kept::new(statement(alloc, tokens)?);
     tokens.expect(alloc, Kind::Semicolon)?;
-    Ok(statement)
+    Ok(statement.into_inner())
 }
 
 /// `CREATE`, and what is created.

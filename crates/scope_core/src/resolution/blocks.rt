@@ -23,7 +23,7 @@ use crate::level::{Levels, Sight};
 use crate::output::{Projection, named_columns};
 use crate::star::{add_alias_star, add_star};
 use crate::tree::{Grouping, RBlock, RCond, REntry, RSource, RVal};
-use plain_data::List;
+use plain_data::{Kept, List};
 use sql_model::{Block, Entry, Item, Query, Source};
 use std::alloc::Global;
 
@@ -162,12 +162,12 @@ fn resolve_entries<'k, 'a>(
     let mut headings = Vec::with_capacity(alloc, entries.len())?;
     for entry in entries {
         let source = resolve_source(alloc, &entry.source, known, levels)?;
-        let width = width_of_new(entry, &source.columns, headings.as_slice())?;
+        let width = width_of_new(entry, source.columns.get(), headings.as_slice())?;
         resolved.push_reserved(REntry {
-            source: source.tree,
+            source: source.tree.into_inner(),
             width,
         });
-        headings.push_reserved(Heading::new(&entry.alias, source.columns));
+        headings.push_reserved(Heading::new(&entry.alias, source.columns.into_inner()));
     }
     Ok(FromClause {
         entries: List::from_vec(resolved),
@@ -178,8 +178,8 @@ fn resolve_entries<'k, 'a>(
 /// What an entry takes its rows from, and its columns.
 #[derive(Drop)]
 struct FromSource<'k, 'a> {
-    tree: RSource,
-    columns: Held<'k, 'a>,
+    tree: Kept<RSource>,
+    columns: Kept<Held<'k, 'a>>,
 }
 
 /// How many columns an entry has, whose name no entry before it may have.
@@ -209,14 +209,14 @@ fn resolve_source<'k, 'a>(
 {
     match source {
         Source::Named { name, at } => Ok(FromSource {
-            tree: resolve_name(name, *at, known)?,
-            columns: named_columns(alloc, name, known),
+            tree: Kept::new(resolve_name(name, *at, known)?),
+            columns: Kept::new(named_columns(alloc, name, known)),
         }),
         Source::Query { query } => {
             let query = resolve_query(alloc, query.get(), known, levels)?;
             Ok(FromSource {
-                columns: query.columns.into_columns(alloc)?,
-                tree: RSource::Query { query: query.tree },
+                columns: Kept::new(query.columns.into_columns(alloc)?),
+                tree: Kept::new(RSource::Query { query: query.tree }),
             })
         }
     }

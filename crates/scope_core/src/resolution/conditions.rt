@@ -17,7 +17,7 @@ use crate::grouping::conjunction;
 use crate::heading::Known;
 use crate::level::Levels;
 use crate::tree::{RCond, RVal};
-use plain_data::{Boxed, List, Shared};
+use plain_data::{Boxed, Kept, List, Shared};
 use sql_model::{Expr, Query};
 use std::alloc::Global;
 
@@ -110,11 +110,11 @@ fn resolve_condition<'k, 'a>(
             in_at,
         } => {
             check_subquery(*at, levels)?;
-            let value = resolve_value(alloc, value.get(), known, levels)?;
+            let value = Kept::new(resolve_value(alloc, value.get(), known, levels)?);
             let query = resolve_query(alloc, query.get(), known, levels)?;
             check_widths(1, query.columns.width(), *in_at)?;
             Ok(RCond::In {
-                value,
+                value: value.into_inner(),
                 query: query.tree,
             })
         }

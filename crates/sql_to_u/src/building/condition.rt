@@ -11,6 +11,7 @@ use crate::building::value::{value_term, value_terms};
 use crate::factors::{not, product, some_over, squash, sum};
 use crate::naming::{name_after, names};
 use crate::scope::Scope;
+use plain_data::Kept;
 use scope_core::{NoMemory, RCond, RQuery, Resolved, query_width};
 use std::alloc::Global;
 use u_terms::U;
@@ -46,10 +47,11 @@ fn condition_term(
     ensures { IfOk result (λ u. u ≡ condition_term (terms_of views.now) condition.now (scope_within views.now scope.now) next) }
 {
     match condition {
-        RCond::Eq { left, right } => Ok(U::Eq(
-            value_term(alloc, left.get(), scope, next, views)?,
-            value_term(alloc, right, scope, next, views)?,
-        )),
+        RCond::Eq { left, right } => {
+            let left = Kept::new(value_term(alloc, left.get(), scope, next, views)?);
+            let right = value_term(alloc, right, scope, next, views)?;
+            Ok(U::Eq(left.into_inner(), right))
+        }
         RCond::Pred { sym, args } => Ok(U::Pred(
             *sym,
             value_terms(alloc, args.as_slice(), scope, next, views)?,

@@ -8,7 +8,7 @@ use crate::building::aggregate::counted_term;
 use crate::factors::aggregate;
 use crate::naming::name_after;
 use crate::scope::{Group, Scope, first_at, key_of};
-use plain_data::List;
+use plain_data::{Kept, List};
 use scope_core::items::Parts;
 use scope_core::{Items, NoMemory, RBlock, RVal, Resolved};
 use std::alloc::Global;
@@ -65,9 +65,9 @@ fn add_values(
 {
     for (index, item) in items.iter().enumerate() {
         if index < row.len() {
-            let left = value_term(alloc, item, scope, next, views)?;
+            let left = Kept::new(value_term(alloc, item, scope, next, views)?);
             let right = row[index].copy(alloc)?;
-            factors.push(U::Eq(left, right))?;
+            factors.push(U::Eq(left.into_inner(), right))?;
         }
     }
     Ok(())

@@ -5,6 +5,7 @@ use Rattle.sql_model.specs.Headings.{item_columns, source_columns}
 use Rattle.sql_model.specs.declared.tree.Block.{out-Block}
 use Rattle.sql_model.specs.Headings.{Heading as TheHeading}
 use Rattle.scope_core.specs.FirstFault.{fault_at}
+use Rattle.scope_core.specs.Held.{columns_held}
 use Rattle.scope_core.specs.Sites.{AnAlias, Outputs}
 use Rattle.scope_core.proofs.Fronts.{entries_fault-cons, entries_fault-nil, entries_listed-cons, entries_listed-nil, items_fault-cons, items_fault-nil, items_listed-cons, items_listed-nil, length-items_listed, length-resolved_item, on_fault-cons, on_fault-nil, on_listed-cons, on_listed-nil, seen-apart, seen-joined, seen_by}
 use Rattle.scope_core.specs.Scope.{AsRows, Level, headings_here, no_entry}
@@ -277,19 +278,19 @@ blocks::resolve_entries-loop-entry-preserved t c =
     let alias_is_new = subst P c.as_slice.ensures.value c.in_ok-width.ensures.fine in
     let aliases = ap (λ hs. map (λ h. h.alias) hs) (c.push_reserved-in-loop-entry.ensures.items ∙ ap (λ h. hs ++ h ∷ []) c.new.ensures) ∙ map-append (λ h. h.alias) hs _ in
     let wide : c.in_ok-width.width ≡ length (source_columns e.source relations) =
-    c.in_ok-width.ensures.value ∙ ap (λ cs. length cs) c.in_ok-source.ensures.columns in (
+    c.in_ok-width.ensures.value ∙ ap (λ cs. length cs) (ap columns_held c.get.ensures ∙ c.in_ok-source.ensures.columns) in (
       ap (λ names. entries_fault K L names (drop (i + 1) xs)) aliases
           ∙ (sym (eq ∙ (ap (λ o. option_or o (option_or (fault_at (AnAlias e.alias before e.at)) rest)) c.in_ok-source.ensures.fine ∙ ap (λ o. option_or o rest) alias_is_new))
           ∙ c.loop-entry.invariant.0),
       walk-step (entries_listed K L) xs i e _ _ (entry_of (resolved_source e.source K L, length (source_columns e.source relations)) ∷ []) _
           c.loop-entry-test.true c.entry-item.is (entries_listed-cons K L e _)
           (c.push_reserved.ensures.items
-          ∙ (ap (λ s. made ++ entry_of (s, c.in_ok-width.width) ∷ []) c.in_ok-source.ensures.value
+          ∙ (ap (λ s. made ++ entry_of (s, c.in_ok-width.width) ∷ []) (c.into_inner.ensures ∙ c.in_ok-source.ensures.value)
           ∙ ap (λ w. made ++ entry_of (resolved_source e.source K L, w) ∷ []) wide)) c.loop-entry.invariant.1,
       walk-step (λ es. entries_headings es relations) xs i e _ _ (record { alias = e.alias; columns = source_columns e.source relations } ∷ []) _
           c.loop-entry-test.true c.entry-item.is (entries_headings-cons e _ relations)
           (c.push_reserved-in-loop-entry.ensures.items
-          ∙ ap (λ h. hs ++ h ∷ []) (c.new.ensures ∙ ap (λ cs. record { alias = e.alias; columns = cs }) c.in_ok-source.ensures.columns)) c.loop-entry.invariant.2,
+          ∙ ap (λ h. hs ++ h ∷ []) (c.new.ensures ∙ ap (λ cs. record { alias = e.alias; columns = cs }) (ap columns_held c.into_inner-in-loop-entry.ensures ∙ c.in_ok-source.ensures.columns))) c.loop-entry.invariant.2,
       c.push_reserved.ensures.len ∙ ap (λ n. n + 1) c.loop-entry.invariant.3,
       c.push_reserved-in-loop-entry.ensures.len ∙ ap (λ n. n + 1) c.loop-entry.invariant.4,
       subst (λ room. length xs ≤ room) (sym c.push_reserved.ensures.capacity) c.loop-entry.invariant.5,

@@ -9,7 +9,7 @@ use Rattle.sql_to_u.specs.Translation.{condition_term, source_term, value_term}
 use Rattle.sql_to_u.proofs.TermLaws.{sources-step, sources-end, conditions-cons, conditions-nil, values-cons, values-nil, items_from, item-step, item-skip, item-end, part-step, part-end, view-there, view-past}
 use Rattle.sql_to_u.proofs.Weights.{condition-in, entry-in, value-in, first-in, part-in, last-in, values_left, view-weight, weights_of, block-is}
 use Rattle.sql_to_u.proofs.building.+build.Goals as goal
-use Rattle.sql_to_u.proofs.building.+build.Goals.{value::add_values-then-index-row+in_ok-left+in_ok-right+in_ok-push, value::add_values-else-index-row}
+use Rattle.sql_to_u.proofs.building.+build.Goals.{value::add_values-then-index-row+in_ok-value_term+in_ok-right+in_ok-push, value::add_values-else-index-row}
 
 pub condition::add_conditions-loop-condition-preserved : goal.condition::add_conditions-loop-condition-preserved
 condition::add_conditions-loop-condition-preserved t c =
@@ -74,11 +74,12 @@ value::add_values-loop-index-preserved t c =
     let i = c.loop-index.index in
     let x = c.index-items-index.result in
     elim c.if-index-row.branch [
-      | value::add_values-then-index-row+in_ok-left+in_ok-right+in_ok-push w ↦
+      | value::add_values-then-index-row+in_ok-value_term+in_ok-right+in_ok-push w ↦
+          let left = w.into_inner.ensures ∙ w.new-left.ensures ∙ w.in_ok-value_term.ensures in
           let right = w.in_ok-right.ensures ∙ w.index-row-index.is in
           ap (λ v. v.items ++ items_from V S xs row next (i + 1)) w.factors-is
           ∙ item-step V S xs row next i x w.index-row-index.result c.loop-index.factors.items _ _ c.loop-index-test.true c.index-items-index.is w.if-index-row.true
-          (w.in_ok-push.ensures.items ∙ (λ j. c.loop-index.factors.items ++ u.Eq (w.in_ok-left.ensures j) (right j) ∷ [])) c.loop-index.invariant
+          (w.in_ok-push.ensures.items ∙ (λ j. c.loop-index.factors.items ++ u.Eq (left j) (right j) ∷ [])) c.loop-index.invariant
       | value::add_values-else-index-row w ↦
           ap (λ v. v.items ++ items_from V S xs row next (i + 1)) w.factors-is
           ∙ item-skip V S xs row next i c.loop-index.factors.items _ w.if-index-row.false c.loop-index.invariant
