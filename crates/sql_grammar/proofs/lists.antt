@@ -1,3 +1,4 @@
 pub mod EveryKind
 pub mod KindNumbers
 pub mod KindRows
+pub mod KindTable

@@ -1,10 +1,12 @@
 //! The kinds of tokens that the grammar tells apart.
-ghost use Rattle.std.specs.Prelude.{◌≡◌, map, IfNone, IfSome};
+ghost use Rattle.std.specs.Prelude.{◌≡◌, ◌++◌, map, IfNone, IfSome};
 ghost use Rattle.sql_lex.specs.Bytes.{folded_byte};
+ghost use Rattle.sql_lex.specs.Letters.{IsByLetter};
 ghost use Rattle.sql_lex.specs.Lexemes.{lexeme_of};
-ghost use Rattle.sql_grammar.specs.Kinds.{among, kind_in, kind_of, same, word_kind};
+ghost use Rattle.sql_grammar.specs.Kinds.{among, kind_in, kind_of, same, special_kinds, used_kinds, word_kind};
 ghost use Rattle.sql_grammar.specs.Kinds as kinds;
 
+use sql_lex::letters::{ByLetter, entries_for};
 use sql_lex::reserved::{is_reserved, is_same_word};
 use sql_lex::{Token, TokenKind};
 
@@ -74,51 +76,49 @@ pub enum Kind {
     Concat,
 }
 
-/// Reserved words that the grammar uses.
-const USED_KINDS: [(&[u8], Kind); 31] = [
-    (b"all", Kind::All),
-    (b"and", Kind::And),
-    (b"as", Kind::As),
-    (b"between", Kind::Between),
-    (b"by", Kind::By),
-    (b"constraint", Kind::Constraint),
-    (b"create", Kind::Create),
-    (b"cross", Kind::Cross),
-    (b"distinct", Kind::Distinct),
-    (b"except", Kind::Except),
-    (b"exists", Kind::Exists),
-    (b"foreign", Kind::Foreign),
-    (b"from", Kind::From),
-    (b"group", Kind::Group),
-    (b"having", Kind::Having),
-    (b"in", Kind::In),
-    (b"inner", Kind::Inner),
-    (b"intersect", Kind::Intersect),
-    (b"join", Kind::Join),
-    (b"like", Kind::Like),
-    (b"not", Kind::Not),
-    (b"null", Kind::Null),
-    (b"on", Kind::On),
-    (b"or", Kind::Or),
-    (b"primary", Kind::Primary),
-    (b"references", Kind::References),
-    (b"select", Kind::Select),
-    (b"table", Kind::Table),
-    (b"union", Kind::Union),
-    (b"unique", Kind::Unique),
-    (b"where", Kind::Where),
-];
-
-/// Unreserved words that mean something at some places.
-const SPECIAL_KINDS: [(&[u8], Kind); 8] = [
-    (b"count", Kind::Count),
-    (b"sum", Kind::Sum),
-    (b"avg", Kind::Avg),
-    (b"min", Kind::Min),
-    (b"max", Kind::Max),
-    (b"key", Kind::Key),
-    (b"view", Kind::View),
-    (b"index", Kind::Index),
+/// Reserved words that the grammar uses, and behind them the unreserved ones that mean something at some places.
+static KINDS: ByLetter<'static, (&[u8], Kind)> = [
+    &[
+        (b"all", Kind::All),
+        (b"and", Kind::And),
+        (b"as", Kind::As),
+        (b"avg", Kind::Avg),
+    ],
+    &[(b"between", Kind::Between), (b"by", Kind::By)],
+    &[
+        (b"constraint", Kind::Constraint),
+        (b"create", Kind::Create),
+        (b"cross", Kind::Cross),
+        (b"count", Kind::Count),
+    ],
+    &[(b"distinct", Kind::Distinct)],
+    &[(b"except", Kind::Except), (b"exists", Kind::Exists)],
+    &[(b"foreign", Kind::Foreign), (b"from", Kind::From)],
+    &[(b"group", Kind::Group)],
+    &[(b"having", Kind::Having)],
+    &[
+        (b"in", Kind::In),
+        (b"inner", Kind::Inner),
+        (b"intersect", Kind::Intersect),
+        (b"index", Kind::Index),
+    ],
+    &[(b"join", Kind::Join)],
+    &[(b"key", Kind::Key)],
+    &[(b"like", Kind::Like)],
+    &[(b"min", Kind::Min), (b"max", Kind::Max)],
+    &[(b"not", Kind::Not), (b"null", Kind::Null)],
+    &[(b"on", Kind::On), (b"or", Kind::Or)],
+    &[(b"primary", Kind::Primary)],
+    &[],
+    &[(b"references", Kind::References)],
+    &[(b"select", Kind::Select), (b"sum", Kind::Sum)],
+    &[(b"table", Kind::Table)],
+    &[(b"union", Kind::Union), (b"unique", Kind::Unique)],
+    &[(b"view", Kind::View)],
+    &[(b"where", Kind::Where)],
+    &[],
+    &[],
+    &[],
 ];
 
 /// Whether the two kinds are one.
@@ -148,17 +148,14 @@ fn find_kind(rows: &[(&[u8], Kind)], text: &[u8]) -> Option<Kind>
     None
 }
 
-fn word_kind(text: &[u8]) -> Kind
+/// The kind of a word by the table of those that have kinds of their own.
+fn word_kind(text: &[u8], table: &ByLetter<(&[u8], Kind)>) -> Kind
+    requires { IsByLetter (λ row. row.0) (used_kinds ++ special_kinds) (map (map (λ row. (map folded_byte row.0.now, row.1))) (map (λ rows. rows.now) table.now)) }
     ensures { result ≡ word_kind (map folded_byte text.now) }
 {
-    if let Some(kind) = find_kind(&USED_KINDS, text) {
-        return kind;
-    }
-    if is_reserved(text) {
-        return Kind::LeftOut;
-    }
-    match find_kind(&SPECIAL_KINDS, text) {
+    match find_kind(entries_for(table, text), text) {
         Some(kind) => kind,
+        None if is_reserved(text) => Kind::LeftOut,
         None => Kind::Word,
     }
 }
@@ -192,7 +189,7 @@ pub fn kind_of(token: &Token<'_>) -> Kind
     ensures { result ≡ kind_of (lexeme_of token.now) }
 {
     match token.kind {
-        TokenKind::Word => word_kind(token.text),
+        TokenKind::Word => word_kind(token.text, &KINDS),
         TokenKind::Quoted => Kind::Quoted,
         TokenKind::Number => Kind::Number,
         TokenKind::Text => Kind::Text,

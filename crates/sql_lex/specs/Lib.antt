@@ -1,4 +1,5 @@
 pub mod Bytes
+pub mod Letters
 pub mod Reserved
 pub mod Lexemes
 pub mod Classes

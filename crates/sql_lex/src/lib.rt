@@ -4,6 +4,7 @@
 pub mod bytes;
 mod front;
 pub mod laws;
+pub mod letters;
 mod lexer;
 pub mod reserved;
 #[cfg(test)]

@@ -1,16 +1,15 @@
-use Rattle.std.proofs.Common.{sym, ◌∙◌}
-use Rattle.sql_grammar.proofs.lists.KindRows.{left_out, not_left_out}
+use Rattle.std.proofs.Common.{List, Bor, map, sym, ◌∙◌}
+use Rattle.sql_grammar.proofs.lists.KindRows.{Row, left_out, not_left_out}
+use Rattle.sql_grammar.proofs.lists.KindTable.{word_kind-by_table}
 use Rattle.sql_grammar.proofs.kinds.word_kind.Goals as goal
 
 pub returns-in-Some : goal.returns-in-Some
-returns-in-Some c = sym (c.in-Some.ensures.some _)
-
-pub returns-then-is_reserved : goal.returns-then-is_reserved
-returns-then-is_reserved c = sym (c.in_default.ensures.none _ ∙ left_out _ _ (sym c.is_reserved.ensures ∙ c.if-is_reserved.true))
-
-pub returns-in-Some-find_kind : goal.returns-in-Some-find_kind
-returns-in-Some-find_kind c =
-    sym (c.in_default.ensures.none _ ∙ not_left_out _ _ (sym c.is_reserved.ensures ∙ c.if-is_reserved.false) ∙ c.in-Some-find_kind.ensures.some _)
+returns-in-Some c = sym (word_kind-by_table (map (λ (rows : Bor (List Row)). rows.now) c.args.table.now) c.entries_for.result.now c.args.text.now c.entries_for.ensures c.requires ∙ c.in-Some.ensures.some _)
 
 pub returns-in-None : goal.returns-in-None
-returns-in-None c = sym (c.in_default.ensures.none _ ∙ not_left_out _ _ (sym c.is_reserved.ensures ∙ c.if-is_reserved.false) ∙ c.in-None.ensures.none _)
+returns-in-None c =
+    sym (word_kind-by_table (map (λ (rows : Bor (List Row)). rows.now) c.args.table.now) c.entries_for.result.now c.args.text.now c.entries_for.ensures c.requires ∙ c.in-None.ensures.none _ ∙ left_out _ _ (sym c.is_reserved.ensures ∙ c.if-is_reserved.true))
+
+pub returns-in-None-2 : goal.returns-in-None-2
+returns-in-None-2 c =
+    sym (word_kind-by_table (map (λ (rows : Bor (List Row)). rows.now) c.args.table.now) c.entries_for.result.now c.args.text.now c.entries_for.ensures c.requires ∙ c.in-None.ensures.none _ ∙ not_left_out _ _ (sym c.is_reserved.ensures ∙ c.if-is_reserved.false))
