@@ -20,9 +20,9 @@ use Rattle.sql_grammar.specs.Queries.{most_levels}
 use Rattle.sql_grammar.specs.QueryCopies.{copies_nothing, most_copies, within_copies}
 use Rattle.sql_grammar.specs.QueryGrammar.{a, query}
 use Rattle.sql_grammar.proofs.copies.CopyOnce.{form_costs}
-use Rattle.sql_grammar.proofs.copies.PlanPrices.{EvenIn, evenly}
+use Rattle.sql_grammar.proofs.copies.FactoredCosts.{EvenIn, evenly}
 use Rattle.sql_grammar.proofs.copies.QueryCompletions.{filled}
-use Rattle.grammar.proofs.completed.Prices.{priced_then_skip}
+use Rattle.grammar.proofs.completed.Costs.{costed_then_skip}
 use Rattle.sql_read.specs.Copied.{CopiesSoFar}
 use Rattle.schema_read.specs.CopiedStatements.{CopiedToFault}
 use Rattle.schema_read.specs.StatementGrammar.{statements}
@@ -32,13 +32,13 @@ use Rattle.case_core.specs.declared.text.CaseText.{CaseText}
 use Rattle.case_core.specs.CaseGrammar as g
 use Rattle.case_core.specs.Cases.{cases, shallow_cases, texts, within}
 use Rattle.case_core.specs.Refusals.{KeepsLimits}
-use Rattle.case_core.proofs.CaseCounts.{ReadsQuery, StatementsRead, within_fronts}
-use Rattle.case_core.proofs.CaseFronts.{kept_to, shallow_fronts}
+use Rattle.case_core.proofs.CaseCounts.{ReadsQuery, StatementsRead, within_prefixes}
+use Rattle.case_core.proofs.CasePrefixes.{kept_to, shallow_prefixes}
 
 -- ---- cases as forms
 
 ended_even : EvenIn g.ended_query (λ read. read.copies)
-ended_even = priced_then_skip evenly (evenly.of_ref query) (free _)
+ended_even = costed_then_skip evenly (evenly.of_ref query) (free _)
 
 pub case_even : EvenIn g.case (λ read. read.copies)
 case_even = evenly.of_map g.case_of (λ read. read.copies) (evenly.of_seq statements_even (evenly.of_seq ended_even ended_even)) (λ v. refl)
@@ -49,7 +49,7 @@ pub case_costs : CostsByCompletion copies_nothing cases (λ read. read.copies)
 case_costs = form_costs g.case refl (λ read. read.copies) case_even refl
 
 -- a whole case
-pub whole_few : (copied : ℕ) (ts : List Lexeme) (read : Built CaseText) → cases.spells ts read → copied + read.copies ≤ most_copies → (within_copies copied cases).front ts
+pub whole_few : (copied : ℕ) (ts : List Lexeme) (read : Built CaseText) → cases.spells ts read → copied + read.copies ≤ most_copies → (within_copies copied cases).prefix ts
 whole_few copied ts read s l = whole_within_cost case_costs most_copies copied ts read (s, l)
 
 -- what a refusal says of copies
@@ -62,25 +62,25 @@ Counted before after = CopiesSoFar g.case (λ read. read) before before after
 -- ---- all limits
 
 pub closed : (copied : ℕ) (which : TextLimit) → IsPrefixClosed (keeping texts copied which)
-closed copied depth_limit = shallow_fronts.shorter
+closed copied depth_limit = shallow_prefixes.shorter
 closed copied (count_limit limit.Copies) = within_cost_closed case_costs most_copies copied
-closed copied (count_limit other) = (within_fronts other).shorter
+closed copied (count_limit other) = (within_prefixes other).shorter
 
--- what is spelled within a limit is a front within it
-pub spelled_front : (copied : ℕ) (which : TextLimit) (ts : List Lexeme) (read : Built CaseText) → (keeping texts copied which).spells ts read → (keeping texts copied which).front ts
-spelled_front copied depth_limit ts read s = shallow_fronts.spelled ts read s
-spelled_front copied (count_limit limit.Copies) ts read s = whole_within_cost case_costs most_copies copied ts read s
-spelled_front copied (count_limit other) ts read s = (within_fronts other).spelled ts read s
+-- what is spelled within a limit is a prefix within it
+pub spelled_prefix : (copied : ℕ) (which : TextLimit) (ts : List Lexeme) (read : Built CaseText) → (keeping texts copied which).spells ts read → (keeping texts copied which).prefix ts
+spelled_prefix copied depth_limit ts read s = shallow_prefixes.spelled ts read s
+spelled_prefix copied (count_limit limit.Copies) ts read s = whole_within_cost case_costs most_copies copied ts read s
+spelled_prefix copied (count_limit other) ts read s = (within_prefixes other).spelled ts read s
 
 -- what was taken keeps them, and goes on with nothing
-pub keeps_limits : (copied : ℕ) {ts : List Lexeme} (taken rest : List Lexeme) → ts ≡ taken ++ rest → shallow_cases.front taken → ((what : LimitKind) → (within what).front taken) → (within_copies copied cases).front taken
+pub keeps_limits : (copied : ℕ) {ts : List Lexeme} (taken rest : List Lexeme) → ts ≡ taken ++ rest → shallow_cases.prefix taken → ((what : LimitKind) → (within what).prefix taken) → (within_copies copied cases).prefix taken
     → Stops cases taken rest → KeepsLimits copied ts
-keeps_limits copied {ts} taken rest e shallow few copies s which = kept_to (keeping texts copied which) (closed copied which) ts taken rest e (front which) s
+keeps_limits copied {ts} taken rest e shallow few copies s which = kept_to (keeping texts copied which) (closed copied which) ts taken rest e (prefix which) s
   where
-    front : (which : TextLimit) → (keeping texts copied which).front taken
-    front depth_limit = shallow
-    front (count_limit limit.Copies) = copies
-    front (count_limit other) = few other
+    prefix : (which : TextLimit) → (keeping texts copied which).prefix taken
+    prefix depth_limit = shallow
+    prefix (count_limit limit.Copies) = copies
+    prefix (count_limit other) = few other
 
 -- ---- one query
 

@@ -25,7 +25,7 @@ use Rattle.schema_read.proofs.counts.CopiedParts.{counted_within}
 use Rattle.sql_read.proofs.steps.ReadSteps.{LeftOf, blocks, built_both, built_map, entries_within, first_part, mapped as mapped_left, refuses, second, takes, whole, same_taken}
 use Rattle.schema_read.specs.CopiedStatements.{CopiedToFault}
 use Rattle.schema_read.specs.StatementGrammar.{statements}
-use Rattle.sql_grammar.proofs.queries.QueryForms.{form_has_fronts, roomier}
+use Rattle.sql_grammar.proofs.queries.QueryForms.{form_has_prefixes, roomier}
 use Rattle.schema_read.proofs.agree.Telling.{refused_more, taken_more, with_both}
 use Rattle.case_core.specs.declared.fault.CaseFault.{CaseFault}
 use Rattle.case_core.specs.declared.fault.CaseFault.TheVariants.{Read, NotTwoQueries, NoMemory}
@@ -36,8 +36,8 @@ use Rattle.case_core.specs.ReadingCases.{IsEnded, IsMore, IsNoEnd, IsTrailing, R
 use Rattle.case_core.specs.Refusals.{EndsBehind, GoesOnBehind, Says, KeepsLimits}
 use Rattle.case_core.specs.Wrapping.{of_read}
 use Rattle.case_core.proofs.CaseCopies.{CopiedAll, Counted, behind_first, behind_statements, first_copied, second_copied, whole_few, keeps_limits}
-use Rattle.case_core.proofs.CaseCounts.{CountsRefused, KeepsAll, ReadsQuery, StatementsRead, first_counted, keeps_behind, keeps_behind_first, second_counted, taken_within, within_fronts, few_before}
-use Rattle.case_core.proofs.CaseFronts.{fronts, shallow_fronts, shallow_included, third_there}
+use Rattle.case_core.proofs.CaseCounts.{CountsRefused, KeepsAll, ReadsQuery, StatementsRead, first_counted, keeps_behind, keeps_behind_first, second_counted, taken_within, within_prefixes, few_before}
+use Rattle.case_core.proofs.CasePrefixes.{prefixes, shallow_prefixes, shallow_included, third_there}
 use Rattle.case_core.proofs.Outcomes.{Behind, RefusesAll, TakesAll, more_behind, not_two_excluded, refused, says_next, took}
 
 behind : {V : Type 0} {part : The V} {before here : Cursor} {value : V} → TakesAll part before.tokens value here.tokens → Extends before here → IsMore here → Behind part before
@@ -51,7 +51,7 @@ stops_at_end : (taken rest : List Lexeme) → rest ≡ [] → Stops cases taken 
 stops_at_end taken rest e = subst (λ z. Stops cases taken z) (sym e) tt
 
 -- a text ends behind this part, and no token of it passes a limit
-text_ends : {V : Type 0} {part : The V} {a b : Cursor} {v : V} → TakesAll part a.tokens v b.tokens → ((ts : List Lexeme) → (of_form (Some most_levels) part).spells ts v → shallow_cases.front ts)
+text_ends : {V : Type 0} {part : The V} {a b : Cursor} {v : V} → TakesAll part a.tokens v b.tokens → ((ts : List Lexeme) → (of_form (Some most_levels) part).spells ts v → shallow_cases.prefix ts)
     → KeepsAll a.tokens b.tokens → Counted a b → Extends a b → IsEnded b → {end : ℕ} → end ≡ a.end → b.copies ≤ most_copies → EndsBehind (of_form None part) a.tokens a.fault a.end end × KeepsLimits a.copies a.tokens
 text_ends {part = part} {a = a} {b = b} {v = v} t begins keeps counted x n e most =
     let u = took part t in (
@@ -77,8 +77,8 @@ module _ {a b : Cursor} {list : List Statement} (s : StatementsRead a list b) (x
   pub no_query : IsEnded b → {end : ℕ} → end ≡ a.end → RefusesCase a (NotTwoQueries 0 end) b
   no_query n e = record {
     says = λ most.
-        let entries = (queries_left.few tt).began b.tokens (nothing_began (few_form g.two_queries) (entries_within g.two_queries).fronts b.tokens) in
-        let u = text_ends s.reads.takes (λ ts w. inr (ts, [], s.reads.read, sym (append-nil ts), w, (form_has_fronts (Some most_levels) g.two_queries).empty))
+        let entries = (queries_left.few tt).began b.tokens (nothing_began (few_form g.two_queries) (entries_within g.two_queries).prefixes b.tokens) in
+        let u = text_ends s.reads.takes (λ ts w. inr (ts, [], s.reads.read, sym (append-nil ts), w, (form_has_prefixes (Some most_levels) g.two_queries).empty))
         (keeps_behind s entries) (behind_statements s) x n e most in
         record { counted = inl (refl, u.0); kept = u.1 };
   }
@@ -102,9 +102,9 @@ module _ {a b c : Cursor} {list : List Statement} {left : Query} (s : Statements
     pub no_second : IsEnded c → {end : ℕ} → end ≡ a.end → RefusesCase a (NotTwoQueries 1 end) c
     no_second n e = record {
       says = λ most.
-          let entries = ((query_left x).few tt).began c.tokens (nothing_began (few_form g.ended_query) (entries_within g.ended_query).fronts c.tokens) in
+          let entries = ((query_left x).few tt).began c.tokens (nothing_began (few_form g.ended_query) (entries_within g.ended_query).prefixes c.tokens) in
           let u = text_ends one_taken
-          (λ ts w. inr (w.0, w.1, s.reads.read, w.2, w.3, inr (w.1, [], p.read, sym (append-nil w.1), w.4, (form_has_fronts (Some most_levels) g.ended_query).empty)))
+          (λ ts w. inr (w.0, w.1, s.reads.read, w.2, w.3, inr (w.1, [], p.read, sym (append-nil w.1), w.4, (form_has_prefixes (Some most_levels) g.ended_query).empty)))
           (keeps_behind_first s p entries) (behind_first s p) (x ⨟ y) n e most in
           record { counted = inr (inl (refl, u.0)); kept = u.1 };
     }
@@ -136,14 +136,14 @@ module _ {a b c d : Cursor} {list : List Statement} {left right : Query} (s : St
   spelled : cases.spells taken value
   spelled = shallow_included.spells taken value the_case.spelled
 
-  case_few : d.copies ≤ most_copies → (within_copies a.copies cases).front taken
+  case_few : d.copies ≤ most_copies → (within_copies a.copies cases).prefix taken
   case_few most = whole_few a.copies taken value spelled (omega (arith, most, s.reads.builds.copies, p.builds.copies, q.builds.copies))
 
   few_spelled : (what : LimitKind) → (within what).spells taken value
   few_spelled what = let t = the_few what in subst (λ z. (within what).spells z value) (same_taken a.tokens d.tokens t.taken taken t.whole the_case.whole) t.spelled
 
   is_limited : d.copies ≤ most_copies → KeepsLimits a.copies a.tokens
-  is_limited most = keeps_limits a.copies taken d.tokens the_case.whole (shallow_fronts.spelled taken value the_case.spelled) (λ what. (within_fronts what).spelled taken value (few_spelled what)) (case_few most) the_case.stops
+  is_limited most = keeps_limits a.copies taken d.tokens the_case.whole (shallow_prefixes.spelled taken value the_case.spelled) (λ what. (within_prefixes what).spelled taken value (few_spelled what)) (case_few most) the_case.stops
 
   module _ (x : Extends a b) (y : Extends b c) (z : Extends c d) where
     pub all_read : IsEnded d → TakesCase a (record { statements = list; left = left; right = right }) d
@@ -167,7 +167,7 @@ module _ {a b c d : Cursor} {list : List Statement} {left right : Query} (s : St
           taken = taken;
           rest = d.tokens;
           parts = the_case.whole;
-          leading = stops_at_longest cases fronts a.tokens taken d.tokens the_case.whole (fronts.spelled taken value spelled) the_case.stops;
+          leading = stops_at_longest cases prefixes a.tokens taken d.tokens the_case.whole (prefixes.spelled taken value spelled) the_case.stops;
           unspelled = more_behind (behind case_taken whole_way t.more);
           not_counted = not_two_excluded a (more_behind (behind s.reads.takes x first_more)) (more_behind (behind (one_taken s p) (x ⨟ y) second_more)) (λ at third. no_third third);
           kept = is_limited most;

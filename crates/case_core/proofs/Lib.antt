@@ -1,4 +1,4 @@
-pub mod CaseFronts
+pub mod CasePrefixes
 pub mod CaseCounts
 pub mod CaseCopies
 pub mod Outcomes

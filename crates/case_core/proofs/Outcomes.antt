@@ -3,7 +3,7 @@ use Rattle.std.proofs.Common.{◌≡◌, ◌≤◌, ℕ, List, [], ◌∷◌, �
 use Rattle.std.proofs.lemmas.Bool.{cond_both}
 use Rattle.std.proofs.lemmas.List.{append-nil}
 use Rattle.grammar.specs.Form.{Room}
-use Rattle.grammar.specs.Language.{Language, HasFronts}
+use Rattle.grammar.specs.Language.{Language, HasPrefixes}
 use Rattle.grammar.specs.Reading.{Took, Failed}
 use Rattle.grammar.proofs.readers.Longest.{no_longer, stops_at_longest}
 use Rattle.grammar.proofs.readers.Steps.{Same, took_in, failed_in}
@@ -25,9 +25,9 @@ use Rattle.sql_read.proofs.whole.WholeTexts as whole
 use Rattle.sql_read.proofs.whole.WholeTexts.{refusal_here}
 use Rattle.schema_read.specs.Counting.{IsPlaced}
 use Rattle.schema_read.specs.StatementGrammar.{statements}
-use Rattle.sql_grammar.specs.QueryPlan.{in_plan}
+use Rattle.sql_grammar.specs.FactoredQueries.{in_factored}
 use Rattle.schema_read.proofs.counts.CountSteps.{begun_free}
-use Rattle.sql_grammar.proofs.queries.QueryForms.{form_has_fronts, known_includes, planned_includes}
+use Rattle.sql_grammar.proofs.queries.QueryForms.{form_has_prefixes, known_includes, left_factored_includes}
 use Rattle.case_core.specs.declared.fault.CaseFault.TheVariants.{Read}
 use Rattle.case_core.specs.CaseGrammar as g
 use Rattle.case_core.specs.Cases.{cases, texts}
@@ -35,9 +35,9 @@ use Rattle.case_core.specs.ReadingCases.{IsMore, RefusesCase}
 use Rattle.case_core.specs.Refusals.{GoesOnBehind, HasNotTwoQueries, IsUnfinished, Says}
 use Rattle.case_core.specs.Wrapping.{of_read}
 use Rattle.case_core.proofs.CaseCopies.{CopiedAll, Counted, case_costs, keeps_limits}
-use Rattle.case_core.proofs.CaseCounts.{CountsRefused, KeepsAll, few_before, planned_within, within_fronts, within_same}
+use Rattle.case_core.proofs.CaseCounts.{CountsRefused, KeepsAll, few_before, left_factored_within, within_prefixes, within_same}
 use Rattle.schema_read.proofs.counts.CopiedParts.{counted_within, keeps_copies}
-use Rattle.case_core.proofs.CaseFronts.{fronts, no_third, shallow_included}
+use Rattle.case_core.proofs.CasePrefixes.{prefixes, no_third, shallow_included}
 
 -- both limits were kept before
 abbrev FailsAll : {A : Type 0} → The A → Cursor → ReadFault → Cursor → Type 0
@@ -51,14 +51,14 @@ RefusesAll f before fault after = RefusesWithin relations_too f (few_form f) mos
 
 -- ---- of the published grammar
 
-plan_same : {A : Type 0} (f : The A) (room : Room) → Same (in_plan room f) (of_form room f)
-plan_same f room = record { there = known_includes room f; back = planned_includes room f }
+factored_same : {A : Type 0} (f : The A) (room : Room) → Same (in_factored room f) (of_form room f)
+factored_same f room = record { there = known_includes room f; back = left_factored_includes room f }
 
 pub took : {A : Type 0} (f : The A) {here rest : List Lexeme} {value : A} → TakesAll f here value rest → Took (of_form None f) (of_form (Some most_levels) f) here value rest
-took f {here = here} {rest = rest} {value = value} t = took_in _ _ _ _ (plan_same f None) (plan_same f (Some most_levels)) here value rest t.took
+took f {here = here} {rest = rest} {value = value} t = took_in _ _ _ _ (factored_same f None) (factored_same f (Some most_levels)) here value rest t.took
 
 failed : {A : Type 0} (f : The A) {before after : Cursor} {fault : ReadFault} → FailsAll f before fault after → Failed (of_form None f) (of_form (Some most_levels) f) before.tokens after.tokens
-failed f {before = before} {after = after} r = failed_in _ _ _ _ (plan_same f None) (plan_same f (Some most_levels)) before.tokens after.tokens r.failed
+failed f {before = before} {after = after} r = failed_in _ _ _ _ (factored_same f None) (factored_same f (Some most_levels)) before.tokens after.tokens r.failed
 
 -- ---- parts that are not all of the text
 
@@ -83,16 +83,16 @@ more_behind {part = part} {before = before} b n value s = stopped b.here.tokens 
     stopped : (rest : List Lexeme) → b.here.tokens ≡ rest → ⊥
     stopped [] e = b.more (record { tokens = e; fault = b.fault ∙ n })
     stopped (c ∷ rest) e =
-        no_longer (of_form None part) (form_has_fronts None part) t.taken b.here.tokens c rest t.stops e rest
-        (subst (of_form None part).front (t.whole ∙ ap (λ z. t.taken ++ z) e) ((form_has_fronts None part).spelled before.tokens value s))
+        no_longer (of_form None part) (form_has_prefixes None part) t.taken b.here.tokens c rest t.stops e rest
+        (subst (of_form None part).prefix (t.whole ∙ ap (λ z. t.taken ++ z) e) ((form_has_prefixes None part).spelled before.tokens value s))
 
-unspelled : {A : Type 0} (U B : Language Lexeme A) → HasFronts U → (ts rest : List Lexeme) → Failed U B ts rest → (value : A) → U.spells ts value → ⊥
+unspelled : {A : Type 0} (U B : Language Lexeme A) → HasPrefixes U → (ts rest : List Lexeme) → Failed U B ts rest → (value : A) → U.spells ts value → ⊥
 unspelled U B l ts [] r value s = r.unspelled value (subst (λ z. U.spells z value) (r.whole ∙ append-nil r.taken) s)
-unspelled U B l ts (c ∷ rest) r value s = no_longer U l r.taken (c ∷ rest) c rest r.stops refl rest (subst U.front r.whole (l.spelled ts value s))
+unspelled U B l ts (c ∷ rest) r value s = no_longer U l r.taken (c ∷ rest) c rest r.stops refl rest (subst U.prefix r.whole (l.spelled ts value s))
 
 pub refused_within : {V : Type 0} {part : The V} {before after : Cursor} {fault : ReadFault} → FailsAll part before fault after → Exceeding part before
 refused_within {part = part} {before = before} {after = after} r n value s =
-    unspelled (of_form None part) (of_form (Some most_levels) part) (form_has_fronts None part) before.tokens after.tokens (failed part r) value s
+    unspelled (of_form None part) (of_form (Some most_levels) part) (form_has_prefixes None part) before.tokens after.tokens (failed part r) value s
 
 -- either shows that the text does not spell the part, where the fault is of the text
 abbrev pub Excluded : {V : Type 0} → The V → Cursor → ReadFault → Cursor → Type 0
@@ -111,7 +111,7 @@ not_two_excluded before none one third count at (inl (e, x)) = none x.last x.val
 not_two_excluded before none one third count at (inr (inl (e, x))) = one x.last x.value x.whole
 not_two_excluded before none one third count at (inr (inr (e, x))) = third at x
 
--- the longest front was taken, and keeps the limits
+-- the longest prefix was taken, and keeps the limits
 fails_within : {before after : Cursor} (fault : ReadFault) → RefusesAll g.case before fault after → CountsRefused before fault after → IsPlaced fault → FailsAll g.case before fault after → KeepsAll before.tokens after.tokens
 fails_within fault r n placed f limit.Columns = n.columns.begun placed
 fails_within fault r n placed f limit.Entries = let t = f.few tt in record { taken = t.taken; whole = t.whole; begun = t.begun }
@@ -126,7 +126,7 @@ unfinished {before} {after} r few copies most x none one =
       taken = t.taken;
       rest = after.tokens;
       parts = t.whole;
-      leading = stops_at_longest cases fronts before.tokens t.taken after.tokens t.whole (shallow_included.front t.taken t.begun) t.stops;
+      leading = stops_at_longest cases prefixes before.tokens t.taken after.tokens t.whole (shallow_included.prefix t.taken t.begun) t.stops;
       unspelled = refused_within r;
       not_counted = not_two_excluded before none one (λ at third. no_third t third);
       kept = keeps_limits before.copies t.taken after.tokens t.whole t.begun (few_before few t.taken t.whole) (counted_within copies most t.taken t.whole) t.stops;
@@ -137,7 +137,7 @@ unfinished {before} {after} r few copies most x none one =
 limited : {before after : Cursor} (fault : ReadFault) → after.copies ≤ most_copies → RefusesAll g.case before fault after → CountsRefused before fault after → CopiedAll before fault after → Extends before after
     → of_texts.IsRefused texts before.copies before.tokens before.fault before.end fault
 limited {before} {after} fault most r n c x =
-    whole.refused texts (planned_within limit.Columns) (planned_within limit.Relations) (within_same limit.Columns) (within_same limit.Entries) (within_same limit.Relations) (λ what. (within_fronts what).shorter) case_costs
+    whole.refused texts (left_factored_within limit.Columns) (left_factored_within limit.Relations) (within_same limit.Columns) (within_same limit.Entries) (within_same limit.Relations) (λ what. (within_prefixes what).shorter) case_costs
     relations_too tt before after x fault r
     (record { columns_kept = λ placed shallow. n.columns.begun placed; relations_kept = λ placed shallow. n.relations.begun placed; columns_passed = n.columns.passed; relations_passed = n.relations.passed })
     (keeps_copies texts most fault c)

@@ -16,7 +16,7 @@ use Rattle.case_core.specs.declared.fault.CaseFault.TheVariants.{Read, NotTwoQue
 use Rattle.case_core.specs.declared.text.CaseText.{CaseText}
 use Rattle.grammar.proofs.languages.Limits.{kept}
 use Rattle.case_core.specs.Cases.{IsRead, cases, shallow_cases}
-use Rattle.case_core.proofs.CaseFronts.{shallow_fronts}
+use Rattle.case_core.proofs.CasePrefixes.{shallow_prefixes}
 use Rattle.case_core.specs.ReadingCases.{RefusesCase, TakesCase}
 use Rattle.case_core.specs.Refusals.{IsNoText, Says}
 
@@ -50,7 +50,7 @@ text_read {text} {start} {end} {written} l f none t few small n most = record {
     spelled = t.spelled;
     built = ap (λ z. t.value.build z) (sym f) ∙ (t.built ∙ ap (λ z. (written, z)) (sym n));
   };
-  shallow = kept cases shallow_cases shallow_fronts.shorter start.tokens (shallow_fronts.spelled start.tokens t.value t.shallow);
+  shallow = kept cases shallow_cases shallow_prefixes.shorter start.tokens (shallow_prefixes.spelled start.tokens t.value t.shallow);
   few = t.few;
   few_copies = omega (arith, none, most, t.copied);
   few_relations = few;

@@ -46,7 +46,7 @@ within limit.Copies = cases
 
 -- a text may go on after these tokens
 abbrev pub BeginsCase : List Lexeme → Type 0
-BeginsCase ts = cases.front ts
+BeginsCase ts = cases.prefix ts
 
 -- cases, with what keeps each limit on a count
 abbrev pub texts : Texts CaseText

@@ -3,7 +3,7 @@
 use Rattle.std.specs.Prelude.{◌≡◌, ℕ, List, ◌∷◌, ◌++◌, ◌⊎◌, length, true, Option, None}
 use Rattle.grammar.specs.Language.{Language}
 use Rattle.grammar.specs.Limits.{KeepsWithin}
-use Rattle.grammar.specs.Reading.{IsLongestFront}
+use Rattle.grammar.specs.Reading.{IsLongestPrefix}
 use Rattle.sql_lex.specs.declared.token.LexFault.{LexFault}
 use Rattle.sql_lex.specs.Lexemes.{Lexeme}
 use Rattle.sql_lex.specs.Tokens.{Lexes}
@@ -62,12 +62,12 @@ pub record IsNotTwo (copied : ℕ) (tokens : List Lexeme) (fault : Option LexFau
   pub counted : HasNotTwoQueries tokens fault end count at
   pub kept : KeepsLimits copied tokens
 
--- The text spells no case, though it has not too few queries nor too many; what stands behind its longest front is refused.
+-- The text spells no case, though it has not too few queries nor too many; what stands behind its longest prefix is refused.
 pub record IsUnfinished (copied : ℕ) (tokens : List Lexeme) (fault : Option LexFault) (end : ℕ) (refused : ReadFault) : Type 0 where
   pub taken : List Lexeme
   pub rest : List Lexeme
   pub parts : tokens ≡ taken ++ rest
-  pub leading : IsLongestFront cases tokens taken
+  pub leading : IsLongestPrefix cases tokens taken
   pub unspelled : fault ≡ None → (value : Built CaseText) → cases.spells tokens value → ⊥
   pub not_counted : (count at : ℕ) → HasNotTwoQueries tokens fault end count at → ⊥
   pub kept : KeepsLimits copied tokens

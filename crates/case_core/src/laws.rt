@@ -2,7 +2,7 @@
 ghost use Rattle.std.specs.Prelude.{◌≡◌, ◌++◌, List, [], length, ℕ};
 ghost use Rattle.data_model.specs.Lists.{Each};
 ghost use Rattle.grammar.specs.Form.{Room};
-ghost use Rattle.grammar.specs.Language.{HasFronts, Includes, IsUnambiguous};
+ghost use Rattle.grammar.specs.Language.{HasPrefixes, Includes, IsUnambiguous};
 ghost use Rattle.sql_lex.specs.Lexemes.{Lexeme};
 ghost use Rattle.sql_grammar.specs.Numbering.{Built, Numbers};
 ghost use Rattle.sql_read.specs.ReadingTexts.{Passes, PassesDepth, TextLimit};
@@ -22,15 +22,15 @@ pub fn one_case()
 {}
 
 /// A text may go on after no tokens, after fewer tokens than it may go on after, and after a whole case; there nothing goes on.
-pub fn fronts()
+pub fn prefixes()
     ensures empty { BeginsCase [] }
     ensures shorter { (x y : List Lexeme) → BeginsCase (x ++ y) → BeginsCase x }
     ensures spelled { (tokens : List Lexeme) (read : Built Written) → cases.spells tokens read → BeginsCase tokens }
     ensures last { (x y : List Lexeme) (read : Built Written) → cases.spells x read → BeginsCase (x ++ y) → y ≡ [] }
-    ensures limited { (room : Room) → HasFronts (of_form room g.case) }
+    ensures limited { (room : Room) → HasPrefixes (of_form room g.case) }
 {}
 
-/// What is spelled within the limits is spelled, and a front within them is a front.
+/// What is spelled within the limits is spelled, and a prefix within them is a prefix.
 pub fn limits()
     ensures { Includes cases shallow_cases }
 {}

@@ -1,4 +1,4 @@
 pub mod languages
-pub mod plans
+pub mod factorings
 pub mod readers
 pub mod completed

@@ -1,6 +1,6 @@
 pub mod Fillings
-pub mod FrontCompletions
+pub mod PrefixCompletions
 pub mod ComputedCompletions
-pub mod SameFronts
-pub mod SamePrices
-pub mod Prices
+pub mod SamePrefixes
+pub mod SameCosts
+pub mod Costs

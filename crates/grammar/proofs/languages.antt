@@ -1,7 +1,7 @@
 pub mod Cut
 pub mod Sets
 pub mod Forms
-pub mod Fronts
+pub mod Prefixes
 pub mod Heights
 pub mod Short
 pub mod Known

@@ -4,6 +4,6 @@ pub mod Completing
 pub mod Longest
 pub mod Outcomes
 pub mod Predictions
-pub mod Remaining
+pub mod Residuals
 pub mod Repetitions
 pub mod Steps

@@ -71,5 +71,5 @@ language_within kind rules (suc height) room n = form_language kind (language_wi
 unfoldable pub language : {T K N : Type 0} {V : N → Type 0} → (T → K) → Rules T K N V → Room → (n : N) → Language T (V n)
 language kind rules room n = record {
   spells = λ ts v. (height : ℕ) × (language_within kind rules height room n).spells ts v;
-  front = λ ts. (height : ℕ) × (language_within kind rules height room n).front ts;
+  prefix = λ ts. (height : ℕ) × (language_within kind rules height room n).prefix ts;
 }

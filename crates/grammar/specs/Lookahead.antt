@@ -7,7 +7,7 @@ use Rattle.grammar.specs.Form.{Form, Rules, empty, token, seq, alt, star, nest, 
 pub record Lookahead (K : Type 0) : Type 0 where
   -- whether no tokens may be spelled
   pub nullable : Bool
-  -- the kinds with which a front may begin
+  -- the kinds with which a prefix may begin
   pub first : K → Bool
   -- the kinds that may go on after a spelling
   pub last : K → Bool
@@ -15,8 +15,8 @@ pub record Lookahead (K : Type 0) : Type 0 where
 -- the language does what its lookahead allows
 pub record HasLookahead {T K A : Type 0} (kind : T → K) (L : Language T A) (a : Lookahead K) : Type 0 where
   pub nullable : (v : A) → L.spells [] v → a.nullable ≡ true
-  pub first : (t : T) (x : List T) → L.front (t ∷ x) → a.first (kind t) ≡ true
-  pub last : (x : List T) (v : A) (t : T) (y : List T) → L.spells x v → L.front (x ++ t ∷ y) → a.last (kind t) ≡ true
+  pub first : (t : T) (x : List T) → L.prefix (t ∷ x) → a.first (kind t) ≡ true
+  pub last : (x : List T) (v : A) (t : T) (y : List T) → L.spells x v → L.prefix (x ++ t ∷ y) → a.last (kind t) ≡ true
 
 -- ---- the lookahead of a form
 

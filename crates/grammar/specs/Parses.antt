@@ -1,4 +1,4 @@
--- All ways to read the front of a list of tokens, computed. It is a help for samples: what is computed is spelled.
+-- All ways to read the prefix of a list of tokens, computed. It is a help for samples: what is computed is spelled.
 use Rattle.std.specs.Prelude.{ℕ, nat_lt, zero, suc, ◌-◌, Bool, true, false, ◌&&◌, ◌||◌, List, [], ◌∷◌, ◌++◌, length, Some, None, Option, ◌⊎◌}
 use Rattle.std.proofs.Common.{inl, inr}
 use Rattle.grammar.specs.Form.{Form, Rules, Room, empty, token, seq, alt, star, nest, map, only, nonempty, counted, fork, ref}
@@ -64,8 +64,8 @@ whole_values [] = []
 whole_values ((v, []) ∷ parses) = v ∷ whole_values parses
 whole_values ((v, t ∷ rest) ∷ parses) = whole_values parses
 
--- Whether a list is a front, computed: it ends within a form, or behind one and within what follows. It is a help for samples too: what is
--- computed to be a front is one.
+-- Whether a list is a prefix, computed: it ends within a form, or behind one and within what follows. It is a help for samples too: what is
+-- computed to be a prefix is one.
 abbrev pub is_nil : {T : Type 0} → List T → Bool
 is_nil [] = true
 is_nil (t ∷ ts) = false

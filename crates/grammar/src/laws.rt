@@ -1,10 +1,10 @@
 //! Laws of grammars, each the contract of a function that does nothing.
 ghost use Rattle.std.specs.Prelude.{◌≡◌, ◌∷◌, List, Some, None, true, ℕ};
 ghost use Rattle.grammar.specs.Form.{IsRoomier, Room, Rules, form_language, language};
-ghost use Rattle.grammar.specs.Language.{Includes, HasFronts, IsUnambiguous};
+ghost use Rattle.grammar.specs.Language.{Includes, HasPrefixes, IsUnambiguous};
 ghost use Rattle.grammar.specs.Lookahead.{HasLookahead, PredictiveGrammar, limited, unlimited};
 ghost use Rattle.grammar.specs.Parses.{name_begins, name_parses, whole_values};
-ghost use Rattle.grammar.specs.Reading.{Exceeded, Failed, IsLongestFront, Took};
+ghost use Rattle.grammar.specs.Reading.{Exceeded, Failed, IsLongestPrefix, Took};
 
 /// A grammar over tokens, which have kinds. Its names have productions, and values of their own.
 pub trait Grammar {
@@ -34,9 +34,9 @@ pub trait Predictive {
     ghost grammar: { PredictiveGrammar Token Kind Name Tree };
 }
 
-/// A front of a front is a front, and so is a spelling, within any limits.
-pub fn fronts<G: Grammar>()
-    ensures { (room : Room) (n : G.Name) → HasFronts (language G.kind G.rules room n) }
+/// A prefix of a prefix is a prefix, and so is a spelling, within any limits.
+pub fn prefixes<G: Grammar>()
+    ensures { (room : Room) (n : G.Name) → HasPrefixes (language G.kind G.rules room n) }
 {}
 
 /// What is within some limits is within wider ones, and with no limits.
@@ -53,22 +53,22 @@ pub fn productions<G: Grammar>()
         Includes (language G.kind G.rules room n) (form_language G.kind (language G.kind G.rules) room (G.rules n)) }
 {}
 
-/// What is computed to be a whole value is spelled, within any limits, and what is computed to be a front is one.
+/// What is computed to be a whole value is spelled, within any limits, and what is computed to be a prefix is one.
 pub fn computing<G: Grammar>()
     ensures spelled { (height : ℕ) (room : Room) (n : G.Name) (ts : List G.Token) (v : G.Tree n) (others : List (G.Tree n)) →
         whole_values (name_parses G.kind G.rules height room n ts) ≡ v ∷ others → (language G.kind G.rules room n).spells ts v }
     ensures begun { (height : ℕ) (room : Room) (n : G.Name) (ts : List G.Token) → name_begins G.kind G.rules height room n ts ≡ true →
-        (language G.kind G.rules room n).front ts }
+        (language G.kind G.rules room n).prefix ts }
 {}
 
-/// Where a reader stops, it has taken the longest front.
+/// Where a reader stops, it has taken the longest prefix.
 pub fn longest<G: Grammar>()
     ensures read { (n : G.Name) (levels : ℕ) (ts rest : List G.Token) (v : G.Tree n) →
         (r : Took (language G.kind G.rules None n) (language G.kind G.rules (Some levels) n) ts v rest) →
-        IsLongestFront (language G.kind G.rules None n) ts r.taken }
+        IsLongestPrefix (language G.kind G.rules None n) ts r.taken }
     ensures refused { (n : G.Name) (levels : ℕ) (ts rest : List G.Token) →
         (r : Failed (language G.kind G.rules None n) (language G.kind G.rules (Some levels) n) ts rest) →
-        IsLongestFront (language G.kind G.rules None n) ts r.taken }
+        IsLongestPrefix (language G.kind G.rules None n) ts r.taken }
 {}
 
 /// What the table says of a name holds of its language.

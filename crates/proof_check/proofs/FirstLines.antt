@@ -60,7 +60,7 @@ module _ (facts : Facts) (outs : ℕ) (left : U) where
           let same : stopped stop ≡ on count progress = one_state facts outs left xs ys (stopped stop) (on count progress) e (λ z. other (stop_in z)) (λ z. cc z) s t in
           absurd (cc same)
 
-  -- where they come to no stop, no front of them does
+  -- where they come to no stop, no prefix of them does
   pub decided_alone : (bytes : List ℕ) (lines : List (List ℕ)) (rest : List ℕ) (all : List (List ℕ)) (end : List ℕ) (stop : Stop) (count : ℕ) (progress : Progress)
       → AreEnded bytes lines rest → Stands facts outs left lines (stopped stop)
       → AreEnded bytes all end → Unbroken end → Stands facts outs left all (on count progress) → stop ≡ Fault NoMemory

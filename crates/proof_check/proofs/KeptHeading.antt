@@ -19,9 +19,9 @@ use Rattle.proof_check.specs.Kept.{waiting_in, progress_of, most_outs, AreNear, 
 ok_number : (m n : ℕ) (r s : Rest) → ◌≡◌ {A = Reading ℕ} (Ok m, r) (Ok n, s) → m ≡ n
 ok_number m n r s e = let told : ◌≡◌ {A = Result ℕ Stop} (Ok m) (Ok n) = ap (λ (x : Reading ℕ). x.0) e in cc
 
-one_number : (front : List ℕ) (m n : ℕ) → m < 2 ^ 32 → n < 2 ^ 32 → numbered_line front m ≡ numbered_line front n → m ≡ n
-one_number front m n few less e =
-    let same : decimal m ++ newline ≡ decimal n ++ newline = append_cancel_left front (decimal m ++ newline) (decimal n ++ newline) e in
+one_number : (prefix : List ℕ) (m n : ℕ) → m < 2 ^ 32 → n < 2 ^ 32 → numbered_line prefix m ≡ numbered_line prefix n → m ≡ n
+one_number prefix m n few less e =
+    let same : decimal m ++ newline ≡ decimal n ++ newline = append_cancel_left prefix (decimal m ++ newline) (decimal n ++ newline) e in
     let pair : ◌≡◌ {A = Reading ℕ} (Ok m, start newline) (Ok n, start newline) = sym (number_line (decimal m ++ newline) m few refl) ∙ number_line (decimal m ++ newline) n less same in
     ok_number m n (start newline) (start newline) pair
 

@@ -341,18 +341,18 @@ nothing-more [] text e = cc e
 nothing-more (x ∷ xs) text e = cc e
 
 pub record SameEnd (xs ys : List (List ℕ)) (text other : List ℕ) : Type 0 where
-  pub fronts : xs ≡ ys
+  pub prefixes : xs ≡ ys
   pub lasts : text ≡ other
 
 same_end : (xs ys : List (List ℕ)) (text other : List ℕ) → xs ++ text ∷ [] ≡ ys ++ other ∷ [] → SameEnd xs ys text other
-same_end [] [] text other e = record { fronts = refl; lasts = cc }
+same_end [] [] text other e = record { prefixes = refl; lasts = cc }
 same_end [] (y ∷ ys) text other e = let i : [] ≡ ys ++ other ∷ [] = cc in absurd (nothing-more ys other i)
 same_end (x ∷ xs) [] text other e = let i : xs ++ text ∷ [] ≡ [] = cc in absurd (nothing-more xs text (sym i))
 same_end (x ∷ xs) (y ∷ ys) text other e =
     let head : x ≡ y = cc in
     let i : xs ++ text ∷ [] ≡ ys ++ other ∷ [] = cc in
     let s = same_end xs ys text other i in
-    record { fronts = ap (λ (z : List ℕ). z ∷ xs) head ∙ ap (λ (zs : List (List ℕ)). y ∷ zs) s.fronts; lasts = s.lasts }
+    record { prefixes = ap (λ (z : List ℕ). z ∷ xs) head ∙ ap (λ (zs : List (List ℕ)). y ∷ zs) s.prefixes; lasts = s.lasts }
 
 abbrev lines_in : State → ℕ
 lines_in (on lines progress) = lines
@@ -391,46 +391,46 @@ module _ (facts : Facts) (outs : ℕ) (left : U) where
   one_state _ _ _ _ e n m (takes {texts = xs} {text = x} a h) none = absurd (nothing-more xs x (sym e))
   one_state _ _ _ _ e n m (takes {texts = xs} {lines = i} {before = p} {after = after} {text = x} a h) (takes {texts = ys} {lines = l} {before = q} {after = other} {text = y} b k) =
       let s = same_end xs ys x y e in
-      let before = one_state xs ys (on i p) (on l q) s.fronts (λ z. cc z) (λ z. cc z) a b in
+      let before = one_state xs ys (on i p) (on l q) s.prefixes (λ z. cc z) (λ z. cc z) a b in
       let o : goes after ≡ goes other = same_coming i l p q x y (goes after) (goes other) before s.lasts (taken-comes facts outs (i + 1) p x after h) (taken-comes facts outs (l + 1) q y other k) in
       ap (λ (z : ℕ). on (z + 1) after) (ap lines_in before) ∙ ap (on (l + 1)) (ap (next_of after) o)
   one_state _ _ _ _ e n m (takes {texts = xs} {lines = i} {before = p} {after = after} {text = x} a h) (stops {texts = ys} {lines = l} {before = q} {text = y} {stop = stop} b k) =
       let s = same_end xs ys x y e in
-      let before = one_state xs ys (on i p) (on l q) s.fronts (λ z. cc z) (λ z. cc z) a b in
+      let before = one_state xs ys (on i p) (on l q) s.prefixes (λ z. cc z) (λ z. cc z) a b in
       let o : goes after ≡ halts stop = same_coming i l p q x y (goes after) (halts stop) before s.lasts (taken-comes facts outs (i + 1) p x after h) (stopped-comes facts outs (l + 1) q y stop k) in
       absurd (cc o)
   one_state _ _ _ _ e n m (takes {texts = xs} {lines = i} {before = p} {text = x} a h) (stays {texts = ys} {stop = stop} y b) =
       let s = same_end xs ys x y e in
-      let before = one_state xs ys (on i p) (stopped stop) s.fronts (λ z. cc z) m a b in
+      let before = one_state xs ys (on i p) (stopped stop) s.prefixes (λ z. cc z) m a b in
       absurd (cc before)
   one_state _ _ _ _ e n m (takes a h) no_memory = absurd (m refl)
   one_state _ _ _ _ e n m (stops {texts = xs} {text = x} a h) none = absurd (nothing-more xs x (sym e))
   one_state _ _ _ _ e n m (stops {texts = xs} {lines = i} {before = p} {text = x} {stop = stop} a h) (takes {texts = ys} {lines = l} {before = q} {after = other} {text = y} b k) =
       let s = same_end xs ys x y e in
-      let before = one_state xs ys (on i p) (on l q) s.fronts (λ z. cc z) (λ z. cc z) a b in
+      let before = one_state xs ys (on i p) (on l q) s.prefixes (λ z. cc z) (λ z. cc z) a b in
       let o : halts stop ≡ goes other = same_coming i l p q x y (halts stop) (goes other) before s.lasts (stopped-comes facts outs (i + 1) p x stop h) (taken-comes facts outs (l + 1) q y other k) in
       absurd (cc o)
   one_state _ _ _ _ e n m (stops {texts = xs} {lines = i} {before = p} {text = x} {stop = stop} a h) (stops {texts = ys} {lines = l} {before = q} {text = y} {stop = other} b k) =
       let s = same_end xs ys x y e in
-      let before = one_state xs ys (on i p) (on l q) s.fronts (λ z. cc z) (λ z. cc z) a b in
+      let before = one_state xs ys (on i p) (on l q) s.prefixes (λ z. cc z) (λ z. cc z) a b in
       let o : halts stop ≡ halts other = same_coming i l p q x y (halts stop) (halts other) before s.lasts (stopped-comes facts outs (i + 1) p x stop h) (stopped-comes facts outs (l + 1) q y other k) in
       ap (halted stop) o
   one_state _ _ _ _ e n m (stops {texts = xs} {lines = i} {before = p} {text = x} a h) (stays {texts = ys} {stop = stop} y b) =
       let s = same_end xs ys x y e in
-      let before = one_state xs ys (on i p) (stopped stop) s.fronts (λ z. cc z) m a b in
+      let before = one_state xs ys (on i p) (stopped stop) s.prefixes (λ z. cc z) m a b in
       absurd (cc before)
   one_state _ _ _ _ e n m (stops a h) no_memory = absurd (m refl)
   one_state _ _ _ _ e n m (stays {texts = xs} x a) none = absurd (nothing-more xs x (sym e))
   one_state _ _ _ _ e n m (stays {texts = xs} {stop = stop} x a) (takes {texts = ys} {lines = l} {before = q} {text = y} b k) =
       let s = same_end xs ys x y e in
-      let before = one_state xs ys (stopped stop) (on l q) s.fronts n (λ z. cc z) a b in
+      let before = one_state xs ys (stopped stop) (on l q) s.prefixes n (λ z. cc z) a b in
       absurd (cc before)
   one_state _ _ _ _ e n m (stays {texts = xs} {stop = stop} x a) (stops {texts = ys} {lines = l} {before = q} {text = y} b k) =
       let s = same_end xs ys x y e in
-      let before = one_state xs ys (stopped stop) (on l q) s.fronts n (λ z. cc z) a b in
+      let before = one_state xs ys (stopped stop) (on l q) s.prefixes n (λ z. cc z) a b in
       absurd (cc before)
   one_state _ _ _ _ e n m (stays {texts = xs} {stop = stop} x a) (stays {texts = ys} {stop = other} y b) =
-      one_state xs ys (stopped stop) (stopped other) (same_end xs ys x y e).fronts n m a b
+      one_state xs ys (stopped stop) (stopped other) (same_end xs ys x y e).prefixes n m a b
   one_state _ _ _ _ e n m (stays x a) no_memory = absurd (m refl)
   one_state _ _ _ _ e n m no_memory b = absurd (n refl)
 

@@ -108,7 +108,7 @@ module _ (before : Partial) (piece : List ℕ) where
 
   pub nothing-taken : (rest : List ℕ) → rest ≡ piece → IsTakenSoFar before piece rest before
   nothing-taken rest e = record {
-    front = [];
+    prefix = [];
     parts = sym e;
     lines = [];
     ended = subst (λ b. AreEnded b [] before.bytes) (sym (append-nil before.bytes)) nothing;
@@ -123,21 +123,21 @@ module _ (before : Partial) (piece : List ℕ) where
         subst (λ b. AreEnded b (fed (now.bytes ++ bytes) true ∷ []) []) (append-nil (fed (now.bytes ++ bytes) true) ∙ append_assoc now.bytes bytes (10 ∷ []))
         (line (now.bytes ++ bytes) (unbroken-append now.bytes bytes u v) nothing)
 
-    ended-with : (bytes : List ℕ) → IsUnbroken now.bytes → IsUnbroken bytes → AreEnded (before.bytes ++ (t.front ++ (bytes ++ 10 ∷ []))) (t.lines ++ fed (now.bytes ++ bytes) true ∷ []) []
+    ended-with : (bytes : List ℕ) → IsUnbroken now.bytes → IsUnbroken bytes → AreEnded (before.bytes ++ (t.prefix ++ (bytes ++ 10 ∷ []))) (t.lines ++ fed (now.bytes ++ bytes) true ∷ []) []
     ended-with bytes u v =
-        ended-pieces before.bytes t.front (bytes ++ 10 ∷ []) now.bytes t.lines (fed (now.bytes ++ bytes) true ∷ []) [] t.ended (one-ended bytes u v)
+        ended-pieces before.bytes t.prefix (bytes ++ 10 ∷ []) now.bytes t.lines (fed (now.bytes ++ bytes) true ∷ []) [] t.ended (one-ended bytes u v)
 
-    parts-with : (bytes more : List ℕ) → rest ≡ bytes ++ 10 ∷ more → piece ≡ (t.front ++ (bytes ++ 10 ∷ [])) ++ more
+    parts-with : (bytes more : List ℕ) → rest ≡ bytes ++ 10 ∷ more → piece ≡ (t.prefix ++ (bytes ++ 10 ∷ [])) ++ more
     parts-with bytes more e =
-        t.parts ∙ (ap (λ r. t.front ++ r) (e ∙ sym (append_assoc bytes (10 ∷ []) more)) ∙ sym (append_assoc t.front (bytes ++ 10 ∷ []) more))
+        t.parts ∙ (ap (λ r. t.prefix ++ r) (e ∙ sym (append_assoc bytes (10 ∷ []) more)) ∙ sym (append_assoc t.prefix (bytes ++ 10 ∷ []) more))
 
     pub line-taken : (bytes more : List ℕ) (after : Partial) → rest ≡ bytes ++ 10 ∷ more → IsUnbroken now.bytes → IsUnbroken bytes → EndsLine now bytes after (Ok tt)
         → IsTakenSoFar before piece more after
     line-taken bytes more after e u v (g, empty) = record {
-      front = t.front ++ (bytes ++ 10 ∷ []);
+      prefix = t.prefix ++ (bytes ++ 10 ∷ []);
       parts = parts-with bytes more e;
       lines = t.lines ++ fed (now.bytes ++ bytes) true ∷ [];
-      ended = subst (λ b. AreEnded (before.bytes ++ (t.front ++ (bytes ++ 10 ∷ []))) (t.lines ++ fed (now.bytes ++ bytes) true ∷ []) b) (sym empty) (ended-with bytes u v);
+      ended = subst (λ b. AreEnded (before.bytes ++ (t.prefix ++ (bytes ++ 10 ∷ []))) (t.lines ++ fed (now.bytes ++ bytes) true ∷ []) b) (sym empty) (ended-with bytes u v);
       unbroken = λ w. subst IsUnbroken (sym empty) tt;
       goes_on = goes-append before.check now.check after.check t.lines (fed (now.bytes ++ bytes) true ∷ []) t.goes_on g;
     }
@@ -149,8 +149,8 @@ module _ (before : Partial) (piece : List ℕ) where
         lines = t.lines ++ fed (now.bytes ++ bytes) true ∷ [];
         rest = more;
         ended = subst (λ b. AreEnded (before.bytes ++ b) (t.lines ++ fed (now.bytes ++ bytes) true ∷ []) more) (sym (parts-with bytes more e))
-            (subst (λ b. AreEnded b (t.lines ++ fed (now.bytes ++ bytes) true ∷ []) more) (append_assoc before.bytes (t.front ++ (bytes ++ 10 ∷ [])) more)
-            (ended-before (before.bytes ++ (t.front ++ (bytes ++ 10 ∷ []))) (t.lines ++ fed (now.bytes ++ bytes) true ∷ []) [] more (ended-with bytes u v)));
+            (subst (λ b. AreEnded b (t.lines ++ fed (now.bytes ++ bytes) true ∷ []) more) (append_assoc before.bytes (t.prefix ++ (bytes ++ 10 ∷ [])) more)
+            (ended-before (before.bytes ++ (t.prefix ++ (bytes ++ 10 ∷ []))) (t.lines ++ fed (now.bytes ++ bytes) true ∷ []) [] more (ended-with bytes u v)));
         stops = stops-append before.check now.check t.lines (fed (now.bytes ++ bytes) true ∷ []) stop t.goes_on s;
       },
       halted before.check now.check after.check t.lines stop t.goes_on h,
@@ -167,11 +167,11 @@ module _ (before : Partial) (piece : List ℕ) where
     pub rest-kept : (bytes more : List ℕ) (after : Partial) → rest ≡ bytes ++ more → IsUnbroken bytes → (after.check ≡ now.check) × (after.bytes ≡ now.bytes ++ bytes)
         → IsTakenSoFar before piece more after
     rest-kept bytes more after e v (same, kept) = record {
-      front = t.front ++ bytes;
-      parts = t.parts ∙ (ap (λ r. t.front ++ r) e ∙ sym (append_assoc t.front bytes more));
+      prefix = t.prefix ++ bytes;
+      parts = t.parts ∙ (ap (λ r. t.prefix ++ r) e ∙ sym (append_assoc t.prefix bytes more));
       lines = t.lines;
-      ended = subst (λ b. AreEnded (before.bytes ++ (t.front ++ bytes)) t.lines b) (sym kept)
-          (subst (λ b. AreEnded b t.lines (now.bytes ++ bytes)) (append_assoc before.bytes t.front bytes) (ended-before (before.bytes ++ t.front) t.lines now.bytes bytes t.ended));
+      ended = subst (λ b. AreEnded (before.bytes ++ (t.prefix ++ bytes)) t.lines b) (sym kept)
+          (subst (λ b. AreEnded b t.lines (now.bytes ++ bytes)) (append_assoc before.bytes t.prefix bytes) (ended-before (before.bytes ++ t.prefix) t.lines now.bytes bytes t.ended));
       unbroken = λ w. subst IsUnbroken (sym kept) (unbroken-append now.bytes bytes (t.unbroken w) v);
       goes_on = subst (GoesOn before.check t.lines) (sym same) t.goes_on;
     }
@@ -180,7 +180,7 @@ module _ (before : Partial) (piece : List ℕ) where
     pub all-taken : rest ≡ [] → IsTaken before piece now
     all-taken e = record {
       lines = t.lines;
-      ended = subst (λ b. AreEnded (before.bytes ++ b) t.lines now.bytes) (sym (t.parts ∙ (ap (λ r. t.front ++ r) e ∙ append-nil t.front))) t.ended;
+      ended = subst (λ b. AreEnded (before.bytes ++ b) t.lines now.bytes) (sym (t.parts ∙ (ap (λ r. t.prefix ++ r) e ∙ append-nil t.prefix))) t.ended;
       unbroken = t.unbroken;
       goes_on = t.goes_on;
     }

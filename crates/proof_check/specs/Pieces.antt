@@ -88,9 +88,9 @@ KeepsLine before bytes after (Err stop) = (stop ≡ Fault NoMemory) × HasStoppe
 
 -- so much of the piece was taken
 pub record IsTakenSoFar (before : Partial) (piece rest : List ℕ) (now : Partial) : Type 0 where
-  pub front : List ℕ
-  pub parts : piece ≡ front ++ rest
+  pub prefix : List ℕ
+  pub parts : piece ≡ prefix ++ rest
   pub lines : List (List ℕ)
-  pub ended : AreEnded (before.bytes ++ front) lines now.bytes
+  pub ended : AreEnded (before.bytes ++ prefix) lines now.bytes
   pub unbroken : IsUnbroken before.bytes → IsUnbroken now.bytes
   pub goes_on : GoesOn before.check lines now.check

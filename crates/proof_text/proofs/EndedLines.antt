@@ -19,11 +19,11 @@ ended-append _ _ rest others end text.nothing b = b
 ended-append _ _ rest others end (text.line bytes {text = after} {lines = lines} u a) b = text.line bytes u (ended-append after lines rest others end a b)
 
 -- of two pieces
-pub ended-pieces : (front first more rest : List ℕ) (lines others : List (List ℕ)) (end : List ℕ)
-    → AreEnded (front ++ first) lines rest → AreEnded (rest ++ more) others end → AreEnded (front ++ (first ++ more)) (lines ++ others) end
-ended-pieces front first more rest lines others end a b =
-    subst (λ (z : List ℕ). AreEnded z (lines ++ others) end) (append_assoc front first more)
-    (ended-append ((front ++ first) ++ more) lines (rest ++ more) others end (ended-before (front ++ first) lines rest more a) b)
+pub ended-pieces : (prefix first more rest : List ℕ) (lines others : List (List ℕ)) (end : List ℕ)
+    → AreEnded (prefix ++ first) lines rest → AreEnded (rest ++ more) others end → AreEnded (prefix ++ (first ++ more)) (lines ++ others) end
+ended-pieces prefix first more rest lines others end a b =
+    subst (λ (z : List ℕ). AreEnded z (lines ++ others) end) (append_assoc prefix first more)
+    (ended-append ((prefix ++ first) ++ more) lines (rest ++ more) others end (ended-before (prefix ++ first) lines rest more a) b)
 
 -- with the lines of what is behind them these are all lines
 pub ended-lines : (bytes : List ℕ) (lines : List (List ℕ)) (rest : List ℕ) (others : List (List ℕ)) → AreEnded bytes lines rest → AreLines rest others → AreLines bytes (lines ++ others)

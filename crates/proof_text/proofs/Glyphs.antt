@@ -90,10 +90,10 @@ abbrev pub Spelt : {A : Type 0} → List ℕ → (A → List ℕ) → (A → ℕ
 Spelt all whole P (Ok v, r) = Has all whole P v r
 Spelt all whole P (Err stop, r) = Unit {0}
 
-pub spelt_then : {A B : Type 0} (all : List ℕ) (front : A → List ℕ) (P : A → ℕ → Type 0) (whole : B → List ℕ) (Q : B → ℕ → Type 0) (reading : Reading A) (more : A → Rest → Reading B)
-    → Spelt all front P reading → ((v : A) (r : Rest) → all ≡ front v ++ r.text → P v r.nodes → Spelt all whole Q (more v r)) → Spelt all whole Q (reading >>= more)
-spelt_then all front P whole Q (Ok v, r) more c k = k v r c.text c.is
-spelt_then all front P whole Q (Err stop, r) more c k = tt
+pub spelt_then : {A B : Type 0} (all : List ℕ) (prefix : A → List ℕ) (P : A → ℕ → Type 0) (whole : B → List ℕ) (Q : B → ℕ → Type 0) (reading : Reading A) (more : A → Rest → Reading B)
+    → Spelt all prefix P reading → ((v : A) (r : Rest) → all ≡ prefix v ++ r.text → P v r.nodes → Spelt all whole Q (more v r)) → Spelt all whole Q (reading >>= more)
+spelt_then all prefix P whole Q (Ok v, r) more c k = k v r c.text c.is
+spelt_then all prefix P whole Q (Err stop, r) more c k = tt
 
 -- ---- single bytes
 -- no node begins

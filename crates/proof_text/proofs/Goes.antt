@@ -3,10 +3,10 @@ use Rattle.std.proofs.Common.{◌≡◌, ℕ, Bool, true, false, not, ◌&&◌, 
 use Rattle.std.specs.Prelude.{◌==◌, if◌then◌else◌}
 use Rattle.grammar.specs.Form.{token, seq, alt, map, ref, language}
 use Rattle.grammar.specs.Lookahead.{Lookahead}
-use Rattle.grammar.specs.Reading.{Took, Failed, Remains}
+use Rattle.grammar.specs.Reading.{Took, Failed, Residual}
 use Rattle.grammar.proofs.readers.Choices.{is_absent}
 use Rattle.grammar.proofs.readers.Predictions.{ok, ahead, within, limits_within, produced}
-use Rattle.grammar.proofs.readers.Remaining as r
+use Rattle.grammar.proofs.readers.Residuals as r
 use Rattle.grammar.proofs.readers.Steps.{IsWithin, token_took, token_failed, token_ended}
 use Rattle.proof_text.specs.declared.cursor.Stop.TheVariants.{Unexpected, TooMany, TooDeep, NoMemory}
 use Rattle.proof_text.specs.Signs.{Sign, code, sign}
@@ -26,11 +26,11 @@ took_any levels f here v rest t = record { taken = t.taken; whole = t.whole; spe
 
 -- f remains to be read here, with so many levels, of a reading of N that began at the start
 pub record Goes {C A : Type 0} (f : F C) (levels : ℕ) (here : List ℕ) (N : F A) (most : ℕ) (start : List ℕ) (h : C → A) : Type 0 where
-  pub deep : Remains (free f) (bounded levels f) here (free N) (bounded most N) start h
-  pub any : Remains (free f) (free f) here (free N) (free N) start h
+  pub deep : Residual (free f) (bounded levels f) here (free N) (bounded most N) start h
+  pub any : Residual (free f) (free f) here (free N) (free N) start h
 
 pub whole : {A : Type 0} {N : F A} {levels : ℕ} {start : List ℕ} → Goes N levels start N levels start (λ v. v)
-whole {N = N} {levels = levels} {start = start} = record { deep = r.remains_whole (free N) (bounded levels N) start; any = r.remains_whole (free N) (free N) start }
+whole {N = N} {levels = levels} {start = start} = record { deep = r.residual_whole (free N) (bounded levels N) start; any = r.residual_whole (free N) (free N) start }
 
 module _ {A : Type 0} {N : F A} {most : ℕ} {start : List ℕ} where
   -- what is read of the last form is what is read of N
@@ -50,8 +50,8 @@ module _ {A : Type 0} {N : F A} {most : ℕ} {start : List ℕ} where
 
   pub production : {levels : ℕ} {here : List ℕ} (n : Name) {h : Tree n → A} → Goes (ref n) levels here N most start h → Goes (rules n) levels here N most start h
   production {levels = levels} {here = here} n {h = h} l = record {
-    deep = r.remains_production grammar n _ _ (produced grammar (Some levels) n) here _ _ start h l.deep;
-    any = r.remains_production grammar n _ _ (produced grammar None n) here _ _ start h l.any;
+    deep = r.residual_production grammar n _ _ (produced grammar (Some levels) n) here _ _ start h l.deep;
+    any = r.residual_production grammar n _ _ (produced grammar None n) here _ _ start h l.any;
   }
 
   module _ {C D : Type 0} {f : F C} {e : F D} {levels : ℕ} {here : List ℕ} {h : C × D → A} (l : Goes (seq f e) levels here N most start h) (o : ok grammar (seq f e) ≡ true) where
@@ -96,7 +96,7 @@ module _ {A : Type 0} {N : F A} {most : ℕ} {start : List ℕ} where
     }
 
     -- the next byte begins the first
-    pub by_next : ok grammar (alt f e) ≡ true → (byte : ℕ) (text : List ℕ) → here ≡ byte ∷ text → (free f).front (byte ∷ []) → Goes f levels here N most start h
+    pub by_next : ok grammar (alt f e) ≡ true → (byte : ℕ) (text : List ℕ) → here ≡ byte ∷ text → (free f).prefix (byte ∷ []) → Goes f levels here N most start h
     by_next o byte text i b = record {
       deep = r.left_by_token grammar _ _ start f e _ _ here h l.deep (deep_within levels e) o byte text i b;
       any = r.left_by_token grammar _ _ start f e _ _ here h l.any (any_within e) o byte text i b;

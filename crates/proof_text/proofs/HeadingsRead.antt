@@ -44,16 +44,16 @@ pub at_line_feed : (text : List ℕ) (m n : ℕ) (r : Rest) → number_at (start
 at_line_feed text m n r e w i = ap (λ (z : Reading ℕ). z.1) (sym e ∙ number_line text n w i)
 
 -- ---- behind the bytes in front
-pub fed_behind : (front x : List ℕ) (ended : Bool) → fed (front ++ x) ended ≡ front ++ fed x ended
-fed_behind front x true = append_assoc front x (10 ∷ [])
-fed_behind front x false = refl
+pub fed_behind : (prefix x : List ℕ) (ended : Bool) → fed (prefix ++ x) ended ≡ prefix ++ fed x ended
+fed_behind prefix x true = append_assoc prefix x (10 ∷ [])
+fed_behind prefix x false = refl
 
-pub numbered_behind : (front line x : List ℕ) (ended : Bool) (r : Option ℕ) → line ≡ front ++ x → IsNumbered [] (fed x ended) r → IsNumbered front (fed line ended) r
-numbered_behind front line x ended (Some n) e h =
-    (ap (λ (z : List ℕ). fed z ended) e ∙ fed_behind front x ended ∙ ap (λ (z : List ℕ). front ++ z) h.0, h.1)
-numbered_behind front line x ended None e h =
-    λ n w i. h n w (append_cancel_left front (fed x ended) (decimal n ++ newline) (sym (fed_behind front x ended) ∙ ap (λ (z : List ℕ). fed z ended) (sym e) ∙ i))
+pub numbered_behind : (prefix line x : List ℕ) (ended : Bool) (r : Option ℕ) → line ≡ prefix ++ x → IsNumbered [] (fed x ended) r → IsNumbered prefix (fed line ended) r
+numbered_behind prefix line x ended (Some n) e h =
+    (ap (λ (z : List ℕ). fed z ended) e ∙ fed_behind prefix x ended ∙ ap (λ (z : List ℕ). prefix ++ z) h.0, h.1)
+numbered_behind prefix line x ended None e h =
+    λ n w i. h n w (append_cancel_left prefix (fed x ended) (decimal n ++ newline) (sym (fed_behind prefix x ended) ∙ ap (λ (z : List ℕ). fed z ended) (sym e) ∙ i))
 
-pub not_behind : (front line : List ℕ) (ended : Bool) → ((rest : List ℕ) → line ≡ front ++ rest → ⊥) → IsNumbered front (fed line ended) None
-not_behind front line true h n w i = h (decimal n) (append_cancel_right line (front ++ decimal n) (10 ∷ []) (i ∙ sym (append_assoc front (decimal n) (10 ∷ []))))
-not_behind front line false h n w i = h (decimal n ++ newline) i
+pub not_behind : (prefix line : List ℕ) (ended : Bool) → ((rest : List ℕ) → line ≡ prefix ++ rest → ⊥) → IsNumbered prefix (fed line ended) None
+not_behind prefix line true h n w i = h (decimal n) (append_cancel_right line (prefix ++ decimal n) (10 ∷ []) (i ∙ sym (append_assoc prefix (decimal n) (10 ∷ []))))
+not_behind prefix line false h n w i = h (decimal n ++ newline) i

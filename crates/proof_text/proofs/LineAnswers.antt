@@ -2,7 +2,7 @@
 use Rattle.std.proofs.Common.{◌≡◌, ℕ, ◌+◌, ◌-◌, ◌≤◌, false, List, [], ◌∷◌, ◌++◌, length, length-append, Ok, Err, refl, sym, ap, ◌∙◌, subst, arith, append_assoc}
 use Rattle.std.proofs.lemmas.List.{append-nil, append_cancel_right}
 use Rattle.grammar.specs.Form.{ref}
-use Rattle.grammar.specs.Reading.{Took, Exceeded, Passes, IsLongestFront}
+use Rattle.grammar.specs.Reading.{Took, Exceeded, Passes, IsLongestPrefix}
 use Rattle.grammar.proofs.readers.Longest.{took_longest, failed_longest}
 use Rattle.proof_text.specs.declared.line.LineStep.{LineStep}
 use Rattle.proof_text.specs.declared.cursor.Stop.{Stop}
@@ -30,25 +30,25 @@ abbrev pub Told : List ℕ → Reading LineStep → Type 0
 Told text (Ok says, rest) = IsRead text says
 Told text (Err stop, rest) = IsRefused text (fault_of stop (length text - length rest.text))
 
-same_front : (text x y rest : List ℕ) → text ≡ x ++ rest → text ≡ y ++ rest → x ≡ y
-same_front text x y rest e i = append_cancel_right x y rest (sym e ∙ i)
+same_prefix : (text x y rest : List ℕ) → text ≡ x ++ rest → text ≡ y ++ rest → x ≡ y
+same_prefix text x y rest e i = append_cancel_right x y rest (sym e ∙ i)
 
--- a text that goes on behind its longest front is no line
-not_whole : (text front rest : List ℕ) → text ≡ front ++ rest → IsLongestFront lines text front → (rest ≡ [] → (says : LineStep) → lines.spells front says → ⊥) → (says : LineStep) → lines.spells text says → ⊥
-not_whole text front [] e l n says s = n refl says (subst (λ z. lines.spells z says) (e ∙ append-nil front) s)
-not_whole text front (byte ∷ rest) e l n says s =
-    let h = l.longest text [] (sym (append-nil text)) ((any_within (ref line)).fronts.spelled text says s) in
-    omega (arith, ap length e, length-append front (byte ∷ rest))
+-- a text that goes on behind its longest prefix is no line
+not_whole : (text prefix rest : List ℕ) → text ≡ prefix ++ rest → IsLongestPrefix lines text prefix → (rest ≡ [] → (says : LineStep) → lines.spells prefix says → ⊥) → (says : LineStep) → lines.spells text says → ⊥
+not_whole text prefix [] e l n says s = n refl says (subst (λ z. lines.spells z says) (e ∙ append-nil prefix) s)
+not_whole text prefix (byte ∷ rest) e l n says s =
+    let h = l.longest text [] (sym (append-nil text)) ((any_within (ref line)).prefixes.spelled text says s) in
+    omega (arith, ap length e, length-append prefix (byte ∷ rest))
 
-column : (text front rest : List ℕ) → text ≡ front ++ rest → length text - length rest + 1 ≡ length front + 1
-column text front rest e = omega (arith, ap length e, length-append front rest)
+column : (text prefix rest : List ℕ) → text ≡ prefix ++ rest → length text - length rest + 1 ≡ length prefix + 1
+column text prefix rest e = omega (arith, ap length e, length-append prefix rest)
 
 module _ (text : List ℕ) where
-  bad_told : (r : Rest) (front : List ℕ) → text ≡ front ++ r.text → IsLongestFront lines text front → ((says : LineStep) → lines.spells text says → ⊥) → shallow_lines.front front
+  bad_told : (r : Rest) (prefix : List ℕ) → text ≡ prefix ++ r.text → IsLongestPrefix lines text prefix → ((says : LineStep) → lines.spells text says → ⊥) → shallow_lines.prefix prefix
       → Stands start Unexpected (all_of text) r → IsBad text (length text - length r.text + 1)
-  bad_told r front e l n sh c =
-      let i : c.taken ≡ front = same_front text c.taken front r.text c.whole e in
-      record { front = front; longest = l; is = column text front r.text e; unspelled = n; shallow = sh; few = subst KeepsNodes i (keeps_nodes c.taken c.kept) }
+  bad_told r prefix e l n sh c =
+      let i : c.taken ≡ prefix = same_prefix text c.taken prefix r.text c.whole e in
+      record { prefix = prefix; longest = l; is = column text prefix r.text e; unspelled = n; shallow = sh; few = subst KeepsNodes i (keeps_nodes c.taken c.kept) }
 
   -- a line was read: nothing may be left
   ended_told : (says : LineStep) (r : Rest) (left : List ℕ) → r.text ≡ left → Took lines shallow_lines text says r.text → LineAt start (all_of text) (if_over left says r) → Told text (if_over left says r)
@@ -57,10 +57,10 @@ module _ (text : List ℕ) where
       let j : text ≡ c.taken = c.whole ∙ rw e (append-nil c.taken) in
       record { spelled = subst (λ z. shallow_lines.spells z says) (sym i) t.spelled; few = subst KeepsNodes (sym j) (keeps_nodes c.taken c.kept) }
   ended_told says r (byte ∷ left) e t c =
-      let l : IsLongestFront lines text t.taken = took_longest sign rules line most_depth text r.text says t in
+      let l : IsLongestPrefix lines text t.taken = took_longest sign rules line most_depth text r.text says t in
       bad_told r t.taken t.whole l
       (not_whole text t.taken r.text t.whole l (λ none says s. let z : byte ∷ left ≡ [] = sym e ∙ none in cc))
-      ((deep_within most_depth (ref line)).fronts.spelled t.taken says t.spelled) c
+      ((deep_within most_depth (ref line)).prefixes.spelled t.taken says t.spelled) c
 
   many_told : (r : Rest) → GoesOn (ref line) most_depth text r.text → Stands start TooMany (all_of text) r → PassesNodes text
   many_told r g c =
@@ -68,16 +68,16 @@ module _ (text : List ℕ) where
       let b : g.byte ≡ c.stopped.byte = cc in
       let m : g.more ≡ c.stopped.more = cc in
       let whole : text ≡ c.taken ++ (c.stopped.byte ∷ c.stopped.more) = c.whole ∙ ap (λ (z : List ℕ). c.taken ++ z) c.stopped.text in
-      let i : g.up_to.taken ≡ c.taken = same_front text g.up_to.taken c.taken r.text g.up_to.whole c.whole in
+      let i : g.up_to.taken ≡ c.taken = same_prefix text g.up_to.taken c.taken r.text g.up_to.whole c.whole in
       let j : g.with_it.taken ≡ c.taken ++ c.stopped.byte ∷ [] =
-      same_front text g.with_it.taken (c.taken ++ c.stopped.byte ∷ []) g.more g.with_it.whole (whole ∙ sym (append_assoc c.taken (c.stopped.byte ∷ []) c.stopped.more) ∙ ap (λ (z : List ℕ). (c.taken ++ c.stopped.byte ∷ []) ++ z) (sym m)) in
+      same_prefix text g.with_it.taken (c.taken ++ c.stopped.byte ∷ []) g.more g.with_it.whole (whole ∙ sym (append_assoc c.taken (c.stopped.byte ∷ []) c.stopped.more) ∙ ap (λ (z : List ℕ). (c.taken ++ c.stopped.byte ∷ []) ++ z) (sym m)) in
       record {
-        front = c.taken;
+        prefix = c.taken;
         byte = c.stopped.byte;
         rest = c.stopped.more;
         whole = whole;
-        goes_on = subst (λ z. lines.front z) j g.with_it.begun;
-        shallow = subst (λ z. shallow_lines.front z) i g.up_to.begun;
+        goes_on = subst (λ z. lines.prefix z) j g.with_it.begun;
+        shallow = subst (λ z. shallow_lines.prefix z) i g.up_to.begun;
         few = keeps_nodes c.taken c.kept;
         many = ap (λ (z : Begun). z.nodes) (begun_from-append start c.taken (c.stopped.byte ∷ [])) ∙ c.stopped.nodes;
       }
@@ -85,10 +85,10 @@ module _ (text : List ℕ) where
   deep_told : (r : Rest) (left : List ℕ) → r.text ≡ left → (t : Exceeded lines shallow_lines text r.text) → Passes lines shallow_lines t.taken left → Stands start TooDeep (all_of text) r → PassesDepth text
   deep_told r [] e t p c = absurd p
   deep_told r (byte ∷ more) e t p c =
-      let i : c.taken ≡ t.taken = same_front text c.taken t.taken r.text c.whole t.whole in
+      let i : c.taken ≡ t.taken = same_prefix text c.taken t.taken r.text c.whole t.whole in
       let kept : Kept most_nodes start (c.taken ++ byte ∷ []) = kept-append (byte ∷ []) c.kept (one_more (begun_from start c.taken) (few_before c.taken start c.kept) (c.stopped byte)) in
       record {
-        front = t.taken;
+        prefix = t.taken;
         byte = byte;
         rest = more;
         whole = t.whole ∙ ap (λ (z : List ℕ). t.taken ++ z) e;
@@ -108,7 +108,7 @@ module _ (text : List ℕ) where
   told : (reading : Reading LineStep) → Outcome (ref line) most_depth text reading → LineAt start (all_of text) (reading >>= λ a r. if_over r.text a r) → Told text (reading >>= λ a r. if_over r.text a r)
   told (Ok says, r) t c = ended_told says r r.text refl t c
   told (Err Unexpected, r) t c =
-      let l : IsLongestFront lines text t.taken = failed_longest sign rules line most_depth text r.text t in
+      let l : IsLongestPrefix lines text t.taken = failed_longest sign rules line most_depth text r.text t in
       bad_told r t.taken t.whole l (not_whole text t.taken r.text t.whole l (λ none says s. t.unspelled says s)) t.begun c
   told (Err TooMany, r) t c = (many_told r t c, refl)
   told (Err TooDeep, r) t c = (deep_told r r.text refl t t.passes c, refl)

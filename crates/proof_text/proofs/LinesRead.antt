@@ -31,7 +31,7 @@ use Rattle.proof_text.specs.Reading.{Rest, Reading, ◌>>=◌, expected, fresh, 
 use Rattle.proof_text.specs.Outcomes.{free, bounded, Outcome}
 use Rattle.proof_text.proofs.OneLine.{grammar}
 use Rattle.proof_text.proofs.Goes.{Goes, whole, mapped, production, second, then_next, then_known, ends_in, first, other, by_next, takes, passing, closing}
-use Rattle.proof_text.proofs.NumbersRead.{fails, reads_number, reads_count, count_front}
+use Rattle.proof_text.proofs.NumbersRead.{fails, reads_number, reads_count, count_prefix}
 use Rattle.proof_text.proofs.TermsRead.{reads_term, reads_value, reads_values}
 
 -- what is read one after the other, in another grouping
@@ -173,7 +173,7 @@ reads_turns levels made nodes (byte ∷ text) = go (nat_lt 0 (code (sign byte)) 
 
     go : (b : Bool) → (nat_lt 0 (code (sign byte)) && nat_lt (code (sign byte)) 10) ≡ b
         → Outcome (turns_form made) levels (byte ∷ text) ((if b then count_at (record { nodes = nodes; text = byte ∷ text }) else (Ok 1, record { nodes = nodes; text = byte ∷ text })) >>= λ n r. (Ok (made n), r))
-    go true e = ends_in (mapped {k = made} {f = ref count} (by_next there refl byte text refl (count_front byte e))) (count_at (record { nodes = nodes; text = byte ∷ text })) (reads_count levels (record { nodes = nodes; text = byte ∷ text }))
+    go true e = ends_in (mapped {k = made} {f = ref count} (by_next there refl byte text refl (count_prefix byte e))) (count_at (record { nodes = nodes; text = byte ∷ text })) (reads_count levels (record { nodes = nodes; text = byte ∷ text }))
     go false e = (mapped (other there refl (rw e refl))).deep.took tt (byte ∷ text) (empty_took (byte ∷ text))
 
 -- the number of turns, as a run

@@ -64,28 +64,28 @@ value_step (suc levels) rest = let e : suc levels - 1 ≡ levels = omega arith i
 -- ---- values up to the closing parenthesis
 -- those that were read before stand before
 abbrev pub behind : {A : Type 0} → List A → Reading (List A) → Reading (List A)
-behind front reading = reading >>= λ others r. (Ok (front ++ others), r)
+behind prefix reading = reading >>= λ others r. (Ok (prefix ++ others), r)
 
 pub behind-none : {A : Type 0} (reading : Reading (List A)) → behind [] reading ≡ reading
 behind-none (Ok items, r) = refl
 behind-none (Err stop, r) = refl
 
-behind-more : {A : Type 0} (front : List A) (value : A) (reading : Reading (List A))
-    → behind front (reading >>= λ others r. (Ok (value ∷ others), r)) ≡ behind (front ++ value ∷ []) reading
-behind-more front value (Err stop, r) = refl
-behind-more front value (Ok others, r) = ap (λ (vs : List _). (Ok vs, r)) (sym (append_assoc front (value ∷ []) others))
+behind-more : {A : Type 0} (prefix : List A) (value : A) (reading : Reading (List A))
+    → behind prefix (reading >>= λ others r. (Ok (value ∷ others), r)) ≡ behind (prefix ++ value ∷ []) reading
+behind-more prefix value (Err stop, r) = refl
+behind-more prefix value (Ok others, r) = ap (λ (vs : List _). (Ok vs, r)) (sym (append_assoc prefix (value ∷ []) others))
 
-behind-last : (front : List Val) (value : Val) (reading : Reading (Unit {0}))
-    → behind front (reading >>= λ c r. (Ok (value ∷ []), r)) ≡ (reading >>= λ c r. (Ok (front ++ value ∷ []), r))
-behind-last front value (Ok c, r) = refl
-behind-last front value (Err stop, r) = refl
+behind-last : (prefix : List Val) (value : Val) (reading : Reading (Unit {0}))
+    → behind prefix (reading >>= λ c r. (Ok (value ∷ []), r)) ≡ (reading >>= λ c r. (Ok (prefix ++ value ∷ []), r))
+behind-last prefix value (Ok c, r) = refl
+behind-last prefix value (Err stop, r) = refl
 
 values_at-step : (read : Rest → Reading Val) (most : ℕ) (rest : Rest) → 0 < most → values_at read most rest ≡ (read rest >>= values_with (values_at read (most - 1)))
 unfolding values_at
 values_at-step read zero rest h = absurd (omega arith)
 values_at-step read (suc most) rest h = let e : suc most - 1 ≡ most = omega arith in rw e refl
 
-module _ (read : Rest → Reading Val) (front : List Val) (most : ℕ) (rest : Rest) (whole : Reading (List Val)) (so_far : behind front (values_at read most rest) ≡ whole) where
+module _ (read : Rest → Reading Val) (prefix : List Val) (most : ℕ) (rest : Rest) (whole : Reading (List Val)) (so_far : behind prefix (values_at read most rest) ≡ whole) where
   -- none may come any more
   pub values-over : most ≡ 0 → whole ≡ bad rest
   unfolding values_at
@@ -103,11 +103,11 @@ module _ (read : Rest → Reading Val) (front : List Val) (most : ℕ) (rest : R
     values-halted NoMemory left e = tt
 
     module _ (value : Val) (left : Rest) (e : read rest ≡ (Ok value, left)) where
-      pub values-next : (code (next left) == 22) ≡ true → behind (front ++ value ∷ []) (values_at read (most - 1) (passed left)) ≡ whole
-      values-next c = sym (behind-more front value (values_at read (most - 1) (passed left))) ∙ sym (rw (values_at-step read most rest h, e, c) refl) ∙ so_far
+      pub values-next : (code (next left) == 22) ≡ true → behind (prefix ++ value ∷ []) (values_at read (most - 1) (passed left)) ≡ whole
+      values-next c = sym (behind-more prefix value (values_at read (most - 1) (passed left))) ∙ sym (rw (values_at-step read most rest h, e, c) refl) ∙ so_far
 
-      pub values-last : (code (next left) == 22) ≡ false → whole ≡ (expected 21 left >>= λ c r. (Ok (front ++ value ∷ []), r))
-      values-last c = sym so_far ∙ (rw (values_at-step read most rest h, e, c) (behind-last front value (expected 21 left)))
+      pub values-last : (code (next left) == 22) ≡ false → whole ≡ (expected 21 left >>= λ c r. (Ok (prefix ++ value ∷ []), r))
+      values-last c = sym so_far ∙ (rw (values_at-step read most rest h, e, c) (behind-last prefix value (expected 21 left)))
 
 -- ---- words
 word_at-next : (bytes : List ℕ) (i : ℕ) (rest : Rest) → i < length bytes
@@ -143,11 +143,11 @@ unfolding runs_at
 runs_at-step zero l rest h = absurd (omega arith)
 runs_at-step (suc most) l rest h = let e : suc most - 1 ≡ most = omega arith in rw e refl
 
-module _ (front : List Run) (most : ℕ) (l : Last) (rest : Rest) (whole : Reading (List Run)) (so_far : behind front (runs_at most l rest) ≡ whole) where
+module _ (prefix : List Run) (most : ℕ) (l : Last) (rest : Rest) (whole : Reading (List Run)) (so_far : behind prefix (runs_at most l rest) ≡ whole) where
   -- none may come any more
-  pub runs-over : most ≡ 0 → whole ≡ (Ok front, rest)
+  pub runs-over : most ≡ 0 → whole ≡ (Ok prefix, rest)
   unfolding runs_at
-  runs-over e = sym so_far ∙ (rw (e, append-nil front) refl)
+  runs-over e = sym so_far ∙ (rw (e, append-nil prefix) refl)
 
   module _ (h : 0 < most) where
     runs-stopped : (stop : Stop) (left : Rest) → run_at l rest ≡ (Err stop, left) → whole ≡ (Err stop, left)
@@ -160,11 +160,11 @@ module _ (front : List Run) (most : ℕ) (l : Last) (rest : Rest) (whole : Readi
     runs-halted TooDeep left e = runs-stopped TooDeep left e
     runs-halted NoMemory left e = tt
 
-    pub runs-last : (left : Rest) → run_at l rest ≡ (Ok None, left) → whole ≡ (Ok front, left)
-    runs-last left e = sym so_far ∙ (rw (runs_at-step most l rest h, e, append-nil front) refl)
+    pub runs-last : (left : Rest) → run_at l rest ≡ (Ok None, left) → whole ≡ (Ok prefix, left)
+    runs-last left e = sym so_far ∙ (rw (runs_at-step most l rest h, e, append-nil prefix) refl)
 
-    pub runs-next : (run : Run) (left : Rest) → run_at l rest ≡ (Ok (Some run), left) → behind (front ++ run ∷ []) (runs_at (most - 1) (last_of run) left) ≡ whole
-    runs-next run left e = sym (behind-more front run (runs_at (most - 1) (last_of run) left)) ∙ sym (rw (runs_at-step most l rest h, e) refl) ∙ so_far
+    pub runs-next : (run : Run) (left : Rest) → run_at l rest ≡ (Ok (Some run), left) → behind (prefix ++ run ∷ []) (runs_at (most - 1) (last_of run) left) ≡ whole
+    runs-next run left e = sym (behind-more prefix run (runs_at (most - 1) (last_of run) left)) ∙ sym (rw (runs_at-step most l rest h, e) refl) ∙ so_far
 
 -- ---- arguments
 arguments_at-step : (kinds : List Kind) (i : ℕ) (rest : Rest) → i < length kinds
@@ -172,10 +172,10 @@ arguments_at-step : (kinds : List Kind) (i : ℕ) (rest : Rest) → i < length k
 unfolding arguments_at
 arguments_at-step kinds i rest h = rw (drop-cons kinds i kind.Term, add-one) refl
 
-module _ (front : List Arg) (kinds : List Kind) (i : ℕ) (rest : Rest) (whole : Reading (List Arg)) (so_far : behind front (arguments_at (drop i kinds) rest) ≡ whole) where
-  pub arguments-over : length kinds ≤ i → whole ≡ (Ok front, rest)
+module _ (prefix : List Arg) (kinds : List Kind) (i : ℕ) (rest : Rest) (whole : Reading (List Arg)) (so_far : behind prefix (arguments_at (drop i kinds) rest) ≡ whole) where
+  pub arguments-over : length kinds ≤ i → whole ≡ (Ok prefix, rest)
   unfolding arguments_at
-  arguments-over e = sym so_far ∙ (rw (drop_all i kinds e, append-nil front) refl)
+  arguments-over e = sym so_far ∙ (rw (drop_all i kinds e, append-nil prefix) refl)
 
   module _ (h : i < length kinds) where
     arguments-stopped : (stop : Stop) (left : Rest) → expected (code s.Space) rest ≡ (Err stop, left) → whole ≡ (Err stop, left)
@@ -197,5 +197,5 @@ module _ (front : List Arg) (kinds : List Kind) (i : ℕ) (rest : Rest) (whole :
       argument-halted TooDeep left e = argument-stopped TooDeep left e
       argument-halted NoMemory left e = tt
 
-      pub arguments-next : (a : Arg) (left : Rest) → argument_at (get_or kinds i kind.Term) middle ≡ (Ok a, left) → behind (front ++ a ∷ []) (arguments_at (drop (i + 1) kinds) left) ≡ whole
-      arguments-next a left e = sym (behind-more front a (arguments_at (drop (i + 1) kinds) left)) ∙ sym (rw (arguments_at-step kinds i rest h, o, e) refl) ∙ so_far
+      pub arguments-next : (a : Arg) (left : Rest) → argument_at (get_or kinds i kind.Term) middle ≡ (Ok a, left) → behind (prefix ++ a ∷ []) (arguments_at (drop (i + 1) kinds) left) ≡ whole
+      arguments-next a left e = sym (behind-more prefix a (arguments_at (drop (i + 1) kinds) left)) ∙ sym (rw (arguments_at-step kinds i rest h, o, e) refl) ∙ so_far

@@ -90,7 +90,7 @@ digit_took : (g : F (List ℕ)) (levels : ℕ) {byte : ℕ} {text : List ℕ} (p
     → Took (free (digit_then (token p) g)) (bounded levels (digit_then (token p) g)) (byte ∷ text) (byte ∷ ds) rest
 digit_took g levels {byte = byte} {text = text} p o e ds rest t = (second (mapped (whole {N = digit_then (token p) g} {levels = levels} {start = byte ∷ text})) o byte text (takes levels p byte text e)).deep.took ds rest t
 
-digit_begins : (g : F (List ℕ)) {byte : ℕ} (p : Sign → Bool) → p (sign byte) ≡ true → (free (digit_then (token p) g)).front (byte ∷ [])
+digit_begins : (g : F (List ℕ)) {byte : ℕ} (p : Sign → Bool) → p (sign byte) ≡ true → (free (digit_then (token p) g)).prefix (byte ∷ [])
 digit_begins g {byte = byte} p e = inl (inr (byte, refl, e))
 
 -- ---- behind a lower or a higher number
@@ -459,9 +459,9 @@ reads_count levels rest = at rest.nodes rest.text
         go false false true i j k = rw (i, j, k) (count_longer levels byte text i j k)
         go false false false i j k = rw (i, j, k) (fails (ref count) levels refl (byte ∷ text) (rw (k, and-false (nat_lt 0 (code (sign byte)))) refl))
 
-pub count_front : (byte : ℕ) → (nat_lt 0 (code (sign byte)) && nat_lt (code (sign byte)) 10) ≡ true → (free (ref count)).front (byte ∷ [])
+pub count_prefix : (byte : ℕ) → (nat_lt 0 (code (sign byte)) && nat_lt (code (sign byte)) 10) ≡ true → (free (ref count)).prefix (byte ∷ [])
 unfolding tens
-count_front byte e = (produced grammar None count).there.front (byte ∷ []) (go (code (sign byte) == 1) (nat_lt (code (sign byte)) 4) (code (sign byte) == 4) refl refl refl)
+count_prefix byte e = (produced grammar None count).there.prefix (byte ∷ []) (go (code (sign byte) == 1) (nat_lt (code (sign byte)) 4) (code (sign byte) == 4) refl refl refl)
   where
     positive : 0 < code (sign byte)
     positive = ltb-true 0 (code (sign byte)) (and_left (nat_lt 0 (code (sign byte))) (nat_lt (code (sign byte)) 10) e)
@@ -469,7 +469,7 @@ count_front byte e = (produced grammar None count).there.front (byte ∷ []) (go
     low : nat_lt (code (sign byte)) 10 ≡ true
     low = and_right (nat_lt 0 (code (sign byte))) (nat_lt (code (sign byte)) 10) e
 
-    go : (a b c : Bool) → (code (sign byte) == 1) ≡ a → nat_lt (code (sign byte)) 4 ≡ b → (code (sign byte) == 4) ≡ c → (free (rules count)).front (byte ∷ [])
+    go : (a b c : Bool) → (code (sign byte) == 1) ≡ a → nat_lt (code (sign byte)) 4 ≡ b → (code (sign byte) == 4) ≡ c → (free (rules count)).prefix (byte ∷ [])
     go true b c i j k = inl (digit_begins tens (λ x. code x == 1) i)
     go false true c i j k =
         let more : 1 < code (sign byte) = is_above (code (sign byte)) 1 (le-ltb (code (sign byte)) 1 (omega (arith, positive))) i in

@@ -20,7 +20,7 @@ use Rattle.proof_text.proofs.Goes.{deep_within}
 use Rattle.proof_text.proofs.LineAnswers.{read_told, stop_told, never_told}
 use Rattle.proof_text.proofs.LinesSpelled.{line_spelled}
 
--- of two fronts of a text the shorter one begins the longer one
+-- of two prefixes of a text the shorter one begins the longer one
 pub record Begins (x z : List ℕ) : Type 0 where
   pub more : List ℕ
   pub is : z ≡ x ++ more
@@ -42,8 +42,8 @@ read_spelled text says s = (deep_within most_depth (ref line)).includes.spells t
 kept_part : (x z : List ℕ) → KeepsNodes z → Begins x z → (begun_in x).nodes ≤ most_nodes
 kept_part x z k b = k x b.more b.is
 
-shallow_part : (x z : List ℕ) → shallow_lines.front z → Begins x z → shallow_lines.front x
-shallow_part x z s b = (deep_within most_depth (ref line)).fronts.shorter x b.more (subst (λ y. shallow_lines.front y) b.is s)
+shallow_part : (x z : List ℕ) → shallow_lines.prefix z → Begins x z → shallow_lines.prefix x
+shallow_part x z s b = (deep_within most_depth (ref line)).prefixes.shorter x b.more (subst (λ y. shallow_lines.prefix y) b.is s)
 
 too_many : (x z : List ℕ) → (begun_in x).nodes ≡ most_nodes + 1 → KeepsNodes z → Begins x z → ⊥
 too_many x z e k b = let h = kept_part x z k b in omega (arith, e)
@@ -51,8 +51,8 @@ too_many x z e k b = let h = kept_part x z k b in omega (arith, e)
 whole_begins : (text x y : List ℕ) → text ≡ x ++ y → Begins x text
 whole_begins text x y e = record { more = y; is = e }
 
-one_byte : (front rest : List ℕ) (byte : ℕ) → front ++ (byte ∷ rest) ≡ (front ++ byte ∷ []) ++ rest
-one_byte front rest byte = sym (append_assoc front (byte ∷ []) rest)
+one_byte : (prefix rest : List ℕ) (byte : ℕ) → prefix ++ (byte ∷ rest) ≡ (prefix ++ byte ∷ []) ++ rest
+one_byte prefix rest byte = sym (append_assoc prefix (byte ∷ []) rest)
 
 module _ (text : List ℕ) where
   pub read_once : (one other : LineStep) → IsRead text one → IsRead text other → one ≡ other
@@ -62,32 +62,32 @@ module _ (text : List ℕ) where
   read_bad says column a b = b.unspelled says (read_spelled text says a.spelled)
 
   read_many : (says : LineStep) → IsRead text says → PassesNodes text → ⊥
-  read_many says a b = too_many (b.front ++ b.byte ∷ []) text b.many a.few (whole_begins text (b.front ++ b.byte ∷ []) b.rest (b.whole ∙ one_byte b.front b.rest b.byte))
+  read_many says a b = too_many (b.prefix ++ b.byte ∷ []) text b.many a.few (whole_begins text (b.prefix ++ b.byte ∷ []) b.rest (b.whole ∙ one_byte b.prefix b.rest b.byte))
 
   read_deep : (says : LineStep) → IsRead text says → PassesDepth text → ⊥
   read_deep says a b =
-      b.deep (shallow_part (b.front ++ b.byte ∷ []) text ((deep_within most_depth (ref line)).fronts.spelled text says a.spelled) (whole_begins text (b.front ++ b.byte ∷ []) b.rest (b.whole ∙ one_byte b.front b.rest b.byte)))
+      b.deep (shallow_part (b.prefix ++ b.byte ∷ []) text ((deep_within most_depth (ref line)).prefixes.spelled text says a.spelled) (whole_begins text (b.prefix ++ b.byte ∷ []) b.rest (b.whole ∙ one_byte b.prefix b.rest b.byte)))
 
   bad_once : (one other : ℕ) → IsBad text one → IsBad text other → one ≡ other
   bad_once one other a b =
-      let h = a.longest.longest b.front b.longest.leading.0 b.longest.leading.1 b.longest.begins in
-      let k = b.longest.longest a.front a.longest.leading.0 a.longest.leading.1 a.longest.begins in
+      let h = a.longest.longest b.prefix b.longest.leading.0 b.longest.leading.1 b.longest.begins in
+      let k = b.longest.longest a.prefix a.longest.leading.0 a.longest.leading.1 a.longest.begins in
       omega (arith, a.is, b.is, h, k)
 
   bad_many : (column : ℕ) → IsBad text column → PassesNodes text → ⊥
   bad_many column a b =
-      let e : text ≡ (b.front ++ b.byte ∷ []) ++ b.rest = b.whole ∙ one_byte b.front b.rest b.byte in
-      let h = a.longest.longest (b.front ++ b.byte ∷ []) b.rest e b.goes_on in
-      too_many (b.front ++ b.byte ∷ []) a.front b.many a.few (begins text (b.front ++ b.byte ∷ []) b.rest a.front a.longest.leading.0 e a.longest.leading.1 h)
+      let e : text ≡ (b.prefix ++ b.byte ∷ []) ++ b.rest = b.whole ∙ one_byte b.prefix b.rest b.byte in
+      let h = a.longest.longest (b.prefix ++ b.byte ∷ []) b.rest e b.goes_on in
+      too_many (b.prefix ++ b.byte ∷ []) a.prefix b.many a.few (begins text (b.prefix ++ b.byte ∷ []) b.rest a.prefix a.longest.leading.0 e a.longest.leading.1 h)
 
   bad_deep : (column : ℕ) → IsBad text column → PassesDepth text → ⊥
   bad_deep column a b =
-      let e : text ≡ (b.front ++ b.byte ∷ []) ++ b.rest = b.whole ∙ one_byte b.front b.rest b.byte in
-      let h = a.longest.longest (b.front ++ b.byte ∷ []) b.rest e b.goes_on in
-      b.deep (shallow_part (b.front ++ b.byte ∷ []) a.front a.shallow (begins text (b.front ++ b.byte ∷ []) b.rest a.front a.longest.leading.0 e a.longest.leading.1 h))
+      let e : text ≡ (b.prefix ++ b.byte ∷ []) ++ b.rest = b.whole ∙ one_byte b.prefix b.rest b.byte in
+      let h = a.longest.longest (b.prefix ++ b.byte ∷ []) b.rest e b.goes_on in
+      b.deep (shallow_part (b.prefix ++ b.byte ∷ []) a.prefix a.shallow (begins text (b.prefix ++ b.byte ∷ []) b.rest a.prefix a.longest.leading.0 e a.longest.leading.1 h))
 
   many_deep : PassesNodes text → PassesDepth text → ⊥
-  many_deep a b = by (order (length (a.front ++ a.byte ∷ [])) (length (b.front ++ b.byte ∷ [])))
+  many_deep a b = by (order (length (a.prefix ++ a.byte ∷ [])) (length (b.prefix ++ b.byte ∷ [])))
     where
       order : (m n : ℕ) → (m ≤ n) ⊎ (n < m)
       order zero n = inl (omega arith)
@@ -98,17 +98,17 @@ module _ (text : List ℕ) where
           next (inl h) = inl (omega (arith, h))
           next (inr h) = inr (omega (arith, h))
 
-      e : text ≡ (a.front ++ a.byte ∷ []) ++ a.rest
-      e = a.whole ∙ one_byte a.front a.rest a.byte
+      e : text ≡ (a.prefix ++ a.byte ∷ []) ++ a.rest
+      e = a.whole ∙ one_byte a.prefix a.rest a.byte
 
-      i : text ≡ (b.front ++ b.byte ∷ []) ++ b.rest
-      i = b.whole ∙ one_byte b.front b.rest b.byte
+      i : text ≡ (b.prefix ++ b.byte ∷ []) ++ b.rest
+      i = b.whole ∙ one_byte b.prefix b.rest b.byte
 
-      by : (length (a.front ++ a.byte ∷ []) ≤ length (b.front ++ b.byte ∷ [])) ⊎ (length (b.front ++ b.byte ∷ []) < length (a.front ++ a.byte ∷ [])) → ⊥
-      by (inl h) = too_many (a.front ++ a.byte ∷ []) (b.front ++ b.byte ∷ []) a.many b.few (begins text (a.front ++ a.byte ∷ []) a.rest (b.front ++ b.byte ∷ []) b.rest e i h)
+      by : (length (a.prefix ++ a.byte ∷ []) ≤ length (b.prefix ++ b.byte ∷ [])) ⊎ (length (b.prefix ++ b.byte ∷ []) < length (a.prefix ++ a.byte ∷ [])) → ⊥
+      by (inl h) = too_many (a.prefix ++ a.byte ∷ []) (b.prefix ++ b.byte ∷ []) a.many b.few (begins text (a.prefix ++ a.byte ∷ []) a.rest (b.prefix ++ b.byte ∷ []) b.rest e i h)
       by (inr h) =
-          let k : length (b.front ++ b.byte ∷ []) ≤ length a.front = omega (arith, h, length-append a.front (a.byte ∷ [])) in
-          b.deep (shallow_part (b.front ++ b.byte ∷ []) a.front a.shallow (begins text (b.front ++ b.byte ∷ []) b.rest a.front (a.byte ∷ a.rest) i a.whole k))
+          let k : length (b.prefix ++ b.byte ∷ []) ≤ length a.prefix = omega (arith, h, length-append a.prefix (a.byte ∷ [])) in
+          b.deep (shallow_part (b.prefix ++ b.byte ∷ []) a.prefix a.shallow (begins text (b.prefix ++ b.byte ∷ []) b.rest a.prefix (a.byte ∷ a.rest) i a.whole k))
 
   -- ---- refusals
   read_refused : (says : LineStep) (fault : LineFault) → (fault ≡ NoMemory → ⊥) → IsRead text says → IsRefused text fault → ⊥

@@ -7,7 +7,7 @@ use Rattle.grammar.specs.Productions.{skip_then, then_skip, optional, separated}
 use Rattle.grammar.specs.Reading.{Took}
 use Rattle.grammar.proofs.readers.Predictions.{ok, ahead, named}
 use Rattle.grammar.proofs.readers.Choices.{is_absent}
-use Rattle.grammar.proofs.readers.Remaining as r
+use Rattle.grammar.proofs.readers.Residuals as r
 use Rattle.grammar.proofs.readers.Steps.{empty_took}
 use Rattle.u_terms.specs.declared.term.Val.{Val}
 use Rattle.proof_text.specs.declared.cursor.Stop.TheVariants.{Unexpected, TooMany, TooDeep, NoMemory}
@@ -183,10 +183,10 @@ module _ (levels : ℕ) (read : Rest → Reading Val) (reads : (rest : Rest) →
       let took : Took (free (ref value)) (bounded levels (ref value)) text v r.text = subst (λ z. Outcome (ref value) levels text z) e t in
       omega (arith, ap length took.whole, length-append took.taken r.text, some_taken took.taken v took.spelled)
 
-  module _ (unread : (rest : Rest) → begins_value (next rest) ≡ false → read rest ≡ bad rest) (front : (byte : ℕ) → begins_value (sign byte) ≡ true → (free (ref value)).front (byte ∷ [])) where
+  module _ (unread : (rest : Rest) → begins_value (next rest) ≡ false → read rest ≡ bad rest) (prefix : (byte : ℕ) → begins_value (sign byte) ≡ true → (free (ref value)).prefix (byte ∷ [])) where
     items_read : (nodes byte : ℕ) (text : List ℕ) → begins_value (sign byte) ≡ true → Outcome (optional some) levels (byte ∷ text) (items (length text) (record { nodes = nodes; text = byte ∷ text }))
     items_read nodes byte text e =
-        then_known (mapped {k = λ v. Some v} {f = some} (by_next (whole {N = optional some} {levels = levels} {start = byte ∷ text}) refl byte text refl (inl (front byte e)))) refl
+        then_known (mapped {k = λ v. Some v} {f = some} (by_next (whole {N = optional some} {levels = levels} {start = byte ∷ text}) refl byte text refl (inl (prefix byte e)))) refl
         (read (record { nodes = nodes; text = byte ∷ text })) (λ a r. more_values read (length text) r >>= λ others r. (Ok (Some (a, others)), r)) (reads (record { nodes = nodes; text = byte ∷ text }))
         (λ a mid i k. ends_in k (more_values read (length text) mid)
         (reads_more (length text) mid.nodes mid.text (let h = strictly (byte ∷ text) (read (record { nodes = nodes; text = byte ∷ text })) (reads (record { nodes = nodes; text = byte ∷ text })) a mid i in omega arith)))

@@ -6,7 +6,7 @@ use Rattle.grammar.specs.Form.{seq, ref}
 use Rattle.grammar.specs.Productions.{skip_then}
 use Rattle.grammar.specs.Reading.{Exceeded}
 use Rattle.grammar.proofs.readers.Predictions.{ok, produced}
-use Rattle.grammar.proofs.readers.Remaining.{too_deep}
+use Rattle.grammar.proofs.readers.Residuals.{too_deep}
 use Rattle.u_terms.specs.declared.term.U.{U}
 use Rattle.u_terms.specs.declared.term.Val.{Val}
 use Rattle.u_terms.specs.declared.term.U.TheVariants as u
@@ -26,10 +26,10 @@ use Rattle.proof_text.proofs.PartsRead.{reads_within, reads_both, reads_list}
 
 -- ---- the first byte
 
-pub term_front : (byte : ℕ) → begins_term (sign byte) ≡ true → (free (rules term)).front (byte ∷ [])
-term_front byte h = go (sign byte) refl h
+pub term_prefix : (byte : ℕ) → begins_term (sign byte) ≡ true → (free (rules term)).prefix (byte ∷ [])
+term_prefix byte h = go (sign byte) refl h
   where
-    go : (k : Sign) → sign byte ≡ k → begins_term k ≡ true → (free (rules term)).front (byte ∷ [])
+    go : (k : Sign) → sign byte ≡ k → begins_term k ≡ true → (free (rules term)).prefix (byte ∷ [])
     go s.Digit0 e h = inl (inr (byte, refl, rw e refl))
     go s.Digit1 e h = inr (inl (inr (byte, refl, rw e refl)))
     go s.Plus e h = inr (inr (inl (inl (inr (byte, refl, rw e refl)))))
@@ -42,10 +42,10 @@ term_front byte h = go (sign byte) refl h
     go s.UpperP e h = inr (inr (inr (inr (inr (inr (inr (inr (inr (inl (inr (byte, refl, rw e refl)))))))))))
     go k e h = absurd (true≢false (sym h))
 
-pub value_front : (byte : ℕ) → begins_value (sign byte) ≡ true → (free (rules value)).front (byte ∷ [])
-value_front byte h = go (sign byte) refl h
+pub value_prefix : (byte : ℕ) → begins_value (sign byte) ≡ true → (free (rules value)).prefix (byte ∷ [])
+value_prefix byte h = go (sign byte) refl h
   where
-    go : (k : Sign) → sign byte ≡ k → begins_value k ≡ true → (free (rules value)).front (byte ∷ [])
+    go : (k : Sign) → sign byte ≡ k → begins_value k ≡ true → (free (rules value)).prefix (byte ∷ [])
     go s.UpperF e h = inr (inr (inr (inl (inl (inr (byte, refl, rw e refl))))))
     go s.UpperG e h = inr (inr (inr (inr (inl (inr (byte, refl, rw e refl))))))
     go s.SmallB e h = inl (inl (inr (byte, refl, rw e refl)))
@@ -53,21 +53,21 @@ value_front byte h = go (sign byte) refl h
     go s.SmallF e h = inr (inl (inl (inr (byte, refl, rw e refl))))
     go k e h = absurd (true≢false (sym h))
 
-pub term_begins : (byte : ℕ) → begins_term (sign byte) ≡ true → (free (ref term)).front (byte ∷ [])
-term_begins byte h = (produced grammar None term).there.front (byte ∷ []) (term_front byte h)
+pub term_begins : (byte : ℕ) → begins_term (sign byte) ≡ true → (free (ref term)).prefix (byte ∷ [])
+term_begins byte h = (produced grammar None term).there.prefix (byte ∷ []) (term_prefix byte h)
 
 term_too_many : (levels byte : ℕ) (text : List ℕ) → begins_term (sign byte) ≡ true → GoesOn (ref term) levels (byte ∷ text) (byte ∷ text)
 term_too_many levels byte text h = record {
   byte = byte;
   more = text;
   next = refl;
-  up_to = record { taken = []; whole = refl; begun = (deep_within levels (ref term)).fronts.empty };
+  up_to = record { taken = []; whole = refl; begun = (deep_within levels (ref term)).prefixes.empty };
   with_it = record { taken = byte ∷ []; whole = refl; begun = term_begins byte h };
 }
 
 term_too_deep : (byte : ℕ) (text : List ℕ) → begins_term (sign byte) ≡ true → Exceeded (free (ref term)) (bounded zero (ref term)) (byte ∷ text) (byte ∷ text)
 term_too_deep byte text h =
-    (production term (whole {N = ref term} {levels = zero} {start = byte ∷ text})).deep.exceeded (byte ∷ text) (too_deep grammar term_form (byte ∷ text) byte text refl (term_front byte h))
+    (production term (whole {N = ref term} {levels = zero} {start = byte ∷ text})).deep.exceeded (byte ∷ text) (too_deep grammar term_form (byte ∷ text) byte text refl (term_prefix byte h))
 
 -- a node begins here, and what follows is read with one level fewer
 term_entered : (levels nodes byte : ℕ) (text : List ℕ) (more : Rest → Reading U) → begins_term (sign byte) ≡ true
@@ -94,21 +94,21 @@ term_at_none rest = at rest.nodes rest.text
         go true false e = term_too_deep byte text e
         go false b e = fails (ref term) zero refl (byte ∷ text) (rw e refl)
 
-pub value_begins : (byte : ℕ) → begins_value (sign byte) ≡ true → (free (ref value)).front (byte ∷ [])
-value_begins byte h = (produced grammar None value).there.front (byte ∷ []) (value_front byte h)
+pub value_begins : (byte : ℕ) → begins_value (sign byte) ≡ true → (free (ref value)).prefix (byte ∷ [])
+value_begins byte h = (produced grammar None value).there.prefix (byte ∷ []) (value_prefix byte h)
 
 value_too_many : (levels byte : ℕ) (text : List ℕ) → begins_value (sign byte) ≡ true → GoesOn (ref value) levels (byte ∷ text) (byte ∷ text)
 value_too_many levels byte text h = record {
   byte = byte;
   more = text;
   next = refl;
-  up_to = record { taken = []; whole = refl; begun = (deep_within levels (ref value)).fronts.empty };
+  up_to = record { taken = []; whole = refl; begun = (deep_within levels (ref value)).prefixes.empty };
   with_it = record { taken = byte ∷ []; whole = refl; begun = value_begins byte h };
 }
 
 value_too_deep : (byte : ℕ) (text : List ℕ) → begins_value (sign byte) ≡ true → Exceeded (free (ref value)) (bounded zero (ref value)) (byte ∷ text) (byte ∷ text)
 value_too_deep byte text h =
-    (production value (whole {N = ref value} {levels = zero} {start = byte ∷ text})).deep.exceeded (byte ∷ text) (too_deep grammar value_form (byte ∷ text) byte text refl (value_front byte h))
+    (production value (whole {N = ref value} {levels = zero} {start = byte ∷ text})).deep.exceeded (byte ∷ text) (too_deep grammar value_form (byte ∷ text) byte text refl (value_prefix byte h))
 
 -- a node begins here, and what follows is read with one level fewer
 value_entered : (levels nodes byte : ℕ) (text : List ℕ) (more : Rest → Reading Val) → begins_value (sign byte) ≡ true

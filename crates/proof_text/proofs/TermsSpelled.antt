@@ -104,10 +104,10 @@ number_has all x rest i = go (code (next rest) == 0) (nat_lt (code (next rest)) 
     go false false e h = tt
 
 -- ---- what was read, with another value
-pub gives_spelt : {A B : Type 0} (all : List ℕ) (front : A → List ℕ) (P : A → ℕ → Type 0) (whole : B → List ℕ) (Q : B → ℕ → Type 0) (reading : Reading A) (h : A → B)
-    → Spelt all front P reading → ((v : A) → front v ≡ whole (h v)) → ((v : A) (m : ℕ) → P v m → Q (h v) m) → Spelt all whole Q (reading >>= λ v r. (Ok (h v), r))
-gives_spelt all front P whole Q (Ok v, r) h c e k = record { text = c.text ∙ ap (λ (z : List ℕ). z ++ r.text) (e v); is = k v r.nodes c.is }
-gives_spelt all front P whole Q (Err stop, r) h c e k = tt
+pub gives_spelt : {A B : Type 0} (all : List ℕ) (prefix : A → List ℕ) (P : A → ℕ → Type 0) (whole : B → List ℕ) (Q : B → ℕ → Type 0) (reading : Reading A) (h : A → B)
+    → Spelt all prefix P reading → ((v : A) → prefix v ≡ whole (h v)) → ((v : A) (m : ℕ) → P v m → Q (h v) m) → Spelt all whole Q (reading >>= λ v r. (Ok (h v), r))
+gives_spelt all prefix P whole Q (Ok v, r) h c e k = record { text = c.text ∙ ap (λ (z : List ℕ). z ++ r.text) (e v); is = k v r.nodes c.is }
+gives_spelt all prefix P whole Q (Err stop, r) h c e k = tt
 
 -- ---- in parentheses
 -- both, one after the other

@@ -58,18 +58,18 @@ decimal_unbroken n h = decimal_by_steps (λ n digits. Unbroken digits) one more 
     more n digits h u = unbroken-append digits ((48 + n % 10) ∷ []) u (λ e. absurd (omega (arith, e)), tt)
 
 -- ---- terms and values
-one_within : (front a : List ℕ) → Unbroken front → Unbroken a → Unbroken (front ++ (a ++ codes ")"))
-one_within front a u v = unbroken-append front (a ++ codes ")") u (unbroken-append a (codes ")") v (constant (codes ")") refl))
+one_within : (prefix a : List ℕ) → Unbroken prefix → Unbroken a → Unbroken (prefix ++ (a ++ codes ")"))
+one_within prefix a u v = unbroken-append prefix (a ++ codes ")") u (unbroken-append a (codes ")") v (constant (codes ")") refl))
 
-two_within : (front a b : List ℕ) → Unbroken front → Unbroken a → Unbroken b → Unbroken (front ++ (a ++ (codes "," ++ (b ++ codes ")"))))
-two_within front a b u v w = unbroken-append front (a ++ (codes "," ++ (b ++ codes ")"))) u (unbroken-append a (codes "," ++ (b ++ codes ")")) v (one_within (codes ",") b (constant (codes ",") refl) w))
+two_within : (prefix a b : List ℕ) → Unbroken prefix → Unbroken a → Unbroken b → Unbroken (prefix ++ (a ++ (codes "," ++ (b ++ codes ")"))))
+two_within prefix a b u v w = unbroken-append prefix (a ++ (codes "," ++ (b ++ codes ")"))) u (unbroken-append a (codes "," ++ (b ++ codes ")")) v (one_within (codes ",") b (constant (codes ",") refl) w))
 
-numbered : (front : List ℕ) (n : ℕ) → Unbroken front → n < 2 ^ 32 → Unbroken (front ++ decimal n)
-numbered front n u h = unbroken-append front (decimal n) u (decimal_unbroken n h)
+numbered : (prefix : List ℕ) (n : ℕ) → Unbroken prefix → n < 2 ^ 32 → Unbroken (prefix ++ decimal n)
+numbered prefix n u h = unbroken-append prefix (decimal n) u (decimal_unbroken n h)
 
-applied : (front : List ℕ) (n : ℕ) (rest : List ℕ) → Unbroken front → n < 2 ^ 32 → Unbroken rest → Unbroken (front ++ (decimal n ++ (codes "(" ++ rest)))
-applied front n rest u h v =
-    unbroken-append front (decimal n ++ (codes "(" ++ rest)) u (unbroken-append (decimal n) (codes "(" ++ rest) (decimal_unbroken n h) (unbroken-append (codes "(") rest (constant (codes "(") refl) v))
+applied : (prefix : List ℕ) (n : ℕ) (rest : List ℕ) → Unbroken prefix → n < 2 ^ 32 → Unbroken rest → Unbroken (prefix ++ (decimal n ++ (codes "(" ++ rest)))
+applied prefix n rest u h v =
+    unbroken-append prefix (decimal n ++ (codes "(" ++ rest)) u (unbroken-append (decimal n) (codes "(" ++ rest) (decimal_unbroken n h) (unbroken-append (codes "(") rest (constant (codes "(") refl) v))
 
 mutual
   unfolding term_text HasWords
@@ -169,8 +169,8 @@ closes_is = record { bytes = codes "}"; unbroken = constant (codes "}") refl; is
 pub ends_is : IsLine (text_of Ends)
 ends_is = record { bytes = codes "end"; unbroken = constant (codes "end") refl; is = refl }
 
-pub numbered_is : (front : List ℕ) (n : ℕ) → list_all (λ byte. nat_lt 10 byte) front ≡ true → n < 2 ^ 32 → IsLine (numbered_line front n)
-numbered_is front n e h = record { bytes = front ++ decimal n; unbroken = numbered front n (constant front e) h; is = sym (append_assoc front (decimal n) (10 ∷ [])) }
+pub numbered_is : (prefix : List ℕ) (n : ℕ) → list_all (λ byte. nat_lt 10 byte) prefix ≡ true → n < 2 ^ 32 → IsLine (numbered_line prefix n)
+numbered_is prefix n e h = record { bytes = prefix ++ decimal n; unbroken = numbered prefix n (constant prefix e) h; is = sym (append_assoc prefix (decimal n) (10 ∷ [])) }
 
 -- the lines of steps are lines
 abbrev AreTexts : List LineStep → Type 0
@@ -270,14 +270,14 @@ every_text (byte ∷ text) = by (is_feed byte) (every_text text)
     by (inr n) ls = one_byte_more byte text ls.0 n ls.1
 
 -- lines in front of a text are the first ones of all
-pub front_lines : (fronts : List (List ℕ)) (rest : List ℕ) (lines : List (List ℕ)) → Each IsLine fronts → AreLines rest lines → AreLines (concat fronts ++ rest) (fronts ++ lines)
-front_lines [] rest lines f more = more
-front_lines (front ∷ fronts) rest lines f more =
+pub prefix_lines : (prefixes : List (List ℕ)) (rest : List ℕ) (lines : List (List ℕ)) → Each IsLine prefixes → AreLines rest lines → AreLines (concat prefixes ++ rest) (prefixes ++ lines)
+prefix_lines [] rest lines f more = more
+prefix_lines (prefix ∷ prefixes) rest lines f more =
     let l = f.0 in
-    let i : fed l.bytes true ++ (concat fronts ++ rest) ≡ (front ++ concat fronts) ++ rest =
-    ap (λ (z : List ℕ). z ++ (concat fronts ++ rest)) (sym l.is) ∙ sym (append_assoc front (concat fronts) rest) in
-    subst (λ (z : List ℕ). AreLines z (front ∷ (fronts ++ lines))) i
-    (subst (λ (z : List ℕ). AreLines (fed l.bytes true ++ (concat fronts ++ rest)) (z ∷ (fronts ++ lines))) (sym l.is) (first l.bytes l.unbroken (front_lines fronts rest lines f.1 more)))
+    let i : fed l.bytes true ++ (concat prefixes ++ rest) ≡ (prefix ++ concat prefixes) ++ rest =
+    ap (λ (z : List ℕ). z ++ (concat prefixes ++ rest)) (sym l.is) ∙ sym (append_assoc prefix (concat prefixes) rest) in
+    subst (λ (z : List ℕ). AreLines z (prefix ∷ (prefixes ++ lines))) i
+    (subst (λ (z : List ℕ). AreLines (fed l.bytes true ++ (concat prefixes ++ rest)) (z ∷ (prefixes ++ lines))) (sym l.is) (first l.bytes l.unbroken (prefix_lines prefixes rest lines f.1 more)))
 
 -- ---- the lines of a proof
 map_concat : (ls : List LineStep) → flat_map text_of ls ≡ concat (map text_of ls)
@@ -319,7 +319,7 @@ lines_of_proof bytes outs steps p =
         each-append (map text_of (lines_of steps)) (text_of Ends ∷ []) (are_texts (lines_of steps) (steps_texts steps p.writable)) (ends_is, tt),
       ),
     ) in
-    let lines : AreLines (concat ls ++ []) (ls ++ []) = front_lines ls [] [] each none in
+    let lines : AreLines (concat ls ++ []) (ls ++ []) = prefix_lines ls [] [] each none in
     subst (λ (z : List ℕ). AreLines z ls) (append-nil (concat ls) ∙ sym (proof_whole outs steps) ∙ sym p.spelled)
     (subst (λ (z : List (List ℕ)). AreLines (concat ls ++ []) z) (append-nil ls) lines)
 
@@ -327,6 +327,6 @@ lines_of_proof bytes outs steps p =
 pub lines_of_steps : (steps : List Step) → Each IsWritable steps → AreLines (steps_text steps) (map text_of (lines_of steps))
 lines_of_steps steps w =
     let body : List (List ℕ) = map text_of (lines_of steps) in
-    let lines : AreLines (concat body ++ []) (body ++ []) = front_lines body [] [] (are_texts (lines_of steps) (steps_texts steps w)) none in
+    let lines : AreLines (concat body ++ []) (body ++ []) = prefix_lines body [] [] (are_texts (lines_of steps) (steps_texts steps w)) none in
     subst (λ (z : List ℕ). AreLines z body) (append-nil (concat body) ∙ sym (steps_say steps ∙ map_concat (lines_of steps)))
     (subst (λ (z : List (List ℕ)). AreLines (concat body ++ []) z) (append-nil body) lines)

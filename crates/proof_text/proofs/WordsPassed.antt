@@ -6,12 +6,12 @@ use Rattle.proof_text.specs.LinesOfText.{fed}
 use Rattle.proof_text.specs.Reading.{word_at}
 use Rattle.proof_text.proofs.HeadingsRead.{fed_behind}
 
-word_front : (bytes text : List ℕ) (nodes : ℕ) → word_at bytes (record { nodes = nodes; text = bytes ++ text }) ≡ (Ok tt, record { nodes = nodes; text = text })
+word_prefix : (bytes text : List ℕ) (nodes : ℕ) → word_at bytes (record { nodes = nodes; text = bytes ++ text }) ≡ (Ok tt, record { nodes = nodes; text = text })
 unfolding word_at
-word_front [] text nodes = refl
-word_front (byte ∷ bytes) text nodes = rw (eq-eqb (code (sign byte)) (code (sign byte)) refl) (word_front bytes text nodes)
+word_prefix [] text nodes = refl
+word_prefix (byte ∷ bytes) text nodes = rw (eq-eqb (code (sign byte)) (code (sign byte)) refl) (word_prefix bytes text nodes)
 
 -- they stood next in a line
 pub all_passed : (bytes line left : List ℕ) (ended : Bool) (nodes : ℕ) → line ≡ bytes ++ left
     → word_at bytes (record { nodes = nodes; text = fed line ended }) ≡ (Ok tt, record { nodes = nodes; text = fed left ended })
-all_passed bytes line left ended nodes e = rw (e, fed_behind bytes left ended) (word_front bytes (fed left ended) nodes)
+all_passed bytes line left ended nodes e = rw (e, fed_behind bytes left ended) (word_prefix bytes (fed left ended) nodes)

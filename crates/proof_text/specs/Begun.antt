@@ -1,4 +1,4 @@
--- How many nodes have begun in the argument that a front of a line ends in. An argument stands behind a space. A node begins with each byte
+-- How many nodes have begun in the argument that a prefix of a line ends in. An argument stands behind a space. A node begins with each byte
 -- at the argument's start, behind `(` and behind `,`, but for parentheses; a number, and the brace of ` {`, count as one too.
 use Rattle.std.specs.Prelude.{ℕ, ◌+◌, ◌≤◌, ◌≡◌, ◌==◌, ◌&&◌, ◌||◌, Bool, true, false, not, if◌then◌else◌, List, ◌++◌, fold}
 use Rattle.proof_text.specs.Limits.{most_nodes}
@@ -31,4 +31,4 @@ begun_in = begun_from (record { nodes = 0; may = false })
 
 -- up to no place more nodes have begun than an argument may have
 abbrev pub KeepsNodes : List ℕ → Type 0
-KeepsNodes front = (x y : List ℕ) → front ≡ x ++ y → (begun_in x).nodes ≤ most_nodes
+KeepsNodes prefix = (x y : List ℕ) → prefix ≡ x ++ y → (begun_in x).nodes ≤ most_nodes

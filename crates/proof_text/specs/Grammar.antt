@@ -4,7 +4,7 @@
 --     term        0, 1, +(x,y), *(x,y), #(x), !(x), S(x), R3(v,v), =(v,v), P0(v,v)
 --     value       b0, f0, c0, F3(v,v), G1(x)
 -- One space stands between the parts of a line, and a line feed at its end. A number has 32 bits and no leading zero: while its digits are
--- those of the greatest one this is told, so that a front of a number is a front at each byte.
+-- those of the greatest one this is told, so that a prefix of a number is a prefix at each byte.
 use Rattle.std.specs.Prelude.{ℕ, zero, suc, ◌+◌, ◌*◌, ◌==◌, ◌&&◌, ◌||◌, nat_lt, Bool, true, false, List, [], ◌∷◌, Option, Some, None, fold, codes}
 use Rattle.u_terms.specs.declared.term.U.{U}
 use Rattle.u_terms.specs.declared.term.Val.{Val}

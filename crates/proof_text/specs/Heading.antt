@@ -4,9 +4,9 @@ use Rattle.std.specs.Fmt.{decimal}
 use Rattle.u_deriv.specs.StepText.{newline}
 
 abbrev pub numbered_line : List ℕ → ℕ → List ℕ
-numbered_line front n = front ++ (decimal n ++ newline)
+numbered_line prefix n = prefix ++ (decimal n ++ newline)
 
 -- the text is the line of this number, or of none
 abbrev pub IsNumbered : List ℕ → List ℕ → Option ℕ → Type 0
-IsNumbered front text (Some n) = (text ≡ numbered_line front n) × (n < 2 ^ 32)
-IsNumbered front text None = (n : ℕ) → n < 2 ^ 32 → text ≡ numbered_line front n → ⊥
+IsNumbered prefix text (Some n) = (text ≡ numbered_line prefix n) × (n < 2 ^ 32)
+IsNumbered prefix text None = (n : ℕ) → n < 2 ^ 32 → text ≡ numbered_line prefix n → ⊥

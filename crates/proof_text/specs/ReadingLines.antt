@@ -2,7 +2,7 @@
 use Rattle.std.specs.Prelude.{ℕ, ◌+◌, ◌≡◌, List, [], ◌∷◌, ◌++◌, length, Some, None, Result, Ok, Err}
 use Rattle.grammar.specs.Form.{language}
 use Rattle.grammar.specs.Language.{Language}
-use Rattle.grammar.specs.Reading.{IsLongestFront}
+use Rattle.grammar.specs.Reading.{IsLongestPrefix}
 use Rattle.proof_text.specs.declared.limits.LimitKind.{LimitKind}
 use Rattle.proof_text.specs.declared.limits.LimitKind.TheVariants.{Nodes, Depth, Steps, Nesting}
 use Rattle.proof_text.specs.declared.line.LineStep.{LineStep}
@@ -26,36 +26,36 @@ pub record IsRead (text : List ℕ) (says : LineStep) : Type 0 where
   pub spelled : shallow_lines.spells text says
   pub few : KeepsNodes text
 
--- The text is no line. The longest front ends before the column, counted from 1, and no argument passes a limit in it.
+-- The text is no line. The longest prefix ends before the column, counted from 1, and no argument passes a limit in it.
 pub record IsBad (text : List ℕ) (column : ℕ) : Type 0 where
-  pub front : List ℕ
-  pub longest : IsLongestFront lines text front
-  pub is : column ≡ length front + 1
+  pub prefix : List ℕ
+  pub longest : IsLongestPrefix lines text prefix
+  pub is : column ≡ length prefix + 1
   pub unspelled : (says : LineStep) → lines.spells text says → ⊥
-  pub shallow : shallow_lines.front front
-  pub few : KeepsNodes front
+  pub shallow : shallow_lines.prefix prefix
+  pub few : KeepsNodes prefix
 
--- the byte behind this front begins a node of an argument, and one too many
+-- the byte behind this prefix begins a node of an argument, and one too many
 pub record PassesNodes (text : List ℕ) : Type 0 where
-  pub front : List ℕ
+  pub prefix : List ℕ
   pub byte : ℕ
   pub rest : List ℕ
-  pub whole : text ≡ front ++ byte ∷ rest
-  pub goes_on : lines.front (front ++ byte ∷ [])
-  pub shallow : shallow_lines.front front
-  pub few : KeepsNodes front
-  pub many : (begun_in (front ++ byte ∷ [])).nodes ≡ most_nodes + 1
+  pub whole : text ≡ prefix ++ byte ∷ rest
+  pub goes_on : lines.prefix (prefix ++ byte ∷ [])
+  pub shallow : shallow_lines.prefix prefix
+  pub few : KeepsNodes prefix
+  pub many : (begun_in (prefix ++ byte ∷ [])).nodes ≡ most_nodes + 1
 
--- the byte behind this front begins a node that is too deep, and none too many
+-- the byte behind this prefix begins a node that is too deep, and none too many
 pub record PassesDepth (text : List ℕ) : Type 0 where
-  pub front : List ℕ
+  pub prefix : List ℕ
   pub byte : ℕ
   pub rest : List ℕ
-  pub whole : text ≡ front ++ byte ∷ rest
-  pub goes_on : lines.front (front ++ byte ∷ [])
-  pub shallow : shallow_lines.front front
-  pub deep : shallow_lines.front (front ++ byte ∷ []) → ⊥
-  pub few : KeepsNodes (front ++ byte ∷ [])
+  pub whole : text ≡ prefix ++ byte ∷ rest
+  pub goes_on : lines.prefix (prefix ++ byte ∷ [])
+  pub shallow : shallow_lines.prefix prefix
+  pub deep : shallow_lines.prefix (prefix ++ byte ∷ []) → ⊥
+  pub few : KeepsNodes (prefix ++ byte ∷ [])
 
 -- the count that passes the limit is the limit and one
 abbrev pub IsLimit : List ℕ → LimitKind → ℕ → Type 0

@@ -19,10 +19,10 @@ fn only_number(line: &[u8], ended: bool) -> Option<u32>
 }
 
 // The number of a line that is these bytes, a number and a line feed.
-fn numbered(line: &[u8], ended: bool, front: &[u8]) -> Option<u32>
-    ensures { IsNumbered front.now (fed line.now ended) result }
+fn numbered(line: &[u8], ended: bool, prefix: &[u8]) -> Option<u32>
+    ensures { IsNumbered prefix.now (fed line.now ended) result }
 {
-    only_number(line.strip_prefix(front)?, ended)
+    only_number(line.strip_prefix(prefix)?, ended)
 }
 
 /// The version of a proof whose first line has these bytes; `ended` says that a line feed follows them. There is none exactly where

@@ -1,6 +1,6 @@
 pub mod StatementParts
 pub mod StatementColumns
-pub mod StatementFronts
+pub mod StatementPrefixes
 pub mod StatementKnown
 pub mod FewColumns
 pub mod FewStatements

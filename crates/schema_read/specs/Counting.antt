@@ -22,12 +22,12 @@ ReadsTelling told f levels h start before result after = ReadsWithin told f (few
 
 -- In these C is what may be read of the form within the limit.
 
--- the longest front was taken, and is spelled within the limit
+-- the longest prefix was taken, and is spelled within the limit
 pub record TakesCounted {V : Type 0} (f : The V) (C : Language Lexeme V) (before after : Cursor) : Type 0 where
   pub read : V
   pub took : Took (of_form None f) C before.tokens read after.tokens
 
--- what was taken is a front within the limit; where this limit is refused, the next token passes it
+-- what was taken is a prefix within the limit; where this limit is refused, the next token passes it
 pub record RefusesCounted {V : Type 0} (own : LimitKind) (f : The V) (C : Language Lexeme V) (before : Cursor) (fault : ReadFault) (after : Cursor) : Type 0 where
   pub begun : IsPlaced fault → Began C before.tokens after.tokens
   pub passed : fault ≡ Limit own → Exceeded (of_form None f) C before.tokens after.tokens
@@ -51,5 +51,5 @@ narrowly = few_columns most_further_columns
 
 -- ---- relations
 
-abbrev pub few_planned : Language Lexeme (Built (List Statement))
-few_planned = map_language (λ read. each read) (upto_language most_relations (of_form None (g.ended_with g.elements)))
+abbrev pub few_left_factored : Language Lexeme (Built (List Statement))
+few_left_factored = map_language (λ read. each read) (upto_language most_relations (of_form None (g.ended_with g.elements)))

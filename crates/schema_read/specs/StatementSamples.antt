@@ -29,7 +29,7 @@ statements text = map (λ read. (read.build first_numbers).0) (whole_values (par
 abbrev pub within : ℕ → List ℕ → ℕ
 within levels text = length (whole_values (parses kind_of (name_parses kind_of rules 20) (Some levels) g.statements (tokens text)))
 
--- whether a text is a front of statements whose tables have at most so many columns besides their first
+-- whether a text is a prefix of statements whose tables have at most so many columns besides their first
 abbrev pub begins_narrow : ℕ → List ℕ → Bool
 begins_narrow most text = begins kind_of (name_parses kind_of rules 20) (name_begins kind_of rules 20) None (g.statements_with (few_columns most)) (tokens text)
 

@@ -26,7 +26,7 @@ Spells = SpellsIn statements
 
 -- statements may go on after these tokens
 abbrev pub Begins : List Lexeme → Type 0
-Begins ts = statements.front ts
+Begins ts = statements.prefix ts
 
 -- the token opens too many levels, or makes a chain or a list too long
 abbrev pub IsTooDeep : List Lexeme → Lexeme → Type 0

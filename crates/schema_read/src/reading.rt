@@ -7,7 +7,7 @@ ghost use Rattle.sql_grammar.specs.Queries.{most_levels};
 ghost use Rattle.sql_read.specs.ReadingQueries.{IsAtEnd, Keeps};
 ghost use Rattle.sql_read.specs.Reads.{of_form, relations_too};
 ghost use Rattle.schema_read.specs.CopiedStatements.{Copied};
-ghost use Rattle.schema_read.specs.Counting.{Counts, ReadsTelling, few_planned, narrowly};
+ghost use Rattle.schema_read.specs.Counting.{Counts, ReadsTelling, few_left_factored, narrowly};
 ghost use Rattle.schema_read.specs.Declarations.{IsSmall};
 ghost use Rattle.schema_read.specs.ReadingStatements.{IsRead, IsRefused};
 ghost use Rattle.schema_read.specs.StatementGrammar as g;
@@ -51,7 +51,7 @@ pub fn read_inner_statements(
 ) -> Result<List<Statement>, ReadFault>
     ensures reads { ReadsTelling relations_too g.statements most_levels (λ read. read) tokens.old tokens.old result tokens.new }
     ensures columns { Counts limit.Columns g.statements (of_form None (g.statements_with narrowly)) tokens.old result tokens.new }
-    ensures relations { Counts limit.Relations g.statements few_planned tokens.old result tokens.new }
+    ensures relations { Counts limit.Relations g.statements few_left_factored tokens.old result tokens.new }
     ensures copied { Copied g.statements (λ read. read) tokens.old tokens.old result tokens.new }
     // What `read_schema` requires.
     ensures few { IfOk result (λ statements. length statements ≤ most_relations) }

@@ -3,7 +3,7 @@ ghost use Rattle.std.specs.Prelude.{◌≡◌, ◌≤◌, ◌<◌, ◌+◌, ℕ,
 ghost use Rattle.data_model.specs.Lists.{Each};
 ghost use Rattle.grammar.specs.Completions.{Completed, Completes};
 ghost use Rattle.grammar.specs.Form.{Room, language};
-ghost use Rattle.grammar.specs.Language.{HasFronts, Includes, IsUnambiguous};
+ghost use Rattle.grammar.specs.Language.{HasPrefixes, Includes, IsUnambiguous};
 ghost use Rattle.grammar.specs.Lookahead.{HasLookahead};
 ghost use Rattle.sql_lex.specs.Lexemes.{Lexeme};
 ghost use Rattle.sql_model.specs.declared.statement.Statement.{Statement};
@@ -19,17 +19,17 @@ ghost use Rattle.schema_read.specs.StatementGrammar as g;
 ghost use Rattle.schema_read.specs.StatementLimits.{CopiesFew, IsColumnTooMany, IsCopyTooMany, IsEntryTooMany, IsRelationTooMany, column_count, few_entry_statements, few_statements, narrow_statements, rule_count};
 ghost use Rattle.schema_read.specs.StatementLookahead.{of_statements};
 ghost use Rattle.schema_read.specs.Statements.{Begins, IsTooDeep, Spells, SpellsIn, shallow_statements, statements};
-ghost use Rattle.sql_grammar.specs.QueryPlan.{in_plan};
+ghost use Rattle.sql_grammar.specs.FactoredQueries.{in_factored};
 
 /// Statements may go on after no tokens, after fewer tokens than they may go on after, and after whole ones.
-pub fn fronts()
+pub fn prefixes()
     ensures empty { Begins [] }
     ensures shorter { (x y : List Lexeme) → Begins (x ++ y) → Begins x }
     ensures spelled { (before after : Numbers) (ts : List Lexeme) (list : List Statement) → Spells before ts list after → Begins ts }
-    ensures limited { (room : Room) → HasFronts (of_form room g.statements) }
+    ensures limited { (room : Room) → HasPrefixes (of_form room g.statements) }
 {}
 
-/// What is spelled within a limit is spelled, and a front within it is a front.
+/// What is spelled within a limit is spelled, and a prefix within it is a prefix.
 pub fn limits()
     ensures shallow { Includes statements shallow_statements }
     ensures narrow { (most : ℕ) → Includes statements (narrow_statements most) }
@@ -63,10 +63,10 @@ pub fn one_list()
     ensures values { (room : Room) → IsUnambiguous (of_form room g.statements) }
 {}
 
-/// Over the plan of queries statements spell and begin the same, within the limits and without.
+/// Over the left-factored grammar of queries statements spell and begin the same, within the limits and without.
 pub fn same_languages()
-    ensures planned { (room : Room) → Includes (in_plan room g.statements) (of_form room g.statements) }
-    ensures known { (room : Room) → Includes (of_form room g.statements) (in_plan room g.statements) }
+    ensures left_factored { (room : Room) → Includes (in_factored room g.statements) (of_form room g.statements) }
+    ensures known { (room : Room) → Includes (of_form room g.statements) (in_factored room g.statements) }
 {}
 
 /// One token of lookahead tells of statements what the table says.
@@ -114,7 +114,7 @@ pub fn few_in_each_block()
         Spells before ts list after → Each (ViewHasFew (suc most)) list → SpellsIn (few_entry_statements most) before ts list after }
 {}
 
-/// The limit on what views copy is passed at no more than one token of a text, and at none of statements that are within it. Each front of
+/// The limit on what views copy is passed at no more than one token of a text, and at none of statements that are within it. Each prefix of
 /// statements goes on to statements with tokens that copy nothing, and the limit is passed exactly where what goes on so from before the
 /// token is within it, and what goes on so from behind the token is not.
 pub fn copied_too_much_once()

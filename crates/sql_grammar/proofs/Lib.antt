@@ -1,5 +1,5 @@
 pub mod lists
-pub mod plan
+pub mod factored
 pub mod queries
 pub mod copies
 pub mod entries

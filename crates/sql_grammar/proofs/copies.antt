@@ -1,9 +1,9 @@
 pub mod CopyLimits
 pub mod CopyOnce
-pub mod CopyPrices
+pub mod CopyCosts
 pub mod CopySteps
-pub mod PlanPrices
-pub mod PlanSame
+pub mod FactoredCosts
+pub mod FactoredSame
 pub mod QueryCompletions
 pub mod QueryFillings
 pub mod TestCopies

@@ -1,7 +1,7 @@
 pub mod EntryCounts
 pub mod EntryLists
 pub mod EntryTexts
-pub mod FewPlan
+pub mod FewFactored
 pub mod FewSpelled
 pub mod EverywhereQueries
 pub mod EverywhereTrees

@@ -1,7 +1,7 @@
 pub mod QueryBelow
 pub mod QueryFirsts
 pub mod QueryForms
-pub mod QueryFronts
+pub mod QueryPrefixes
 pub mod QueryInside
 pub mod QueryInsides
 pub mod QueryItems

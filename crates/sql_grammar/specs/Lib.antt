@@ -9,5 +9,5 @@ pub mod Queries
 pub mod QueryEntries
 pub mod QueryCopies
 pub mod QuerySamples
-pub mod QueryPlan
+pub mod FactoredQueries
 pub mod QueryLookahead

@@ -38,7 +38,7 @@ Spells before ts q after = (read : Built Query) × queries.spells ts read × (re
 
 -- a text may go on after these tokens
 abbrev pub Begins : List Lexeme → Type 0
-Begins ts = queries.front ts
+Begins ts = queries.prefix ts
 
 -- the token is the first that opens too many levels or makes a chain too long
 abbrev pub IsTooDeep : List Lexeme → Lexeme → Type 0

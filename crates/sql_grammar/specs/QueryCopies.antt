@@ -17,7 +17,7 @@ most_copies = 1000000
 abbrev pub copies_nothing : Lexeme → Bool
 copies_nothing token = not (among (k.Between ∷ k.Comma ∷ []) (kind_of token))
 
--- With so much copied before them, the texts with which no more is copied than may be. A front is within the limit where one of these texts
+-- With so much copied before them, the texts with which no more is copied than may be. A prefix is within the limit where one of these texts
 -- goes on from it with tokens that copy nothing.
 abbrev pub within_copies : {A : Type 0} → ℕ → Language Lexeme (Built A) → Language Lexeme (Built A)
 within_copies copied L = within_cost copies_nothing (λ read. read.copies) most_copies copied L

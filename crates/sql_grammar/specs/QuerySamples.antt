@@ -69,7 +69,7 @@ queries text = map (λ read. (read.build first_numbers).0) (whole_values (name_p
 abbrev pub copies : List ℕ → List ℕ
 copies text = map (λ read. read.copies) (whole_values (name_parses kind_of rules 40 None g.expr (tokens text)))
 
--- what a front of an expression has copied, by what it goes on with, which is none where that copies anything
+-- what a prefix of an expression has copied, by what it goes on with, which is none where that copies anything
 abbrev pub copied : List ℕ → List ℕ → List ℕ
 copied text more = if list_all copies_nothing (tokens more) then copies (text ++ blank ∷ more) else []
 
@@ -81,7 +81,7 @@ within levels text = length (whole_values (name_parses kind_of rules 40 (Some le
 abbrev pub with_few : ℕ → List ℕ → List Query
 with_few further text = map (λ read. (read.build first_numbers).0) (whole_values (name_parses kind_of (few_rules further) 40 None g.query (tokens text)))
 
--- whether a text is a front of these
+-- whether a text is a prefix of these
 abbrev pub begins_few : ℕ → List ℕ → Bool
 begins_few further text = name_begins kind_of (few_rules further) 40 None g.query (tokens text)
 

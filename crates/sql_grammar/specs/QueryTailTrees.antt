@@ -1,4 +1,4 @@
--- The trees of what only the plan names: what follows a first part, and what stands in parentheses.
+-- The trees of what only the left-factored grammar names: what follows a first part, and what stands in parentheses.
 use Rattle.std.specs.Prelude.{ℕ, ◌+◌, List, [], ◌∷◌, Option, ◌⊎◌}
 use Rattle.std.proofs.Common.{inl, inr}
 use Rattle.sql_model.specs.declared.tree.Expr.{Expr}

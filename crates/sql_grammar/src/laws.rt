@@ -2,7 +2,7 @@
 ghost use Rattle.std.specs.Prelude.{◌≡◌, ◌++◌, ◌+◌, ◌∷◌, ◌≤◌, ◌<◌, List, [], length, None, ℕ};
 ghost use Rattle.grammar.specs.Completions.{Completed, Completes, Overspends};
 ghost use Rattle.grammar.specs.Form.{Room, language};
-ghost use Rattle.grammar.specs.Language.{HasFronts, Includes, IsUnambiguous};
+ghost use Rattle.grammar.specs.Language.{HasPrefixes, Includes, IsUnambiguous};
 ghost use Rattle.grammar.specs.Limits.{KeepsWithin};
 ghost use Rattle.grammar.specs.Lookahead.{HasLookahead};
 ghost use Rattle.grammar.specs.Parses.{name_parses, whole_values};
@@ -13,19 +13,19 @@ ghost use Rattle.sql_grammar.specs.Numbering.{Built, Numbers};
 ghost use Rattle.sql_grammar.specs.Queries.{Begins, IsTooDeep, of_production, queries, rules, shallow_queries, Spells};
 ghost use Rattle.sql_grammar.specs.QueryCopies.{IsCopyTooMany, copies_nothing, most_copies, within_copies};
 ghost use Rattle.sql_grammar.specs.QueryEntries.{IsEntryTooMany, few_queries, few_rules, most_further};
-ghost use Rattle.sql_grammar.specs.QueryPlan.{few_plan, of_plan};
+ghost use Rattle.sql_grammar.specs.FactoredQueries.{few_factored, of_factored};
 ghost use Rattle.sql_grammar.specs.QueryLookahead.{table};
 ghost use Rattle.sql_grammar.specs.QueryGrammar.{Production, query};
 
 /// A text may go on after no tokens, after fewer tokens than it may go on after, and after a query.
-pub fn fronts()
+pub fn prefixes()
     ensures empty { Begins [] }
     ensures shorter { (x y : List Lexeme) → Begins (x ++ y) → Begins x }
     ensures spelled { (before after : Numbers) (ts : List Lexeme) (q : Query) → Spells before ts q after → Begins ts }
-    ensures productions { (room : Room) (p : Production) → HasFronts (of_production room p) }
+    ensures productions { (room : Room) (p : Production) → HasPrefixes (of_production room p) }
 {}
 
-/// What is spelled within the limits is spelled, and a front within them is a front.
+/// What is spelled within the limits is spelled, and a prefix within them is a prefix.
 pub fn limits()
     ensures { Includes queries shallow_queries }
 {}
@@ -35,7 +35,7 @@ pub fn passed_once()
     ensures { (x more y others : List Lexeme) (t u : Lexeme) → IsTooDeep x t → IsTooDeep y u → x ++ t ∷ more ≡ y ++ u ∷ others → (x ≡ y) × (t ≡ u) }
 {}
 
-/// Queries whose blocks have few enough entries are queries, and their fronts are fronts. Where as many further entries are allowed as a text
+/// Queries whose blocks have few enough entries are queries, and their prefixes are prefixes. Where as many further entries are allowed as a text
 /// has tokens, the text spells what it spells as a query.
 pub fn few_entries()
     ensures included { Includes queries few_queries }
@@ -47,9 +47,9 @@ pub fn too_many_once()
     ensures { (x more y others : List Lexeme) (t u : Lexeme) → IsEntryTooMany x t → IsEntryTooMany y u → x ++ t ∷ more ≡ y ++ u ∷ others → (x ≡ y) × (t ≡ u) }
 {}
 
-/// Each front of a query goes on to a query with tokens that copy nothing, and what goes on so begins a query; a whole query goes on with none.
-/// No query that goes on from a front copies less than one that goes on so, so these copy one number, which is what the front has copied, and
-/// a longer front has copied no less.
+/// Each prefix of a query goes on to a query with tokens that copy nothing, and what goes on so begins a query; a whole query goes on with none.
+/// No query that goes on from a prefix copies less than one that goes on so, so these copy one number, which is what the prefix has copied, and
+/// a longer prefix has copied no less.
 pub fn copies()
     ensures begins { (ts : List Lexeme) (read : Built Query) → Completes copies_nothing queries ts read → Begins ts }
     ensures completed { (ts : List Lexeme) → Begins ts → Completed copies_nothing queries ts }
@@ -62,21 +62,21 @@ pub fn copies()
         other.copies ≤ read.copies }
 {}
 
-/// What the plan has copied at a front of a query, the front has copied, and the other way round. Where a front of the plan is within the limit
-/// on copies, and with the next token is not, that token of the query is the one that passes it.
-pub fn plan_copies()
-    ensures there { (ts : List Lexeme) (read : Built Query) → Completes copies_nothing (of_plan None query) ts read → Completes copies_nothing queries ts read }
-    ensures back { (ts : List Lexeme) (read : Built Query) → Completes copies_nothing queries ts read → Completes copies_nothing (of_plan None query) ts read }
+/// What the left-factored grammar has copied at a prefix of a query, the prefix has copied, and the other way round. Where a prefix of the
+/// left-factored grammar is within the limit on copies, and with the next token is not, that token of the query is the one that passes it.
+pub fn factored_copies()
+    ensures there { (ts : List Lexeme) (read : Built Query) → Completes copies_nothing (of_factored None query) ts read → Completes copies_nothing queries ts read }
+    ensures back { (ts : List Lexeme) (read : Built Query) → Completes copies_nothing queries ts read → Completes copies_nothing (of_factored None query) ts read }
     ensures too_much { (copied : ℕ) (start before more : List Lexeme) (token : Lexeme) → start ≡ before ++ token ∷ more →
-        Overspends copies_nothing (of_plan None query) (λ read. read.copies) most_copies copied start (token ∷ more) → IsCopyTooMany copied before token }
+        Overspends copies_nothing (of_factored None query) (λ read. read.copies) most_copies copied start (token ∷ more) → IsCopyTooMany copied before token }
 {}
 
-/// The limit on copies is passed at no more than one token of a text, and at none of a front within it. It is passed exactly where what goes on
+/// The limit on copies is passed at no more than one token of a text, and at none of a prefix within it. It is passed exactly where what goes on
 /// from before the token with tokens that copy nothing is within it, and what goes on so from behind the token is not.
 pub fn copied_too_much_once()
     ensures once { (copied : ℕ) (x more y others : List Lexeme) (t u : Lexeme) → IsCopyTooMany copied x t → IsCopyTooMany copied y u →
         x ++ t ∷ more ≡ y ++ u ∷ others → (x ≡ y) × (t ≡ u) }
-    ensures never { (copied : ℕ) (ts : List Lexeme) → (within_copies copied queries).front ts → KeepsWithin queries (within_copies copied queries) ts }
+    ensures never { (copied : ℕ) (ts : List Lexeme) → (within_copies copied queries).prefix ts → KeepsWithin queries (within_copies copied queries) ts }
     ensures passed { (copied : ℕ) (x : List Lexeme) (t : Lexeme) (read other : Built Query) →
         Completes copies_nothing queries x read → Completes copies_nothing queries (x ++ t ∷ []) other →
         copied + read.copies ≤ most_copies → most_copies < copied + other.copies → IsCopyTooMany copied x t }
@@ -96,17 +96,17 @@ pub fn lookahead()
     ensures { (room : Room) (p : Production) → HasLookahead kind_of (of_production room p) (table p) }
 {}
 
-/// The plan spells and begins what the grammar does, each of its names, within the limits and without.
+/// The left-factored grammar spells and begins what the grammar does, each of its names, within the limits and without.
 pub fn same_languages()
-    ensures planned { (room : Room) (p : Production) → Includes (of_plan room p) (of_production room p) }
-    ensures known { (room : Room) (p : Production) → Includes (of_production room p) (of_plan room p) }
+    ensures left_factored { (room : Room) (p : Production) → Includes (of_factored room p) (of_production room p) }
+    ensures known { (room : Room) (p : Production) → Includes (of_production room p) (of_factored room p) }
 {}
 
-/// With few entries in each block too, the plan spells and begins what the grammar does.
+/// With few entries in each block too, the left-factored grammar spells and begins what the grammar does.
 pub fn few_languages()
-    ensures planned { (room : Room) (p : Production) → Includes (language kind_of (few_plan most_further) room p) (language kind_of (few_rules most_further) room p) }
-    ensures known { (room : Room) (p : Production) → Includes (language kind_of (few_rules most_further) room p) (language kind_of (few_plan most_further) room p) }
-    ensures fewer { (room : Room) (p : Production) → Includes (of_plan room p) (language kind_of (few_plan most_further) room p) }
+    ensures left_factored { (room : Room) (p : Production) → Includes (language kind_of (few_factored most_further) room p) (language kind_of (few_rules most_further) room p) }
+    ensures known { (room : Room) (p : Production) → Includes (language kind_of (few_rules most_further) room p) (language kind_of (few_factored most_further) room p) }
+    ensures fewer { (room : Room) (p : Production) → Includes (of_factored room p) (language kind_of (few_factored most_further) room p) }
 {}
 
 /// A query that is computed from tokens is spelled by them.

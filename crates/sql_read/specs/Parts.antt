@@ -10,7 +10,7 @@ use Rattle.sql_read.specs.declared.reading.inside.Inside.TheVariants as inside
 use Rattle.sql_read.specs.declared.reading.inside.Grouped.{Grouped}
 use Rattle.sql_read.specs.declared.reading.inside.Grouped.TheVariants as grouped
 use Rattle.sql_grammar.specs.Numbering.{Built, plain, mapped}
-use Rattle.sql_grammar.specs.QueryPlan.{Starred}
+use Rattle.sql_grammar.specs.FactoredQueries.{Starred}
 use Rattle.sql_grammar.specs.QueryTailTrees.{Inside}
 use Rattle.sql_grammar.specs.TokenValues.{name_of}
 

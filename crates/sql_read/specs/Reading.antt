@@ -1,4 +1,4 @@
--- What the reading functions do, from the left: what is read, or where and why reading stops. They go like the plan of the grammar: one token
+-- What the reading functions do, from the left: what is read, or where and why reading stops. They go like the left-factored grammar of the grammar: one token
 -- always tells how to go on.
 use Rattle.std.specs.Prelude.{ℕ, zero, suc, ◌+◌, ◌-◌, ◌≡◌, ◌==◌, Bool, true, false, not, ◌&&◌, nat_lt, if◌then◌else◌, List, [], ◌∷◌, ◌++◌, length, Option, Some, None, Result, Ok, Err}
 use Rattle.sql_lex.specs.declared.token.Token.{Token}

@@ -3,7 +3,7 @@
 use Rattle.std.specs.Prelude.{ℕ, ◌+◌, ◌≡◌, List, [], ◌∷◌, ◌++◌, length, Some, None, Option}
 use Rattle.grammar.specs.Language.{Language}
 use Rattle.grammar.specs.Limits.{IsFirstBeyond}
-use Rattle.grammar.specs.Reading.{IsLongestFront}
+use Rattle.grammar.specs.Reading.{IsLongestPrefix}
 use Rattle.sql_lex.specs.declared.token.LexFault.{LexFault}
 use Rattle.sql_lex.specs.Lexemes.{Lexeme}
 use Rattle.sql_read.specs.declared.fault.LimitKind.{LimitKind}
@@ -57,7 +57,7 @@ IsSooner (count_limit limit.Copies) (count_limit limit.Copies) = ⊥
 pub record IsRead {A : Type 0} (T : Texts A) (before : Cursor) (value : A) (after : Cursor) : Type 0 where
   pub taken : List Lexeme
   pub whole : before.tokens ≡ taken ++ after.tokens
-  pub leading : IsLongestFront (any T) before.tokens taken
+  pub leading : IsLongestPrefix (any T) before.tokens taken
   pub read : Built A
   pub spelled : (any T).spells taken read
   pub kept : (which : TextLimit) → (keeping T before.copies which).spells taken read
@@ -75,9 +75,9 @@ pub record IsUnfinished {A : Type 0} (T : Texts A) (copied : ℕ) (tokens : List
   pub taken : List Lexeme
   pub rest : List Lexeme
   pub parts : tokens ≡ taken ++ rest
-  pub leading : IsLongestFront (any T) tokens taken
+  pub leading : IsLongestPrefix (any T) tokens taken
   pub unspelled : (read : Built A) → (any T).spells taken read → ⊥
-  pub kept : (which : TextLimit) → (keeping T copied which).front taken
+  pub kept : (which : TextLimit) → (keeping T copied which).prefix taken
   pub refusal : refused ≡ refusal_of end (next rest fault)
 
 -- The token behind those taken goes on with no limits, and is the first beyond this one. All were kept before it, and with it those that are told sooner.
@@ -87,8 +87,8 @@ pub record Passes {A : Type 0} (T : Texts A) (copied : ℕ) (tokens : List Lexem
   pub rest : List Lexeme
   pub parts : tokens ≡ taken ++ token ∷ rest
   pub beyond : IsFirstBeyond (any T) (keeping T copied which) taken token
-  pub kept : (other : TextLimit) → (keeping T copied other).front taken
-  pub sooner : (other : TextLimit) → IsSooner other which → (keeping T copied other).front (taken ++ token ∷ [])
+  pub kept : (other : TextLimit) → (keeping T copied other).prefix taken
+  pub sooner : (other : TextLimit) → IsSooner other which → (keeping T copied other).prefix (taken ++ token ∷ [])
 
 -- the token at this place is too deep
 pub record PassesDepth {A : Type 0} (T : Texts A) (copied : ℕ) (tokens : List Lexeme) (at : ℕ) : Type 0 where

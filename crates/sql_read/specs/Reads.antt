@@ -1,4 +1,4 @@
--- What the reading functions do. Each takes the longest list of tokens that begins a form of the plan, and answers what it spells, or
+-- What the reading functions do. Each takes the longest list of tokens that begins a form of the left-factored grammar, and answers what it spells, or
 -- refuses the token at which it stops.
 use Rattle.std.specs.Prelude.{ℕ, ◌+◌, ◌≡◌, ◌∷◌, List, Some, None, Result, Ok, Err, Bool, true, false}
 use Rattle.grammar.specs.Form.{Room, form_language, language}
@@ -15,16 +15,16 @@ use Rattle.sql_grammar.specs.Kinds.{kind_of}
 use Rattle.sql_grammar.specs.Numbering.{Built}
 use Rattle.sql_grammar.specs.QueryGrammar.{The}
 use Rattle.sql_grammar.specs.QueryEntries.{most_further}
-use Rattle.sql_grammar.specs.QueryPlan.{few_plan, plan}
+use Rattle.sql_grammar.specs.FactoredQueries.{few_factored, factored}
 use Rattle.sql_read.specs.Refusals.{refusal}
 
--- the language of a form of the plan
+-- the language of a form of the left-factored grammar
 abbrev pub of_form : {A : Type 0} → Room → The A → Language Lexeme A
-of_form room f = form_language kind_of (language kind_of plan) room f
+of_form room f = form_language kind_of (language kind_of factored) room f
 
 -- and where no block has too many entries
 unfoldable pub few_form : {A : Type 0} → The A → Language Lexeme A
-few_form f = form_language kind_of (language kind_of (few_plan most_further)) None f
+few_form f = form_language kind_of (language kind_of (few_factored most_further)) None f
 
 -- the language, if it is allowed
 abbrev pub allowed : {A : Type 0} → Bool → Language Lexeme A → Language Lexeme A
@@ -81,7 +81,7 @@ pub record TakesWithin {V : Type 0} (told : Told) (f : The V) (B : Language Lexe
 abbrev pub Takes : {V : Type 0} → The V → ℕ → List Lexeme → V → List Lexeme → Type 0
 Takes f levels here value rest = TakesWithin entries_too f (few_form f) levels here value rest
 
--- the longest front was read, and spells something that is built as h says
+-- the longest prefix was read, and spells something that is built as h says
 pub record GivesWithin {V A : Type 0} (told : Told) (f : The V) (B : Language Lexeme V) (levels : ℕ) (h : V → Built A) (start before : Cursor) (value : A) (after : Cursor) : Type 0 where
   pub read : V
   pub takes : TakesWithin told f B levels before.tokens read after.tokens
@@ -90,7 +90,7 @@ pub record GivesWithin {V A : Type 0} (told : Told) (f : The V) (B : Language Le
 abbrev pub Gives : {V A : Type 0} → The V → ℕ → (V → Built A) → Cursor → Cursor → A → Cursor → Type 0
 Gives f levels h start before value after = GivesWithin entries_too f (few_form f) levels h start before value after
 
--- the longest front was read, and spells nothing; what stands next is refused
+-- the longest prefix was read, and spells nothing; what stands next is refused
 pub record Fails {V : Type 0} (told : Told) (f : The V) (B : Language Lexeme V) (levels : ℕ) (before : Cursor) (fault : ReadFault) (after : Cursor) : Type 0 where
   pub failed : Failed (of_form None f) (of_form (Some levels) f) before.tokens after.tokens
   pub few : TellsEntries told → Failed (of_form None f) B before.tokens after.tokens

@@ -4,8 +4,8 @@ use Rattle.sql_lex.specs.Bytes.{double_quote}
 
 -- these bytes, and then those
 abbrev pub behind : List ℕ → Option (List ℕ) → Option (List ℕ)
-behind front None = None
-behind front (Some rest) = Some (front ++ rest)
+behind prefix None = None
+behind prefix (Some rest) = Some (prefix ++ rest)
 
 -- What stands before the mark that ends the bytes, with doubled marks made single; nothing where a mark that is not doubled stands
 -- elsewhere, or none at the end. A mark may have been just before.

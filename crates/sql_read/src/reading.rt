@@ -1,4 +1,4 @@
-//! The reader of queries: a function for each production of the plan, or for a part of one.
+//! The reader of queries: a function for each production of the left-factored grammar, or for a part of one.
 ghost use Rattle.std.specs.Prelude.{IfErr, IfOk, OnErr, Result};
 ghost use Rattle.grammar.specs.Form.{ref};
 ghost use Rattle.sql_read.specs.Copied.{Copied};

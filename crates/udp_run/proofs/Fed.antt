@@ -45,48 +45,48 @@ module _ (claim : Claim) where
       record { lines = lines; rest = rest; ended = e; unbroken = u; taken = count; progress = progress; stands = s }
   undecided bytes lines rest (stopped stop) o e u s = absurd o
 
-  taken-stands : (front : List ℕ) (after : Partial) (t : IsTaken (fresh claim) front after) → Stood t.lines after.check.state
-  taken-stands front after t = feeds-stand claim.facts claim.outs claim.left [] t.lines (on 0 (begun claim.left)) after.check.state none t.goes_on.feeds
+  taken-stands : (prefix : List ℕ) (after : Partial) (t : IsTaken (fresh claim) prefix after) → Stood t.lines after.check.state
+  taken-stands prefix after t = feeds-stand claim.facts claim.outs claim.left [] t.lines (on 0 (begun claim.left)) after.check.state none t.goes_on.feeds
 
-  pub taken-undecided : (front : List ℕ) (after : Partial) → IsTaken (fresh claim) front after → IsUndecidedIn claim front
-  taken-undecided front after t = undecided front t.lines after.bytes after.check.state (t.goes_on.on tt) t.ended (t.unbroken tt) (taken-stands front after t)
+  pub taken-undecided : (prefix : List ℕ) (after : Partial) → IsTaken (fresh claim) prefix after → IsUndecidedIn claim prefix
+  taken-undecided prefix after t = undecided prefix t.lines after.bytes after.check.state (t.goes_on.on tt) t.ended (t.unbroken tt) (taken-stands prefix after t)
 
   -- what is left of a text that is told
-  pub cut_off : (told left : Option (List ℕ)) (front : List ℕ) (after : Partial) → Consumes told left front → IsTaken (fresh claim) front after → IfSome told (IsCutOff left claim)
-  cut_off None left front after c t = tt
-  cut_off (Some text) None front after c t = absurd c
-  cut_off (Some text) (Some rest) front after c t = (front, c, taken-undecided front after t)
+  pub cut_off : (told left : Option (List ℕ)) (prefix : List ℕ) (after : Partial) → Consumes told left prefix → IsTaken (fresh claim) prefix after → IfSome told (IsCutOff left claim)
+  cut_off None left prefix after c t = tt
+  cut_off (Some text) None prefix after c t = absurd c
+  cut_off (Some text) (Some rest) prefix after c t = (prefix, c, taken-undecided prefix after t)
 
   -- before any piece
   pub none_cut_off : (told left : Option (List ℕ)) → Consumes told left [] → IfSome told (IsCutOff left claim)
   none_cut_off told left c = cut_off told left [] (fresh claim) c (none-taken (fresh claim))
 
-  take_all : (front rest : List ℕ) (most : ℕ) → length front ≡ most → take most (front ++ rest) ≡ front
-  take_all front rest most e = subst (λ n. take n (front ++ rest) ≡ front) e (take-append_seam front rest)
+  take_all : (prefix rest : List ℕ) (most : ℕ) → length prefix ≡ most → take most (prefix ++ rest) ≡ prefix
+  take_all prefix rest most e = subst (λ n. take n (prefix ++ rest) ≡ prefix) e (take-append_seam prefix rest)
 
-  take_more : (front more : List ℕ) (most : ℕ) → length front ≤ most → take most (front ++ more) ≡ front ++ take (most - length front) more
-  take_more front more most within = subst (λ n. take n (front ++ more) ≡ front ++ take (most - length front) more) (omega (arith, within)) (take-append-add front more (most - length front))
+  take_more : (prefix more : List ℕ) (most : ℕ) → length prefix ≤ most → take most (prefix ++ more) ≡ prefix ++ take (most - length prefix) more
+  take_more prefix more most within = subst (λ n. take n (prefix ++ more) ≡ prefix ++ take (most - length prefix) more) (omega (arith, within)) (take-append-add prefix more (most - length prefix))
 
-  pub long : (told left : Option (List ℕ)) (front : List ℕ) (after : Partial) → Consumes told left front → length front ≡ most_proof_bytes + 1 → IsTaken (fresh claim) front after
+  pub long : (told left : Option (List ℕ)) (prefix : List ℕ) (after : Partial) → Consumes told left prefix → length prefix ≡ most_proof_bytes + 1 → IsTaken (fresh claim) prefix after
       → IfSome told (IsTooLong claim)
-  long None left front after c n t = tt
-  long (Some text) None front after c n t = absurd c
-  long (Some text) (Some rest) front after c n t = (
-    omega (arith, ap length c, length-append front rest, n),
-    subst (IsUndecidedIn claim) (sym (ap (take (most_proof_bytes + 1)) c ∙ take_all front rest (most_proof_bytes + 1) n)) (taken-undecided front after t),
+  long None left prefix after c n t = tt
+  long (Some text) None prefix after c n t = absurd c
+  long (Some text) (Some rest) prefix after c n t = (
+    omega (arith, ap length c, length-append prefix rest, n),
+    subst (IsUndecidedIn claim) (sym (ap (take (most_proof_bytes + 1)) c ∙ take_all prefix rest (most_proof_bytes + 1) n)) (taken-undecided prefix after t),
   )
 
   -- ---- a line that stops all others
-  decided : (front : List ℕ) (stop : Stop) → IsStoppedIn (fresh claim) front stop → IsDecidedIn claim front stop
-  decided front stop s = record {
+  decided : (prefix : List ℕ) (stop : Stop) → IsStoppedIn (fresh claim) prefix stop → IsDecidedIn claim prefix stop
+  decided prefix stop s = record {
     lines = s.lines;
     rest = s.rest;
     ended = s.ended;
     stands = feeds-stand claim.facts claim.outs claim.left [] s.lines (on 0 (begun claim.left)) (stopped stop) none s.stops;
   }
 
-  decided-more : (front more : List ℕ) (stop : Stop) → IsDecidedIn claim front stop → IsDecidedIn claim (front ++ more) stop
-  decided-more front more stop d = record { lines = d.lines; rest = d.rest ++ more; ended = ended-before front d.lines d.rest more d.ended; stands = d.stands }
+  decided-more : (prefix more : List ℕ) (stop : Stop) → IsDecidedIn claim prefix stop → IsDecidedIn claim (prefix ++ more) stop
+  decided-more prefix more stop d = record { lines = d.lines; rest = d.rest ++ more; ended = ended-before prefix d.lines d.rest more d.ended; stands = d.stands }
 
   within-length : (n : ℕ) → nat_lt most_proof_bytes n ≡ false → n ≤ most_proof_bytes
   within-length n e = grind (arith, nat_tests)
@@ -94,49 +94,49 @@ module _ (claim : Claim) where
   beyond-length : (n : ℕ) → nat_lt most_proof_bytes n ≡ true → most_proof_bytes < n
   beyond-length n e = grind (arith, nat_tests)
 
-  decided-answered : (front more : List ℕ) (stop : Stop) → length front ≤ most_proof_bytes + 1 → IsDecidedIn claim front stop → IsAnswered claim (front ++ more) (answer_of stop)
-  decided-answered front more stop within d = elim (cases_Bool (nat_lt most_proof_bytes (length (front ++ more)))) [
-    | inr short ↦ whole (within-length (length (front ++ more)) short) (decided-shows claim (front ++ more) (front ++ more) stop (answer_of stop) (decided-more front more stop d) (stopped-finishes claim.right stop))
+  decided-answered : (prefix more : List ℕ) (stop : Stop) → length prefix ≤ most_proof_bytes + 1 → IsDecidedIn claim prefix stop → IsAnswered claim (prefix ++ more) (answer_of stop)
+  decided-answered prefix more stop within d = elim (cases_Bool (nat_lt most_proof_bytes (length (prefix ++ more)))) [
+    | inr short ↦ whole (within-length (length (prefix ++ more)) short) (decided-shows claim (prefix ++ more) (prefix ++ more) stop (answer_of stop) (decided-more prefix more stop d) (stopped-finishes claim.right stop))
     | inl over ↦
-        early (beyond-length (length (front ++ more)) over) stop
-        (subst (λ b. IsDecidedIn claim b stop) (sym (take_more front more (most_proof_bytes + 1) within)) (decided-more front (take (most_proof_bytes + 1 - length front) more) stop d))
+        early (beyond-length (length (prefix ++ more)) over) stop
+        (subst (λ b. IsDecidedIn claim b stop) (sym (take_more prefix more (most_proof_bytes + 1) within)) (decided-more prefix (take (most_proof_bytes + 1 - length prefix) more) stop d))
         (stopped-finishes claim.right stop)
   ]
 
   pub stopped-read : (told new : Option (List ℕ)) (stop : Stop) → IsFedInPart told new (fresh claim) stop → IsProofRead claim told (answer_of stop)
   stopped-read told new stop f = record {
-    bytes = front;
-    answers = subst (λ b. IsAnswered claim b (answer_of stop)) (append-nil front) (decided-answered front [] stop f.within (decided front stop f.stopped));
+    bytes = prefix;
+    answers = subst (λ b. IsAnswered claim b (answer_of stop)) (append-nil prefix) (decided-answered prefix [] stop f.within (decided prefix stop f.stopped));
     told = by told new f.consumed;
   }
     where
-      front : List ℕ
-      front = f.front ++ f.last
+      prefix : List ℕ
+      prefix = f.prefix ++ f.last
 
-      by : (told new : Option (List ℕ)) → Consumes told new front → IfSome told (HasAnswer (answer_of stop) claim)
+      by : (told new : Option (List ℕ)) → Consumes told new prefix → IfSome told (HasAnswer (answer_of stop) claim)
       by None new c = tt
       by (Some text) None c = absurd c
-      by (Some text) (Some rest) c = subst (HasAnswer (answer_of stop) claim) (sym c) (decided-answered front rest stop f.within (decided front stop f.stopped))
+      by (Some text) (Some rest) c = subst (HasAnswer (answer_of stop) claim) (sym c) (decided-answered prefix rest stop f.within (decided prefix stop f.stopped))
 
   -- ---- the whole text
-  ended-shows : (front : List ℕ) (after : Partial) (answer : Result Verdict ProofFault) → IsTaken (fresh claim) front after → IsFinished after claim.right answer
-      → Shows claim.facts claim.outs claim.left claim.right front answer
-  ended-shows front after answer t f = by f.last
+  ended-shows : (prefix : List ℕ) (after : Partial) (answer : Result Verdict ProofFault) → IsTaken (fresh claim) prefix after → IsFinished after claim.right answer
+      → Shows claim.facts claim.outs claim.left claim.right prefix answer
+  ended-shows prefix after answer t f = by f.last
     where
       s : Stood t.lines after.check.state
-      s = taken-stands front after t
+      s = taken-stands prefix after t
 
-      by : IsLastFed after f.state → Shows claim.facts claim.outs claim.left claim.right front answer
+      by : IsLastFed after f.state → Shows claim.facts claim.outs claim.left claim.right prefix answer
       by (inl (empty, same)) = record {
         lines = t.lines ++ [];
-        are_lines = ended-lines front t.lines after.bytes [] t.ended (subst (λ b. text.AreLines b []) (sym empty) text.none);
+        are_lines = ended-lines prefix t.lines after.bytes [] t.ended (subst (λ b. text.AreLines b []) (sym empty) text.none);
         state = f.state;
         stands = subst (λ ls. Stood ls f.state) (sym (append-nil t.lines)) (subst (Stood t.lines) (sym same) s);
         finishes = f.finishes;
       }
       by (inr (some, feeds)) = record {
         lines = t.lines ++ after.bytes ∷ [];
-        are_lines = ended-lines front t.lines after.bytes (after.bytes ∷ []) t.ended (text.last (t.unbroken tt) some);
+        are_lines = ended-lines prefix t.lines after.bytes (after.bytes ∷ []) t.ended (text.last (t.unbroken tt) some);
         state = f.state;
         stands = feeds-stand claim.facts claim.outs claim.left t.lines (after.bytes ∷ []) after.check.state f.state s
             (subst (λ o. Feeds claim.facts o after.check.state (after.bytes ∷ []) f.state) t.goes_on.outs
@@ -147,14 +147,14 @@ module _ (claim : Claim) where
   pub whole-read : (told new : Option (List ℕ)) (after : Partial) (answer : Result Verdict ProofFault) → IsFedWhole told new (fresh claim) after → IsFinished after claim.right answer
       → IsProofRead claim told answer
   whole-read told new after answer w f =
-      let front = w.so_far.front in
-      let a : IsAnswered claim front answer = whole (omega (arith, w.so_far.counted, w.within)) (ended-shows front after answer w.so_far.taken f) in
-      record { bytes = front; answers = a; told = by told w.last w.so_far.consumed w.end a }
+      let prefix = w.so_far.prefix in
+      let a : IsAnswered claim prefix answer = whole (omega (arith, w.so_far.counted, w.within)) (ended-shows prefix after answer w.so_far.taken f) in
+      record { bytes = prefix; answers = a; told = by told w.last w.so_far.consumed w.end a }
     where
-      by : (told new : Option (List ℕ)) → Consumes told new w.so_far.front → IsAtEnd new → IsAnswered claim w.so_far.front answer → IfSome told (HasAnswer answer claim)
+      by : (told new : Option (List ℕ)) → Consumes told new w.so_far.prefix → IsAtEnd new → IsAnswered claim w.so_far.prefix answer → IfSome told (HasAnswer answer claim)
       by None new c e a = tt
       by (Some text) None c e a = absurd c
-      by (Some text) (Some rest) c e a = subst (HasAnswer answer claim) (sym (c ∙ ap (λ z. w.so_far.front ++ z) e ∙ append-nil w.so_far.front)) a
+      by (Some text) (Some rest) c e a = subst (HasAnswer answer claim) (sym (c ∙ ap (λ z. w.so_far.prefix ++ z) e ∙ append-nil w.so_far.prefix)) a
 
 -- ---- what is found of a proof
 module _ (claim : Claim) (told : Told) (left : Option (List ℕ)) (before : Partial) (is : before ≡ fresh claim) where
@@ -170,10 +170,10 @@ module _ (claim : Claim) (told : Told) (left : Option (List ℕ)) (before : Part
       subst (IsProofVerdict claim told left) (sym (e ∙ ap verdict_of a)) (answered (stopped-read claim told.text new stop (subst (λ b. IsFedInPart told.text new b stop) is f)))
 
   pub failed-found : (after : Partial) (count : ℕ) → HasFailed told → IsFedSoFar told.text left before after count → IsProofVerdict claim told left ProofUnread
-  failed-found after count rose f = unread rose (cut_off claim told.text left f.front after f.consumed (subst (λ b. IsTaken b f.front after) is f.taken))
+  failed-found after count rose f = unread rose (cut_off claim told.text left f.prefix after f.consumed (subst (λ b. IsTaken b f.prefix after) is f.taken))
 
   pub long-found : (after : Partial) → IsFedSoFar told.text left before after (most_proof_bytes + 1) → IsProofVerdict claim told left ProofTooLong
-  long-found after f = too_long (long claim told.text left f.front after f.consumed f.counted (subst (λ b. IsTaken b f.front after) is f.taken))
+  long-found after f = too_long (long claim told.text left f.prefix after f.consumed f.counted (subst (λ b. IsTaken b f.prefix after) is f.taken))
 
 -- of a text that was selected whole
 module _ (claim : Claim) (text selected : Option (List ℕ)) (kept : Keeps text selected) (first before now : ℕ) (later : first ≤ before) (left : Option (List ℕ)) where
@@ -208,29 +208,29 @@ nothing_left (Some rest) (Ok n) buffer room zero = λ none. of (zero.0 none)
     of (inr end) = end
 
 pub so_far-none : (left : Option (List ℕ)) (before : Partial) → IsFedSoFar left left before before 0
-so_far-none left before = record { front = []; consumed = Consumes-nil left; counted = refl; taken = none-taken before }
+so_far-none left before = record { prefix = []; consumed = Consumes-nil left; counted = refl; taken = none-taken before }
 
 module _ (left now : Option (List ℕ)) (before middle : Partial) (count : ℕ) (f : IsFedSoFar left now before middle count) where
   pub so_far-more : (new : Option (List ℕ)) (after : Partial) (piece : List ℕ) (n : ℕ) → Consumes now new piece → length piece ≡ n → IsTaken middle piece after
       → IsFedSoFar left new before after (count + n)
   so_far-more new after piece n c long t = record {
-    front = f.front ++ piece;
-    consumed = Consumes-trans left now new f.front piece f.consumed c;
-    counted = omega (arith, length-append f.front piece, f.counted, long);
-    taken = taken-append before middle f.front piece f.taken after t;
+    prefix = f.prefix ++ piece;
+    consumed = Consumes-trans left now new f.prefix piece f.consumed c;
+    counted = omega (arith, length-append f.prefix piece, f.counted, long);
+    taken = taken-append before middle f.prefix piece f.taken after t;
   }
 
   pub so_far-stops : (new : Option (List ℕ)) (piece : List ℕ) (stop : Stop) → Consumes now new piece → length piece ≤ most_piece_bytes → count + length piece ≤ most_proof_bytes + 1
       → IsStoppedIn middle piece stop → IsFedInPart left new before stop
   so_far-stops new piece stop c few within s = record {
-    front = f.front;
+    prefix = f.prefix;
     last = piece;
-    consumed = Consumes-trans left now new f.front piece f.consumed c;
+    consumed = Consumes-trans left now new f.prefix piece f.consumed c;
     piece = few;
-    within = omega (arith, length-append f.front piece, f.counted, within);
+    within = omega (arith, length-append f.prefix piece, f.counted, within);
     undecided = (middle, f.taken);
-    stopped = stopped-append before middle f.front piece f.taken stop s;
+    stopped = stopped-append before middle f.prefix piece f.taken stop s;
   }
 
   pub so_far-kept : (new : Option (List ℕ)) → Keeps now new → IsFedSoFar left new before middle count
-  so_far-kept new k = record { front = f.front; consumed = Consumes-kept left now new f.front f.consumed k; counted = f.counted; taken = f.taken }
+  so_far-kept new k = record { prefix = f.prefix; consumed = Consumes-kept left now new f.prefix f.consumed k; counted = f.counted; taken = f.taken }

@@ -2,7 +2,7 @@
 use Rattle.std.proofs.Common.{◌≡◌, ◌≢◌, ℕ, List, [], ◌∷◌, ◌++◌, length, Option, refl, sym, ap, ◌∙◌, subst, inl, inr, arith, append_assoc}
 use Rattle.std.proofs.lemmas.List.{append-nil, length-append}
 use Rattle.std.proofs.lemmas.Option.{same_Some}
-use Rattle.grammar.specs.Reading.{IsLongestFront}
+use Rattle.grammar.specs.Reading.{IsLongestPrefix}
 use Rattle.grammar.proofs.languages.Cut.{Cut, cut, longer, same, shorter}
 use Rattle.sql_lex.specs.declared.token.LexFault.{LexFault}
 use Rattle.sql_lex.specs.Lexemes.{Lexeme}
@@ -28,13 +28,13 @@ use Rattle.case_core.specs.Answer.{BreaksRule, HasTwoWidths, IsOutOfScope, IsRef
 use Rattle.case_core.specs.CaseGrammar as g
 use Rattle.case_core.specs.Cases.{cases, texts}
 use Rattle.case_core.specs.Refusals.{EndsBehind, GoesOnBehind, HasNotTwoQueries, IsNoCase, IsNotTwo, IsUnfinished, KeepsLimits, Says}
-use Rattle.case_core.proofs.CaseFronts.{ends_there, fronts, nothing_follows, one_case}
+use Rattle.case_core.proofs.CasePrefixes.{ends_there, prefixes, nothing_follows, one_case}
 use Rattle.case_core.proofs.LimitsOnce.{Order, before, behind, once, one, order}
 use Rattle.case_core.proofs.OneCount.{one_limit}
 use Rattle.udp_run.proofs.Unrefused.{has_tokens, in_scope, no_case_memory, no_rule_broken, same_case, scope_fault_over, width_over}
 
--- the longest front reaches behind each front
-reaches : (ts taken x y : List Lexeme) → IsLongestFront cases ts taken → ts ≡ x ++ y → cases.front x → (k : List Lexeme) × (taken ≡ x ++ k)
+-- the longest prefix reaches behind each prefix
+reaches : (ts taken x y : List Lexeme) → IsLongestPrefix cases ts taken → ts ≡ x ++ y → cases.prefix x → (k : List Lexeme) × (taken ≡ x ++ k)
 reaches ts taken x y l e f = by (cut x y taken l.leading.0 (sym e ∙ l.leading.1))
   where
     by : Cut x y taken l.leading.0 → (k : List Lexeme) × (taken ≡ x ++ k)
@@ -78,13 +78,13 @@ module _ (ts : List Lexeme) (fault : Option LexFault) (end : ℕ) where
           let query : Built Query = b.value.1 in
           let short = query-goes_on b.value first query b.whole l in
           let long = statements-go_on a.value first first query query a.whole l l in
-          let begun = fronts.spelled (ts ++ (first ++ first)) (g.case_of (a.value, (query, query))) long in
+          let begun = prefixes.spelled (ts ++ (first ++ first)) (g.case_of (a.value, (query, query))) long in
           has_tokens first query l
-          (ends_there (ts ++ first) first (g.case_of (b.value.0, (query, query))) short (subst cases.front (sym (append_assoc ts first first)) begun))
+          (ends_there (ts ++ first) first (g.case_of (b.value.0, (query, query))) short (subst cases.prefix (sym (append_assoc ts first first)) begun))
 
   -- what a whole case stands before does not go on
-  three-alone : (at : ℕ) → GoesOnBehind ts at → (y : List Lexeme) → cases.front (ts ++ y) → ⊥
-  three-alone at c y f = nothing_follows c.before c.value c.third c.after c.whole (subst cases.front c.parts (fronts.shorter ts y f))
+  three-alone : (at : ℕ) → GoesOnBehind ts at → (y : List Lexeme) → cases.prefix (ts ++ y) → ⊥
+  three-alone at c y f = nothing_follows c.before c.value c.third c.after c.whole (subst cases.prefix c.parts (prefixes.shorter ts y f))
 
   none-three : (at other : ℕ) → EndsBehind (gl statements) ts fault end at → GoesOnBehind ts other → ⊥
   none-three at other a c = of c.whole
@@ -92,22 +92,22 @@ module _ (ts : List Lexeme) (fault : Option LexFault) (end : ℕ) where
       of : cases.spells c.before c.value → ⊥
       of (u, (head, both, e, s, (first, second, i, l, r)), is) =
           three-alone other c (first ++ second)
-          (fronts.spelled (ts ++ (first ++ second)) (g.case_of (a.value, (u.1.0, u.1.1))) (statements-go_on a.value first second u.1.0 u.1.1 a.whole l r))
+          (prefixes.spelled (ts ++ (first ++ second)) (g.case_of (a.value, (u.1.0, u.1.1))) (statements-go_on a.value first second u.1.0 u.1.1 a.whole l r))
 
   one-three : (at other : ℕ) → EndsBehind (gl g.one_query) ts fault end at → GoesOnBehind ts other → ⊥
   one-three at other b c = of c.whole
     where
       of : cases.spells c.before c.value → ⊥
       of (u, (head, both, e, s, (first, second, i, l, r)), is) =
-          three-alone other c second (fronts.spelled (ts ++ second) (g.case_of (b.value.0, (b.value.1, u.1.1))) (query-goes_on b.value second u.1.1 b.whole r))
+          three-alone other c second (prefixes.spelled (ts ++ second) (g.case_of (b.value.0, (b.value.1, u.1.1))) (query-goes_on b.value second u.1.1 b.whole r))
 
   three-one : (at other : ℕ) → GoesOnBehind ts at → GoesOnBehind ts other → at ≡ other
   three-one at other a b = by (order ts a.before b.before a.after b.after a.third b.third a.parts b.parts)
     where
       by : Order a.before b.before a.third b.third → at ≡ other
-      by (before k e) = absurd (nothing_follows a.before a.value a.third k a.whole (subst cases.front e (fronts.spelled b.before b.value b.whole)))
+      by (before k e) = absurd (nothing_follows a.before a.value a.third k a.whole (subst cases.prefix e (prefixes.spelled b.before b.value b.whole)))
       by (one e f) = a.place ∙ (ap (λ t. t.start) f ∙ sym b.place)
-      by (behind k e) = absurd (nothing_follows b.before b.value b.third k b.whole (subst cases.front e (fronts.spelled a.before a.value a.whole)))
+      by (behind k e) = absurd (nothing_follows b.before b.value b.third k b.whole (subst cases.prefix e (prefixes.spelled a.before a.value a.whole)))
 
   not_two-one : (count other at place : ℕ) → HasNotTwoQueries ts fault end count at → HasNotTwoQueries ts fault end other place → NotTwoQueries count at ≡ NotTwoQueries other place
   not_two-one count other at place (inl (m, a)) (inl (n, b)) = λ i. NotTwoQueries ((m ∙ sym n) i) ((a.place ∙ sym b.place) i)

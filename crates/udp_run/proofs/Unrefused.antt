@@ -36,8 +36,8 @@ use Rattle.case_core.specs.Answer.{BreaksRule, HasSchema, HasTwoWidths, IsOutOfS
 use Rattle.case_core.specs.CaseGrammar as g
 use Rattle.case_core.specs.Cases.{IsRead, cases, texts}
 use Rattle.case_core.specs.Refusals.{HasNotTwoQueries, IsNoCase, Says}
-use Rattle.case_core.proofs.CaseCopies.{closed, spelled_front}
-use Rattle.case_core.proofs.CaseFronts.{ends_there, fronts, nothing_follows, one_case}
+use Rattle.case_core.proofs.CaseCopies.{closed, spelled_prefix}
+use Rattle.case_core.proofs.CasePrefixes.{ends_there, prefixes, nothing_follows, one_case}
 use Rattle.udp_run.specs.Cases.{AreComparable}
 
 -- ---- a query with its semicolon has tokens
@@ -70,7 +70,7 @@ module _ (text : List ℕ) (written : CaseText) (numbers : Numbers) (read : IsRe
 
   -- no limit is passed
   kept_within : (which : TextLimit) → (keeping texts 0 which).spells tokens read.spells.read → KeepsWithin cases (keeping texts 0 which) tokens
-  kept_within which s = kept cases (keeping texts 0 which) (closed 0 which) tokens (spelled_front 0 which tokens read.spells.read s)
+  kept_within which s = kept cases (keeping texts 0 which) (closed 0 which) tokens (spelled_prefix 0 which tokens read.spells.read s)
 
   kept_limit : (which : TextLimit) → KeepsWithin cases (keeping texts 0 which) tokens
   kept_limit depth_limit = read.shallow
@@ -90,7 +90,7 @@ module _ (text : List ℕ) (written : CaseText) (numbers : Numbers) (read : IsRe
       let read_too = g.case_of (none.value, (p.left, p.right)) in
       let spelled : cases.spells (tokens ++ both) read_too =
       ((none.value, (p.left, p.right)), (tokens, both, refl, none.whole, (p.first, p.second, refl, p.left_there, p.right_there)), refl) in
-      at_first p.first p.second p.left_there (ends_there tokens both read.spells.read read.spells.spelled (fronts.spelled (tokens ++ both) read_too spelled))
+      at_first p.first p.second p.left_there (ends_there tokens both read.spells.read read.spells.spelled (prefixes.spelled (tokens ++ both) read_too spelled))
     where
       at_first : (first second : List Lexeme) {query : Built Query} → (gl g.ended_query).spells first query → first ++ second ≡ [] → ⊥
       at_first [] second s e = has_tokens [] _ s refl
@@ -106,10 +106,10 @@ module _ (text : List ℕ) (written : CaseText) (numbers : Numbers) (read : IsRe
             (before, first ++ p.second, ap (λ z. z ++ p.second) e ∙ append_assoc before first p.second, s, (first, p.second, refl, l, p.right_there)),
             refl,
           ) in
-          has_tokens p.second p.right p.right_there (ends_there tokens p.second read.spells.read read.spells.spelled (fronts.spelled (tokens ++ p.second) read_too spelled))
+          has_tokens p.second p.right p.right_there (ends_there tokens p.second read.spells.read read.spells.spelled (prefixes.spelled (tokens ++ p.second) read_too spelled))
   two_there count at (inr (inr (e, third))) =
       nothing_follows third.before third.value third.third third.after third.whole
-      (subst cases.front third.parts (fronts.spelled tokens read.spells.read read.spells.spelled))
+      (subst cases.prefix third.parts (prefixes.spelled tokens read.spells.read read.spells.spelled))
 
   says_memory : (fault : CaseFault) → Says 0 tokens None (length text) fault → fault ≡ NoMemory
   says_memory (Read (read_refusal.Lex lexical)) u = absurd (u.unspelled refl read.spells.read read.spells.spelled)

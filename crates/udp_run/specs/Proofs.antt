@@ -76,4 +76,4 @@ IsTooLong claim text = (most_proof_bytes < length text) × IsUndecidedIn claim (
 
 -- the text, of which so much is left, was read as far as no line decides
 abbrev pub IsUndecidedBefore : Claim → List ℕ → List ℕ → Type 0
-IsUndecidedBefore claim text left = (front : List ℕ) × (text ≡ front ++ left) × IsUndecidedIn claim front
+IsUndecidedBefore claim text left = (prefix : List ℕ) × (text ≡ prefix ++ left) × IsUndecidedIn claim prefix

@@ -37,10 +37,10 @@ IsCaseCause told _ = ⊥
 -- ---- a proof is fed to a checker piece by piece
 -- so many bytes were taken from what was left, and all lines that end in them are fed
 pub record IsFedSoFar (old new : Option (List ℕ)) (before after : Partial) (count : ℕ) : Type 0 where
-  pub front : List ℕ
-  pub consumed : Consumes old new front
-  pub counted : length front ≡ count
-  pub taken : IsTaken before front after
+  pub prefix : List ℕ
+  pub consumed : Consumes old new prefix
+  pub counted : length prefix ≡ count
+  pub taken : IsTaken before prefix after
 
 -- all bytes were taken, there were not too many, and a call more gave none
 pub record IsFedWhole (old new : Option (List ℕ)) (before after : Partial) : Type 0 where
@@ -53,13 +53,13 @@ pub record IsFedWhole (old new : Option (List ℕ)) (before after : Partial) : T
 
 -- or a line stopped them, which ends in the last piece that was taken, and none before it
 pub record IsFedInPart (old new : Option (List ℕ)) (before : Partial) (stop : Stop) : Type 0 where
-  pub front : List ℕ
+  pub prefix : List ℕ
   pub last : List ℕ
-  pub consumed : Consumes old new (front ++ last)
+  pub consumed : Consumes old new (prefix ++ last)
   pub piece : length last ≤ most_piece_bytes
-  pub within : length (front ++ last) ≤ most_proof_bytes + 1
-  pub undecided : (middle : Partial) × IsTaken before front middle
-  pub stopped : IsStoppedIn before (front ++ last) stop
+  pub within : length (prefix ++ last) ≤ most_proof_bytes + 1
+  pub undecided : (middle : Partial) × IsTaken before prefix middle
+  pub stopped : IsStoppedIn before (prefix ++ last) stop
 
 abbrev pub IsFed : Option (List ℕ) → Option (List ℕ) → Partial → Partial → Result (Unit {0}) Unfed → Type 0
 IsFed old new before after (Ok _) = IsFedWhole old new before after

@@ -1,9 +1,9 @@
--- What fills a form, and that each of its fronts goes on, by computing: tokens are taken from samples, and of names both are given.
+-- What fills a form, and that each of its prefixes goes on, by computing: tokens are taken from samples, and of names both are given.
 use Rattle.std.proofs.Common.{◌≡◌, Bool, true, false, ◌&&◌, List, [], ◌∷◌, Option, Some, None, length, refl, sym, subst}
 use Rattle.grammar.specs.Form.{Form, Room, empty, token, seq, alt, star, nest, map, only, nonempty, counted, fork, ref, form_language}
 use Rattle.grammar.specs.Language.{Language}
 use Rattle.grammar.proofs.completed.Fillings.{Filled, fill_empty, fill_token, fill_seq, fill_one, fill_other, fill_none, fill_nest, fill_map, fill_counted}
-use Rattle.grammar.proofs.completed.FrontCompletions.{Completable, completable_alt, completable_counted, completable_empty, completable_map, completable_nest, completable_seq, completable_star, completable_token}
+use Rattle.grammar.proofs.completed.PrefixCompletions.{Completable, completable_alt, completable_counted, completable_empty, completable_map, completable_nest, completable_seq, completable_star, completable_token}
 use Rattle.grammar.proofs.languages.Sets.{and_left, and_right}
 
 module _ {T K N : Type 0} {V : N → Type 0} (kind : T → K) (E : Room → (n : N) → Language T (V n)) (chosen : T → Bool) where
@@ -75,9 +75,9 @@ module _ {T K N : Type 0} {V : N → Type 0} (kind : T → K) (E : Room → (n :
     fill (fork f g h) = None
     fill (ref n) = of_name n
 
-    -- ---- fronts
+    -- ---- prefixes
 
-    -- of these names each front goes on
+    -- of these names each prefix goes on
     module _ (goes_name : N → Bool) where
       abbrev pub goes : {A : Type 0} → Form T K N V A → Bool
       goes empty = true

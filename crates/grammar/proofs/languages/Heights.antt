@@ -1,9 +1,9 @@
 -- The language of a name is that of its production, at the names' languages, with every room.
 use Rattle.std.proofs.Common.{ℕ, zero, suc, List, [], ◌∷◌, ◌++◌, inl, inr, refl, Some, None, arith}
-use Rattle.grammar.specs.Language.{Language, Includes, HasFronts, Concatenates}
+use Rattle.grammar.specs.Language.{Language, Includes, HasPrefixes, Concatenates}
 use Rattle.grammar.specs.Form.{Form, Rules, Room, IsRoomier, empty, token, seq, alt, star, nest, map, only, nonempty, counted, fork, ref, form_language, language_within, language}
-use Rattle.grammar.proofs.languages.Fronts.{no_fronts}
-use Rattle.grammar.proofs.languages.Forms.{includes_itself, includes_through, includes_nothing, concatenates_more, form_fronts, form_grows}
+use Rattle.grammar.proofs.languages.Prefixes.{no_prefixes}
+use Rattle.grammar.proofs.languages.Forms.{includes_itself, includes_through, includes_nothing, concatenates_more, form_prefixes, form_grows}
 
 -- ---- heights
 
@@ -40,33 +40,33 @@ module _ {T K N : Type 0} {V : N → Type 0} (kind : T → K) (rules : Rules T K
   abbrev All : Room → (n : N) → Language T (V n)
   All = language kind rules
 
-  pub fronts_within : (h : ℕ) (room : Room) (n : N) → HasFronts (At h room n)
-  fronts_within zero room n = no_fronts
-  fronts_within (suc h) room n = form_fronts kind (At h) (fronts_within h) (rules n) room
+  pub prefixes_within : (h : ℕ) (room : Room) (n : N) → HasPrefixes (At h room n)
+  prefixes_within zero room n = no_prefixes
+  prefixes_within (suc h) room n = form_prefixes kind (At h) (prefixes_within h) (rules n) room
 
   -- with no limits, more is spelled at the same height
   roomier : (h : ℕ) (small large : Room) → IsRoomier small large → (n : N) → Includes (At h large n) (At h small n)
   roomier zero small large w n = includes_itself _
-  roomier (suc h) small large w n = form_grows kind (At h) (At h) (fronts_within h) (roomier h) (rules n) small large w
+  roomier (suc h) small large w n = form_grows kind (At h) (At h) (prefixes_within h) (roomier h) (rules n) small large w
 
   one_more : (h : ℕ) (small large : Room) → IsRoomier small large → (n : N) → Includes (At (suc h) large n) (At h small n)
-  one_more zero small large w n = includes_nothing _ (fronts_within (suc zero) large n).empty
-  one_more (suc h) small large w n = form_grows kind (At h) (At (suc h)) (fronts_within (suc h)) (one_more h) (rules n) small large w
+  one_more zero small large w n = includes_nothing _ (prefixes_within (suc zero) large n).empty
+  one_more (suc h) small large w n = form_grows kind (At h) (At (suc h)) (prefixes_within (suc h)) (one_more h) (rules n) small large w
 
   higher : {h j : ℕ} → Le h j → (small large : Room) → IsRoomier small large → (n : N) → Includes (At j large n) (At h small n)
   higher at small large w n = roomier _ small large w n
   higher (up {j = j} p) small large w n = includes_through _ _ _ (higher p small large w n) (one_more j large large (same_room large) n)
 
   lift : {A : Type 0} (f : Form T K N V A) (room : Room) {h j : ℕ} → Le h j → Includes (form_language kind (At j) room f) (form_language kind (At h) room f)
-  lift f room {h} {j} p = form_grows kind (At h) (At j) (fronts_within j) (higher p) f room room (same_room room)
+  lift f room {h} {j} p = form_grows kind (At h) (At j) (prefixes_within j) (higher p) f room room (same_room room)
 
-  -- ---- a spelling or a front uses finitely many levels
+  -- ---- a spelling or a prefix uses finitely many levels
 
   abbrev Spelled : {A : Type 0} → Form T K N V A → Room → List T → A → Type 0
   Spelled f room ts v = (h : ℕ) × (form_language kind (At h) room f).spells ts v
 
   abbrev Begun : {A : Type 0} → Form T K N V A → Room → List T → Type 0
-  Begun f room ts = (h : ℕ) × (form_language kind (At h) room f).front ts
+  Begun f room ts = (h : ℕ) × (form_language kind (At h) room f).prefix ts
 
   all_spelled : {A : Type 0} (f : Form T K N V A) (room : Room) (L : Language T A) → ((ts : List T) (v : A) → L.spells ts v → Spelled f room ts v)
       → (ts : List T) (vs : List A) → Concatenates L.spells ts vs → (h : ℕ) × Concatenates (form_language kind (At h) room f).spells ts vs
@@ -103,30 +103,30 @@ module _ {T K N : Type 0} {V : N → Type 0} (kind : T → K) (rules : Rules T K
       (a.top, (x, y, inr c, e, (lift f room a.left).spells x (inr c) p.1, (k, (lift h room a.right).spells y k q.1, i)))
   spelled (ref n) room ts v s = s
 
-  begun : {A : Type 0} (f : Form T K N V A) (room : Room) (ts : List T) → (form_language kind All room f).front ts → Begun f room ts
+  begun : {A : Type 0} (f : Form T K N V A) (room : Room) (ts : List T) → (form_language kind All room f).prefix ts → Begun f room ts
   unfolding language
   begun empty room ts s = (zero, s)
   begun (token p) room ts s = (zero, s)
   begun (seq f g) room ts (inl s) = let p = begun f room ts s in (p.0, inl p.1)
   begun (seq f g) room ts (inr (x, y, v, e, s, r)) =
       let p = spelled f room x v s in let q = begun g room y r in let a = above p.0 q.0 in
-      (a.top, inr (x, y, v, e, (lift f room a.left).spells x v p.1, (lift g room a.right).front y q.1))
+      (a.top, inr (x, y, v, e, (lift f room a.left).spells x v p.1, (lift g room a.right).prefix y q.1))
   begun (alt f g) room ts (inl s) = let p = begun f room ts s in (p.0, inl p.1)
   begun (alt f g) room ts (inr s) = let p = begun g room ts s in (p.0, inr p.1)
   begun (star most f) None ts (inl e) = (zero, inl e)
   begun (star most f) None ts (inr (x, y, vs, e, s, r)) =
       let p = all_spelled f None (form_language kind All None f) (spelled f None) x vs s in let q = begun f None y r in let a = above p.0 q.0 in
-      (a.top, inr (x, y, vs, e, concatenates_more _ _ (lift f None a.left).spells x vs p.1, (lift f None a.right).front y q.1))
+      (a.top, inr (x, y, vs, e, concatenates_more _ _ (lift f None a.left).spells x vs p.1, (lift f None a.right).prefix y q.1))
   begun (star None f) (Some levels) ts (inl e) = (zero, inl e)
   begun (star None f) (Some levels) ts (inr (x, y, vs, e, s, r)) =
       let p = all_spelled f (Some levels) (form_language kind All (Some levels) f) (spelled f (Some levels)) x vs s in
       let q = begun f (Some levels) y r in let a = above p.0 q.0 in
-      (a.top, inr (x, y, vs, e, concatenates_more _ _ (lift f (Some levels) a.left).spells x vs p.1, (lift f (Some levels) a.right).front y q.1))
+      (a.top, inr (x, y, vs, e, concatenates_more _ _ (lift f (Some levels) a.left).spells x vs p.1, (lift f (Some levels) a.right).prefix y q.1))
   begun (star (Some most) f) (Some levels) ts (inl e) = (zero, inl e)
   begun (star (Some most) f) (Some levels) ts (inr (x, y, vs, e, s, r, n)) =
       let p = all_spelled f (Some levels) (form_language kind All (Some levels) f) (spelled f (Some levels)) x vs s in
       let q = begun f (Some levels) y r in let a = above p.0 q.0 in
-      (a.top, inr (x, y, vs, e, concatenates_more _ _ (lift f (Some levels) a.left).spells x vs p.1, (lift f (Some levels) a.right).front y q.1, n))
+      (a.top, inr (x, y, vs, e, concatenates_more _ _ (lift f (Some levels) a.left).spells x vs p.1, (lift f (Some levels) a.right).prefix y q.1, n))
   begun (nest f) None ts s = begun f None ts s
   begun (nest f) (Some zero) ts s = (zero, s)
   begun (nest f) (Some (suc levels)) ts s = begun f (Some levels) ts s
@@ -137,38 +137,38 @@ module _ {T K N : Type 0} {V : N → Type 0} (kind : T → K) (rules : Rules T K
   begun (fork f g h) room ts (inl s) = let p = begun f room ts s in (p.0, inl p.1)
   begun (fork f g h) room ts (inr (x, y, inl c, e, s, r)) =
       let p = spelled f room x (inl c) s in let q = begun g room y r in let a = above p.0 q.0 in
-      (a.top, inr (x, y, inl c, e, (lift f room a.left).spells x (inl c) p.1, (lift g room a.right).front y q.1))
+      (a.top, inr (x, y, inl c, e, (lift f room a.left).spells x (inl c) p.1, (lift g room a.right).prefix y q.1))
   begun (fork f g h) room ts (inr (x, y, inr c, e, s, r)) =
       let p = spelled f room x (inr c) s in let q = begun h room y r in let a = above p.0 q.0 in
-      (a.top, inr (x, y, inr c, e, (lift f room a.left).spells x (inr c) p.1, (lift h room a.right).front y q.1))
+      (a.top, inr (x, y, inr c, e, (lift f room a.left).spells x (inr c) p.1, (lift h room a.right).prefix y q.1))
   begun (ref n) room ts s = s
 
   -- ---- what holds at each height holds of the whole
 
   pub in_name : (h : ℕ) (room : Room) (n : N) → Includes (All room n) (At h room n)
   unfolding language
-  in_name h room n = record { spells = λ ts v s. (h, s); front = λ ts s. (h, s) }
+  in_name h room n = record { spells = λ ts v s. (h, s); prefix = λ ts s. (h, s) }
 
   pub spelled_at : (room : Room) (n : N) (ts : List T) (v : V n) → (All room n).spells ts v → (h : ℕ) × (At h room n).spells ts v
   unfolding language
   spelled_at room n ts v s = s
 
-  pub front_at : (room : Room) (n : N) (ts : List T) → (All room n).front ts → (h : ℕ) × (At h room n).front ts
+  pub prefix_at : (room : Room) (n : N) (ts : List T) → (All room n).prefix ts → (h : ℕ) × (At h room n).prefix ts
   unfolding language
-  front_at room n ts s = s
+  prefix_at room n ts s = s
 
-  pub name_fronts : (room : Room) (n : N) → HasFronts (All room n)
-  name_fronts room n = record {
-    empty = (in_name zero room n).front [] refl;
-    shorter = λ x y f. let p = front_at room n (x ++ y) f in (in_name p.0 room n).front x ((fronts_within p.0 room n).shorter x y p.1);
-    spelled = λ ts v s. let p = spelled_at room n ts v s in (in_name p.0 room n).front ts ((fronts_within p.0 room n).spelled ts v p.1);
+  pub name_prefixes : (room : Room) (n : N) → HasPrefixes (All room n)
+  name_prefixes room n = record {
+    empty = (in_name zero room n).prefix [] refl;
+    shorter = λ x y f. let p = prefix_at room n (x ++ y) f in (in_name p.0 room n).prefix x ((prefixes_within p.0 room n).shorter x y p.1);
+    spelled = λ ts v s. let p = spelled_at room n ts v s in (in_name p.0 room n).prefix ts ((prefixes_within p.0 room n).spelled ts v p.1);
   }
 
   -- more room, more is spelled
   pub name_grows : (small large : Room) → IsRoomier small large → (n : N) → Includes (All large n) (All small n)
   name_grows small large w n = record {
     spells = λ ts v s. let p = spelled_at small n ts v s in (in_name p.0 large n).spells ts v ((roomier p.0 small large w n).spells ts v p.1);
-    front = λ ts f. let p = front_at small n ts f in (in_name p.0 large n).front ts ((roomier p.0 small large w n).front ts p.1);
+    prefix = λ ts f. let p = prefix_at small n ts f in (in_name p.0 large n).prefix ts ((roomier p.0 small large w n).prefix ts p.1);
   }
 
   -- two facts at one height
@@ -177,11 +177,11 @@ module _ {T K N : Type 0} {V : N → Type 0} (kind : T → K) (rules : Rules T K
     pub left : P (At height room n)
     pub right : Q (At height room n)
 
-  pub spelled_and_front : (room : Room) (n : N) (x : List T) (v : V n) (y : List T) → (All room n).spells x v → (All room n).front y
-      → Together room n (λ L. L.spells x v) (λ L. L.front y)
-  spelled_and_front room n x v y s f =
-      let p = spelled_at room n x v s in let q = front_at room n y f in let a = above p.0 q.0 in
-      record { height = a.top; left = (higher a.left room room (same_room room) n).spells x v p.1; right = (higher a.right room room (same_room room) n).front y q.1 }
+  pub spelled_and_prefix : (room : Room) (n : N) (x : List T) (v : V n) (y : List T) → (All room n).spells x v → (All room n).prefix y
+      → Together room n (λ L. L.spells x v) (λ L. L.prefix y)
+  spelled_and_prefix room n x v y s f =
+      let p = spelled_at room n x v s in let q = prefix_at room n y f in let a = above p.0 q.0 in
+      record { height = a.top; left = (higher a.left room room (same_room room) n).spells x v p.1; right = (higher a.right room room (same_room room) n).prefix y q.1 }
 
   pub spelled_both : (room : Room) (n : N) (x y : List T) (v w : V n) → (All room n).spells x v → (All room n).spells y w
       → Together room n (λ L. L.spells x v) (λ L. L.spells y w)
@@ -195,13 +195,13 @@ module _ {T K N : Type 0} {V : N → Type 0} (kind : T → K) (rules : Rules T K
 
   -- ---- a name's language and its production's
 
-  pub of_form : {A : Type 0} (f : Form T K N V A) (room : Room) → HasFronts (form_language kind All room f)
-  of_form f room = form_fronts kind All name_fronts f room
+  pub of_form : {A : Type 0} (f : Form T K N V A) (room : Room) → HasPrefixes (form_language kind All room f)
+  of_form f room = form_prefixes kind All name_prefixes f room
 
   -- what a form means at a height is part of what it means
   pub lifted : {A : Type 0} (h : ℕ) (f : Form T K N V A) (room : Room) → Includes (form_language kind All room f) (form_language kind (At h) room f)
   lifted h f room =
-      form_grows kind (At h) All name_fronts (λ small large w m. includes_through _ _ _ (in_name h small m) (name_grows small large w m)) f room room (same_room room)
+      form_grows kind (At h) All name_prefixes (λ small large w m. includes_through _ _ _ (in_name h small m) (name_grows small large w m)) f room room (same_room room)
 
   opened : (h : ℕ) (room : Room) (n : N) → Includes (form_language kind All room (rules n)) (At h room n)
   opened zero room n = includes_nothing _ (of_form (rules n) room).empty
@@ -210,12 +210,12 @@ module _ {T K N : Type 0} {V : N → Type 0} (kind : T → K) (rules : Rules T K
   pub to_rule : (room : Room) (n : N) → Includes (form_language kind All room (rules n)) (All room n)
   to_rule room n = record {
     spells = λ ts v s. let p = spelled_at room n ts v s in (opened p.0 room n).spells ts v p.1;
-    front = λ ts s. let p = front_at room n ts s in (opened p.0 room n).front ts p.1;
+    prefix = λ ts s. let p = prefix_at room n ts s in (opened p.0 room n).prefix ts p.1;
   }
 
   pub from_rule : (room : Room) (n : N) → Includes (All room n) (form_language kind All room (rules n))
   unfolding language
   from_rule room n = record {
     spells = λ ts v s. let p = spelled (rules n) room ts v s in (suc p.0, p.1);
-    front = λ ts s. let p = begun (rules n) room ts s in (suc p.0, p.1);
+    prefix = λ ts s. let p = begun (rules n) room ts s in (suc p.0, p.1);
   }

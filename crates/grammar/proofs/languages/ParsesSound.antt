@@ -130,7 +130,7 @@ module _ {T K N : Type 0} {V : N → Type 0} (kind : T → K) (rules : Rules T K
   pub computed : (height : ℕ) (room : Room) (n : N) (ts : List T) (v : V n) (vs : List (V n)) → whole_values (name_parses kind rules height room n ts) ≡ v ∷ vs → (language kind rules room n).spells ts v
   computed height room n ts v vs e = whole_sound (language kind rules room n) ts v vs (name_parses kind rules height room n ts) (name_sound height room n ts) e
 
--- ---- fronts
+-- ---- prefixes
 
 nil_begins : {T : Type 0} (ts : List T) → is_nil ts ≡ true → ts ≡ []
 nil_begins [] e = refl
@@ -155,50 +155,50 @@ goes L ts goes_on (p ∷ ps) s e = elim (one_of_both (goes_on p.0 p.1) (any_pars
 ]
 
 module _ {T K N : Type 0} {V : N → Type 0} (kind : T → K) (E : Room → (n : N) → Language T (V n)) (P : Room → (n : N) → List T → Parses T (V n)) (F : Room → (n : N) → List T → Bool)
-    (sound : (room : Room) (n : N) (ts : List T) → AreSound (E room n) ts (P room n ts)) (front : (room : Room) (n : N) (ts : List T) → F room n ts ≡ true → (E room n).front ts) where
+    (sound : (room : Room) (n : N) (ts : List T) → AreSound (E room n) ts (P room n ts)) (prefix : (room : Room) (n : N) (ts : List T) → F room n ts ≡ true → (E room n).prefix ts) where
   abbrev in_form : {A : Type 0} → Form T K N V A → Room → Language T A
   in_form f room = form_language kind E room f
 
   abbrev starts : {A : Type 0} → Form T K N V A → Room → List T → Bool
   starts f room ts = begins kind P F room f ts
 
-  abbrev AreFronts : {A : Type 0} → Form T K N V A → Room → Type 0
-  AreFronts f room = (ts : List T) → starts f room ts ≡ true → (in_form f room).front ts
+  abbrev ArePrefixes : {A : Type 0} → Form T K N V A → Room → Type 0
+  ArePrefixes f room = (ts : List T) → starts f room ts ≡ true → (in_form f room).prefix ts
 
   parsed : {A : Type 0} (f : Form T K N V A) (room : Room) (ts : List T) → AreSound (in_form f room) ts (parses kind P room f ts)
   parsed f room ts = form_sound kind E P sound f room ts
 
-  token_front : (p : K → Bool) (room : Room) → AreFronts (token p) room
-  token_front p room [] e = inl refl
-  token_front p room (t ∷ []) e = inr (t, refl, and_left (p (kind t)) true e)
-  token_front p room (t ∷ u ∷ ts) e = absurd (never (and_right (p (kind t)) false e))
+  token_prefix : (p : K → Bool) (room : Room) → ArePrefixes (token p) room
+  token_prefix p room [] e = inl refl
+  token_prefix p room (t ∷ []) e = inr (t, refl, and_left (p (kind t)) true e)
+  token_prefix p room (t ∷ u ∷ ts) e = absurd (never (and_right (p (kind t)) false e))
     where
       never : false ≡ true → ⊥
       never i = cc
 
-  seq_front : {A B : Type 0} (f : Form T K N V A) (g : Form T K N V B) (room : Room) → AreFronts f room → AreFronts g room → AreFronts (seq f g) room
-  seq_front f g room m n ts e = elim (one_of_both (starts f room ts) _ e) [
+  seq_prefix : {A B : Type 0} (f : Form T K N V A) (g : Form T K N V B) (room : Room) → ArePrefixes f room → ArePrefixes g room → ArePrefixes (seq f g) room
+  seq_prefix f g room m n ts e = elim (one_of_both (starts f room ts) _ e) [
     | inl i ↦ inl (m ts i)
     | inr i ↦ let r = goes (in_form f room) ts (λ v rest. starts g room rest) (parses kind P room f ts) (parsed f room ts) i in
         inr (r.taken.0, r.rest, r.value, r.taken.1, r.taken.2, n r.rest r.goes)
   ]
 
-  fork_front : {A B C : Type 0} (f : Form T K N V (A ⊎ B)) (g : Form T K N V (A → C)) (h : Form T K N V (B → C)) (room : Room) → AreFronts f room → AreFronts g room → AreFronts h room
-      → AreFronts (fork f g h) room
-  fork_front f g h room m n o ts e = elim (one_of_both (starts f room ts) _ e) [
+  fork_prefix : {A B C : Type 0} (f : Form T K N V (A ⊎ B)) (g : Form T K N V (A → C)) (h : Form T K N V (B → C)) (room : Room) → ArePrefixes f room → ArePrefixes g room → ArePrefixes h room
+      → ArePrefixes (fork f g h) room
+  fork_prefix f g h room m n o ts e = elim (one_of_both (starts f room ts) _ e) [
     | inl i ↦ inl (m ts i)
     | inr i ↦ let r = goes (in_form f room) ts (λ v rest. either_begins (starts g room rest) (starts h room rest) v) (parses kind P room f ts) (parsed f room ts) i in
         inr (r.taken.0, r.rest, r.value, r.taken.1, r.taken.2, either r.value r.rest r.goes)
   ]
     where
-      either : (v : _ ⊎ _) (rest : List T) → either_begins (starts g room rest) (starts h room rest) v ≡ true → (branch (in_form g room) (in_form h room) v).front rest
+      either : (v : _ ⊎ _) (rest : List T) → either_begins (starts g room rest) (starts h room rest) v ≡ true → (branch (in_form g room) (in_form h room) v).prefix rest
       either (inl a) rest i = n rest i
       either (inr b) rest i = o rest i
 
-  -- so many of the form, and the front of one more
-  fewer : {A : Type 0} (f : Form T K N V A) (room : Room) → AreFronts f room → (most : ℕ) (ts : List T)
+  -- so many of the form, and the prefix of one more
+  fewer : {A : Type 0} (f : Form T K N V A) (room : Room) → ArePrefixes f room → (most : ℕ) (ts : List T)
       → any_parse (fewer_parses most (parses kind P room f) ts) (λ vs rest. starts f room rest) ≡ true
-      → (x y : List T) × (vs : List A) × (ts ≡ x ++ y) × Concatenates (in_form f room).spells x vs × (in_form f room).front y × (length vs < most)
+      → (x y : List T) × (vs : List A) × (ts ≡ x ++ y) × Concatenates (in_form f room).spells x vs × (in_form f room).prefix y × (length vs < most)
   fewer f room m zero ts e = cc
   fewer f room m (suc most) ts e =
       let r = goes (upto_language most (in_form f room)) ts (λ vs rest. starts f room rest) (repeated_parses most (parses kind P room f) ts) (repeated_sound (in_form f room) (parses kind P room f) (parsed f room) most ts) e in
@@ -207,16 +207,16 @@ module _ {T K N : Type 0} {V : N → Type 0} (kind : T → K) (E : Room → (n :
       below : (n : ℕ) → n ≤ most → n < suc most
       below n l = omega (arith, l)
 
-  star_front : {A : Type 0} (f : Form T K N V A) (most : Option ℕ) (room : Room) → AreFronts f room → AreFronts (star most f) room
-  star_front f most room m ts e =
-      (into_repeated (in_form f room) room most ts).front ts (elim (one_of_both (is_nil ts) _ e) [ inl i ↦ inl (nil_begins ts i) | inr i ↦ inr (fewer f room m (most_times room most ts) ts i) ])
+  star_prefix : {A : Type 0} (f : Form T K N V A) (most : Option ℕ) (room : Room) → ArePrefixes f room → ArePrefixes (star most f) room
+  star_prefix f most room m ts e =
+      (into_repeated (in_form f room) room most ts).prefix ts (elim (one_of_both (is_nil ts) _ e) [ inl i ↦ inl (nil_begins ts i) | inr i ↦ inr (fewer f room m (most_times room most ts) ts i) ])
 
-  form_begins : {A : Type 0} (f : Form T K N V A) (room : Room) → AreFronts f room
+  form_begins : {A : Type 0} (f : Form T K N V A) (room : Room) → ArePrefixes f room
   form_begins empty room ts e = nil_begins ts e
-  form_begins (token p) room ts e = token_front p room ts e
-  form_begins (seq f g) room ts e = seq_front f g room (form_begins f room) (form_begins g room) ts e
+  form_begins (token p) room ts e = token_prefix p room ts e
+  form_begins (seq f g) room ts e = seq_prefix f g room (form_begins f room) (form_begins g room) ts e
   form_begins (alt f g) room ts e = elim (one_of_both (starts f room ts) (starts g room ts) e) [ inl i ↦ inl (form_begins f room ts i) | inr i ↦ inr (form_begins g room ts i) ]
-  form_begins (star most f) room ts e = star_front f most room (form_begins f room) ts e
+  form_begins (star most f) room ts e = star_prefix f most room (form_begins f room) ts e
   form_begins (nest f) None ts e = form_begins f None ts e
   form_begins (nest f) (Some zero) ts e = nil_begins ts e
   form_begins (nest f) (Some (suc levels)) ts e = form_begins f (Some levels) ts e
@@ -224,15 +224,15 @@ module _ {T K N : Type 0} {V : N → Type 0} (kind : T → K) (E : Room → (n :
   form_begins (only p f) room ts e = form_begins f room ts e
   form_begins (nonempty f) room ts e = form_begins f room ts e
   form_begins (counted f) room ts e = form_begins f room ts e
-  form_begins (fork f g h) room ts e = fork_front f g h room (form_begins f room) (form_begins g room) (form_begins h room) ts e
-  form_begins (ref n) room ts e = front room n ts e
+  form_begins (fork f g h) room ts e = fork_prefix f g h room (form_begins f room) (form_begins g room) (form_begins h room) ts e
+  form_begins (ref n) room ts e = prefix room n ts e
 
 module _ {T K N : Type 0} {V : N → Type 0} (kind : T → K) (rules : Rules T K N V) where
-  begins_within : (height : ℕ) (room : Room) (n : N) (ts : List T) → name_begins kind rules height room n ts ≡ true → (language_within kind rules height room n).front ts
+  begins_within : (height : ℕ) (room : Room) (n : N) (ts : List T) → name_begins kind rules height room n ts ≡ true → (language_within kind rules height room n).prefix ts
   begins_within zero room n ts e = nil_begins ts e
   begins_within (suc height) room n ts e =
       form_begins kind (language_within kind rules height) (name_parses kind rules height) (name_begins kind rules height) (sound_within kind rules height) (begins_within height) (rules n) room ts e
 
-  -- what is computed to be a front is one
-  pub computed_front : (height : ℕ) (room : Room) (n : N) (ts : List T) → name_begins kind rules height room n ts ≡ true → (language kind rules room n).front ts
-  computed_front height room n ts e = (in_name kind rules height room n).front ts (begins_within height room n ts e)
+  -- what is computed to be a prefix is one
+  pub computed_prefix : (height : ℕ) (room : Room) (n : N) (ts : List T) → name_begins kind rules height room n ts ≡ true → (language kind rules room n).prefix ts
+  computed_prefix height room n ts e = (in_name kind rules height room n).prefix ts (begins_within height room n ts e)

@@ -4,9 +4,9 @@ use Rattle.grammar.specs.Language.{Language, branch, star_language, upto_languag
 use Rattle.grammar.specs.Form.{Form, Rules, Room, empty, token, seq, alt, star, nest, map, only, nonempty, counted, fork, ref, form_language, repeated, language_within, language}
 use Rattle.grammar.specs.Lookahead.{Lookahead, AreAll, are_apart, is_inside, is_narrower, is_predictive, is_right, lookahead, either_lookahead, star_lookahead}
 use Rattle.grammar.proofs.languages.Sets.{and_left, and_right, and_both, not_both, implied, apart, inside}
-use Rattle.grammar.proofs.languages.Fronts.{upto_fronts}
+use Rattle.grammar.proofs.languages.Prefixes.{upto_prefixes}
 use Rattle.grammar.proofs.languages.Forms.{includes_itself, repeated_grows}
-use Rattle.grammar.proofs.languages.Heights.{name_fronts, spelled_at, front_at, spelled_and_front, spelled_twice}
+use Rattle.grammar.proofs.languages.Heights.{name_prefixes, spelled_at, prefix_at, spelled_and_prefix, spelled_twice}
 use Rattle.grammar.proofs.languages.Known.{Apart, Known, Parted, narrowed, no_known, empty_known, token_known, map_known, only_known, nonempty_known, counted_known, bind_known, seq_known, alt_known, branch_known, star_known}
 
 -- ---- where the next token decides, it does so in the parts
@@ -59,13 +59,13 @@ module _ {T K : Type 0} (kind : T → K) (kinds : List K) (all : AreAll kinds) w
   repeated_known L a None most l k = k
   repeated_known L a (Some levels) None l k = k
   repeated_known L a (Some levels) (Some most) l k =
-      narrowed kind (upto_language most L) (star_language L) (star_lookahead a) (repeated_grows L L (includes_itself L) (Some most) (Some levels) None tt) (upto_fronts L l.fronts most) k
+      narrowed kind (upto_language most L) (star_language L) (star_lookahead a) (repeated_grows L L (includes_itself L) (Some most) (Some levels) None tt) (upto_prefixes L l.prefixes most) k
 
   pub weaker : {A : Type 0} (L : Language T A) (a b : Lookahead K) → is_narrower kinds a b ≡ true → Known kind L a → Known kind L b
   weaker L a b n l =
       let n1 = and_right (not a.nullable || b.nullable) _ n in
       record {
-        fronts = l.fronts;
+        prefixes = l.prefixes;
         ahead = record {
           nullable = λ v s. implied a.nullable b.nullable (and_left (not a.nullable || b.nullable) _ n) (l.ahead.nullable v s);
           first = λ t x f. inside kinds all a.first b.first (and_left (is_inside kinds a.first b.first) _ n1) (kind t) (l.ahead.first t x f);
@@ -114,11 +114,11 @@ module _ {T K : Type 0} (kind : T → K) (kinds : List K) (all : AreAll kinds) w
       -- each name has the lookahead of the table
       pub name_known : (room : Room) (n : N) → Known kind (language kind rules room n) (table n)
       name_known room n = record {
-        fronts = name_fronts kind rules room n;
+        prefixes = name_prefixes kind rules room n;
         ahead = record {
           nullable = λ v s. let p = spelled_at kind rules room n [] v s in (known_within p.0 room n).ahead.nullable v p.1;
-          first = λ t x f. let p = front_at kind rules room n (t ∷ x) f in (known_within p.0 room n).ahead.first t x p.1;
-          last = λ x v t y s f. let p = spelled_and_front kind rules room n x v (x ++ t ∷ y) s f in (known_within p.height room n).ahead.last x v t y p.left p.right;
+          first = λ t x f. let p = prefix_at kind rules room n (t ∷ x) f in (known_within p.0 room n).ahead.first t x p.1;
+          last = λ x v t y s f. let p = spelled_and_prefix kind rules room n x v (x ++ t ∷ y) s f in (known_within p.height room n).ahead.last x v t y p.left p.right;
         };
         unique = λ x v w s r. let p = spelled_twice kind rules room n x v w s r in (known_within p.height room n).unique x v w p.left p.right;
       }

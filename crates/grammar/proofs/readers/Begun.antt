@@ -1,7 +1,7 @@
--- A front where nothing was taken.
+-- A prefix where nothing was taken.
 use Rattle.std.proofs.Common.{List, [], refl}
-use Rattle.grammar.specs.Language.{Language, HasFronts}
+use Rattle.grammar.specs.Language.{Language, HasPrefixes}
 use Rattle.grammar.specs.Reading.{Began}
 
-pub nothing_began : {T A : Type 0} (B : Language T A) → HasFronts B → (ts : List T) → Began B ts ts
+pub nothing_began : {T A : Type 0} (B : Language T A) → HasPrefixes B → (ts : List T) → Began B ts ts
 nothing_began B b ts = record { taken = []; whole = refl; begun = b.empty }

@@ -1,4 +1,4 @@
--- The steps of a reader: how the completed fronts of parts are completed fronts of the whole.
+-- The steps of a reader: how the completed prefixes of parts are completed prefixes of the whole.
 use Rattle.std.proofs.Common.{◌≡◌, ℕ, ◌+◌, Bool, true, List, [], ◌∷◌, ◌++◌, ◌⊎◌, inl, inr, refl, sym, ◌∙◌, ap, subst, append_assoc, Option, None, arith, length}
 use Rattle.std.proofs.lemmas.List.{append-nil}
 use Rattle.std.proofs.lemmas.List.Folds.{list_all-append}
@@ -41,9 +41,9 @@ stands_behind chosen M N x here mid L start h k i m l = record {
 
 -- what overspends here does so from the start
 pub overspends_from : {T A C : Type 0} (chosen : T → Bool) (M : Language T C) (here : List T) (N : Language T A) (start : List T) (h : C → A) → Continues chosen M here N start h
-    → (price_here : C → ℕ) (price : A → ℕ) (most spent_here spent : ℕ) → ((v : C) → spent + price (h v) ≡ spent_here + price_here v)
-    → (rest : List T) → Overspends chosen M price_here most spent_here here rest → Overspends chosen N price most spent start rest
-overspends_from chosen M here N start h l price_here price most spent_here spent i rest o = record {
+    → (cost_here : C → ℕ) (cost : A → ℕ) (most spent_here spent : ℕ) → ((v : C) → spent + cost (h v) ≡ spent_here + cost_here v)
+    → (rest : List T) → Overspends chosen M cost_here most spent_here here rest → Overspends chosen N cost most spent start rest
+overspends_from chosen M here N start h l cost_here cost most spent_here spent i rest o = record {
   before = h o.before;
   up_to = l.reaches o.before rest o.up_to;
   within = omega (arith, o.within, i o.before);

@@ -39,7 +39,7 @@ listed_names_agrees levels c = first_then (name c) (name_agrees levels c) _ whol
     parts_repeat mid query.name (λ comma x. x) (same k.Comma) (λ others. (v, others)) (Listed levels c) comma (λ room now word mid. PassesWithin (same k.Comma) room now word mid) (λ room now word mid i. skipped_word refl i)
     (λ room now go. by_eaten_alone (Listed levels c) k.Comma now room go) refl (begins_skip (same k.Comma) query.name) refl name (name_agrees levels) (λ names comma x. names ++ x ∷ []) (λ done. plain (t.names (v, done)))
     (λ done comma x. record { numbers = λ n. ap (λ z. (t.named v ∷ z, n)) (named_more done x); copies = refl }) (λ done. refl) (λ fault end stopped. stopped)
-    (λ done names now made first none takes on. steps.built steps.whole (v, done) takes on made) 255 (t.named v ∷ []) (plainly refl l.alike) l.remains)
+    (λ done names now made first none takes on. steps.built steps.whole (v, done) takes on made) 255 (t.named v ∷ []) (plainly refl l.alike) l.residual)
 
 pub names_behind_agrees : (levels : ℕ) (c : Cursor) → Spells (then_skip (query.listed query.name) (a k.Close)) levels t.names c (names_behind c)
 unfolding names_behind

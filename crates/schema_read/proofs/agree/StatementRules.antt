@@ -21,7 +21,7 @@ use Rattle.sql_grammar.specs.QueryTrees.{is_given}
 use Rattle.grammar.proofs.readers.Predictions.{ok}
 use Rattle.sql_grammar.proofs.copies.QueryCompletions.{filled, is_filled}
 use Rattle.sql_grammar.proofs.copies.QueryFillings.{fill_seq, fill_token, word as spelled}
-use Rattle.sql_grammar.proofs.queries.QueryTable.{planned}
+use Rattle.sql_grammar.proofs.queries.QueryTable.{left_factored}
 use Rattle.sql_read.proofs.agree.AgreeAll.{query_agrees}
 use Rattle.sql_read.proofs.steps.Agreeing as steps
 use Rattle.sql_read.proofs.steps.Agreeing.{Agrees, by_next, ends_in, makes, needs, then_rest}
@@ -153,7 +153,7 @@ module _ (levels : ℕ) (some : 0 < levels) where
   unique_word_agrees c = either (same k.Unique) _ whole refl refl refl (λ t i. inr (t, refl, i)) (λ word mid i l. token_read (mapped l) i refl) (λ l. no_more (mapped l) refl)
 
   -- a name behind a word
-  word_and_name : (kind : Kind) → is_filled (seq (a kind) a_name) ≡ true → ok planned (seq (a kind) a_name) ≡ true → (c : Cursor) → Spells (skip_then (a kind) a_name) levels t.named c (expected (same kind) c >>= λ word. name)
+  word_and_name : (kind : Kind) → is_filled (seq (a kind) a_name) ≡ true → ok left_factored (seq (a kind) a_name) ≡ true → (c : Cursor) → Spells (skip_then (a kind) a_name) levels t.named c (expected (same kind) c >>= λ word. name)
   word_and_name kind w o c = token_then (mapped whole) o w (λ word mid l. all_read (name mid) (name_agrees levels mid) l (λ v. refl))
 
   parts_agree : (c : Cursor) → Spells index_parts levels (λ v. statement.Index (t.named v.1.0) (is_given v.0) (t.named v.1.1.0) v.1.1.1) c (index c)

@@ -36,7 +36,7 @@ use Rattle.schema_read.proofs.counts.CountSteps.{free}
 use Rattle.schema_read.proofs.counts.CopiedParts.{copied_in, copied_to, counted_before, missed_other, part_copied, taken_spelled, told_if}
 use Rattle.schema_read.proofs.agree.PlainSteps.{alike_built, one_token, plainly, value_built}
 use Rattle.schema_read.proofs.spelled.StatementColumns.{in_column}
-use Rattle.schema_read.proofs.spelled.StatementFronts.{columns_below, listed_below}
+use Rattle.schema_read.proofs.spelled.StatementPrefixes.{columns_below, listed_below}
 use Rattle.schema_read.proofs.agree.StatementNames.{name_agrees}
 use Rattle.schema_read.proofs.agree.StatementRules.{column_agrees, rule_element_agrees}
 use Rattle.schema_read.proofs.agree.StatementSteps.{Agrees, makes, mapped, nested, part_agrees, second, taken_counted, then_rest, whole}

@@ -5,7 +5,7 @@ use Rattle.grammar.specs.Form.{alt, star}
 use Rattle.grammar.specs.Language.{Language, upto_language}
 use Rattle.grammar.proofs.readers.Begun.{nothing_began}
 use Rattle.grammar.proofs.readers.Predictions.{ahead}
-use Rattle.grammar.proofs.readers.Remaining as r
+use Rattle.grammar.proofs.readers.Residuals as r
 use Rattle.grammar.proofs.readers.Repetitions.{repeated_within}
 use Rattle.grammar.proofs.readers.Steps.{IsWithin}
 use Rattle.sql_lex.specs.Lexemes.{Lexeme}
@@ -22,7 +22,7 @@ use Rattle.sql_grammar.specs.Kinds.{same}
 use Rattle.sql_grammar.specs.Numbering.{Built, each}
 use Rattle.sql_grammar.specs.Queries.{most_levels}
 use Rattle.sql_grammar.specs.QueryGrammar.{The, a}
-use Rattle.sql_grammar.proofs.queries.QueryTable.{planned}
+use Rattle.sql_grammar.proofs.queries.QueryTable.{left_factored}
 use Rattle.sql_read.proofs.agree.AgreeAll.{by_given}
 use Rattle.sql_read.proofs.steps.Agreeing.{by_next, by_read}
 use Rattle.sql_read.proofs.steps.Extending.{◌⨟◌, extends_itself}
@@ -34,7 +34,7 @@ use Rattle.sql_read.proofs.steps.ReadPassing.{built_from, built_until}
 use Rattle.sql_read.proofs.steps.ReadSteps as steps
 use Rattle.sql_read.proofs.steps.ReadSteps.{LeftOf, absent_unless, plain_here, refuses}
 use Rattle.sql_read.specs.Copied.{CopiesSoFar}
-use Rattle.schema_read.specs.Counting.{Counts, few_planned, narrowly}
+use Rattle.schema_read.specs.Counting.{Counts, few_left_factored, narrowly}
 use Rattle.schema_read.specs.StatementGrammar as g
 use Rattle.schema_read.specs.StatementGrammar.{ended}
 use Rattle.schema_read.specs.StatementLimits.{most_further_columns, most_relations}
@@ -43,7 +43,7 @@ use Rattle.schema_read.specs.StatementReaders.{ended_statement, further_statemen
 use Rattle.schema_read.proofs.counts.CopiedParts.{copied_to, counted_before}
 use Rattle.schema_read.proofs.counts.CountSteps.{Rest, RestOf, below_within, free, held, rest_mapped, statement_refused, took_free, whole_rest}
 use Rattle.schema_read.proofs.agree.PlainSteps.{alike_built, one_token}
-use Rattle.schema_read.proofs.spelled.StatementFronts.{ended_below, statement_below, table_below}
+use Rattle.schema_read.proofs.spelled.StatementPrefixes.{ended_below, statement_below, table_below}
 use Rattle.schema_read.proofs.agree.StatementRules.{index_agrees, view_agrees}
 use Rattle.schema_read.proofs.agree.StatementSteps.{Agrees, ends_by, makes, mapped, one_next, other_next, part_agrees, second, taken_counted, then_rest, whole}
 use Rattle.schema_read.proofs.agree.StatementTables.{table_agrees}
@@ -94,7 +94,7 @@ ended_agrees c =
 -- what a reading of statements comes to
 pub record AllAgree (start : Cursor) (r : Reading (List Statement)) : Type 0 where
   pub agrees : Agrees relations_too g.statements (free (g.statements_with narrowly)) most_levels (λ read. read) start start r
-  pub relations : Counts limit.Relations g.statements few_planned start r.0 r.1
+  pub relations : Counts limit.Relations g.statements few_left_factored start r.0 r.1
 
 ended_within : IsWithin (free ended) (free narrow_ended)
 ended_within = below_within (ended_below most_further_columns)
@@ -117,9 +117,9 @@ all_of join more = each (join more)
 -- these statements were read, and so many more may follow
 record Stating (start : Cursor) (room : ℕ) (list : List Statement) (now : Cursor) : Type 0 where
   join : List (Built Statement) → List (Built Statement)
-  remains : LeftOf relations_too (star None ended) most_levels now.tokens g.statements (few_form g.statements) most_levels start.tokens (all_of join)
+  residual : LeftOf relations_too (star None ended) most_levels now.tokens g.statements (few_form g.statements) most_levels start.tokens (all_of join)
   columns : Rest (star None ended) (star None narrow_ended) now.tokens g.statements (free (g.statements_with narrowly)) start.tokens (all_of join)
-  relations : RestOf (star None ended) (few_ended room) now.tokens g.statements few_planned start.tokens (all_of join)
+  relations : RestOf (star None ended) (few_ended room) now.tokens g.statements few_left_factored start.tokens (all_of join)
   going : Going (star None ended) now.tokens g.statements start.tokens (all_of join)
   done_so_far : List (Built Statement)
   same_done : (more : List (Built Statement)) → join more ≡ done_so_far ++ more
@@ -129,9 +129,9 @@ record Stating (start : Cursor) (room : ℕ) (list : List Statement) (now : Curs
 stating : (start : Cursor) → Stating start most_relations [] start
 stating start = record {
   join = λ more. more;
-  remains = steps.mapped steps.whole;
+  residual = steps.mapped steps.whole;
   columns = rest_mapped whole_rest;
-  relations = record { remains = r.left_map planned _ _ start.tokens (λ read. each read) (star None ended) (few_ended most_relations) start.tokens (λ read. read) (r.remains_whole (free g.statements) few_planned start.tokens) };
+  relations = record { residual = r.left_map left_factored _ _ start.tokens (λ read. each read) (star None ended) (few_ended most_relations) start.tokens (λ read. read) (r.residual_whole (free g.statements) few_left_factored start.tokens) };
   going = on_mapped at_start;
   done_so_far = [];
   same_done = λ more. refl;
@@ -142,15 +142,15 @@ stating start = record {
 module _ (start : Cursor) (room : ℕ) (list : List Statement) (now : Cursor) (l : Stating start room list now) where
   at_end : is_next (same k.Create) now.tokens ≡ false → AllAgree start (Ok list, now)
   at_end n =
-      let none = absent_unless (same k.Create) (ahead planned ended) refl now.tokens n in
+      let none = absent_unless (same k.Create) (ahead left_factored ended) refl now.tokens n in
       record {
         agrees = record {
-          reads = record { answers = record { read = _; takes = repeated_end {most = None} l.remains refl none; builds = built_by (ap (λ z. each z) (l.same_done [] ∙ append-nil l.done_so_far)) l.builds } };
-          columns = record { answers = record { read = _; took = r.left_last planned _ _ start.tokens None ended (free narrow_ended) ended_within refl (free (star None narrow_ended)) refl now.tokens (all_of l.join) l.columns.remains none } };
+          reads = record { answers = record { read = _; takes = repeated_end {most = None} l.residual refl none; builds = built_by (ap (λ z. each z) (l.same_done [] ∙ append-nil l.done_so_far)) l.builds } };
+          columns = record { answers = record { read = _; took = r.left_last left_factored _ _ start.tokens None ended (free narrow_ended) ended_within refl (free (star None narrow_ended)) refl now.tokens (all_of l.join) l.columns.residual none } };
           copied = record { answers = tt };
           extends = l.extends;
         };
-        relations = record { answers = record { read = _; took = r.left_last planned _ _ start.tokens None ended (free ended) any_ended refl (few_ended room) (refl, omega arith) now.tokens (all_of l.join) l.relations.remains none } };
+        relations = record { answers = record { read = _; took = r.left_last left_factored _ _ start.tokens None ended (free ended) any_ended refl (few_ended room) (refl, omega arith) now.tokens (all_of l.join) l.relations.residual none } };
       }
 
   copied_here : CopiesSoFar g.statements (λ read. read) start start now
@@ -172,20 +172,20 @@ one_too_many start list now l n =
               token = next.first;
               more = next.others;
               next = next.stood;
-              goes_on = l.remains.remains.began next.others
+              goes_on = l.residual.residual.began next.others
                   (record { taken = next.first ∷ []; whole = next.stood; begun = inr ([], next.first ∷ [], [], refl, refl, inl (inl (inr (next.first, refl, next.of_kind)))) });
-              few = begins_here l.remains;
+              few = begins_here l.residual;
             };
           };
         };
-        columns = record { answers = record { begun = λ p. l.columns.remains.began now.tokens (nothing_began (free (star None narrow_ended)) (repeated_within (free ended) (free narrow_ended) ended_within None None).fronts now.tokens); passed = λ e. cc } };
+        columns = record { answers = record { begun = λ p. l.columns.residual.began now.tokens (nothing_began (free (star None narrow_ended)) (repeated_within (free ended) (free narrow_ended) ended_within None None).prefixes now.tokens); passed = λ e. cc } };
         copied = record { answers = record { says = copied_here start zero list now l } };
         extends = l.extends;
       };
       relations = record {
         answers = record {
-          begun = λ p. l.relations.remains.began now.tokens (nothing_began (few_ended zero) (few_within zero).fronts now.tokens);
-          passed = λ e. r.left_full planned _ _ start.tokens zero ended (free ended) now.tokens (all_of l.join) l.relations.remains next.first next.others next.stood (create_begins next.first next.of_kind);
+          begun = λ p. l.relations.residual.began now.tokens (nothing_began (few_ended zero) (few_within zero).prefixes now.tokens);
+          passed = λ e. r.left_full left_factored _ _ start.tokens zero ended (free ended) now.tokens (all_of l.join) l.relations.residual next.first next.others next.stood (create_begins next.first next.of_kind);
         };
       };
     }
@@ -194,9 +194,9 @@ module _ (start : Cursor) (room : ℕ) (list : List Statement) (now : Cursor) (l
   one_more : (y : Statement) (after : Cursor) → Ended now (Ok y, after) → Stating start room (list ++ y ∷ []) after
   one_more y after u = let read = u.reads.answers in record {
     join = λ more. l.join (read.read ∷ more);
-    remains = repeated_next {most = None} l.remains refl (taken_more with_relations read.takes);
-    columns = record { remains = r.left_next planned _ _ start.tokens None None ended (free narrow_ended) ended_within now.tokens (all_of l.join) refl l.columns.remains read.read after.tokens (taken_counted refl ended_within u) };
-    relations = record { remains = r.left_next planned _ _ start.tokens (Some zero) (Some room) ended (free ended) any_ended now.tokens (all_of l.join) refl l.relations.remains read.read after.tokens (took_free read.takes) };
+    residual = repeated_next {most = None} l.residual refl (taken_more with_relations read.takes);
+    columns = record { residual = r.left_next left_factored _ _ start.tokens None None ended (free narrow_ended) ended_within now.tokens (all_of l.join) refl l.columns.residual read.read after.tokens (taken_counted refl ended_within u) };
+    relations = record { residual = r.left_next left_factored _ _ start.tokens (Some zero) (Some room) ended (free ended) any_ended now.tokens (all_of l.join) refl l.relations.residual read.read after.tokens (took_free read.takes) };
     going = on_next_taken l.going most_levels read.takes.took;
     done_so_far = l.done_so_far ++ read.read ∷ [];
     same_done = λ more. l.same_done (read.read ∷ more) ∙ sym (append_assoc l.done_so_far (read.read ∷ []) more);
@@ -209,26 +209,26 @@ module _ (start : Cursor) (room : ℕ) (list : List Statement) (now : Cursor) (l
       let next = first_there (same k.Create) now.tokens n in
       record {
         agrees = record {
-          reads = record { answers = refuses {a = now} (repeated_begins None l.remains refl next.first next.others next.stood (create_begins next.first next.of_kind)) (refused_more with_relations u.reads.answers) };
+          reads = record { answers = refuses {a = now} (repeated_begins None l.residual refl next.first next.others next.stood (create_begins next.first next.of_kind)) (refused_more with_relations u.reads.answers) };
           columns = record {
             answers = held (record {
-              exceeded = r.left_next_exceeded planned _ _ start.tokens None None ended (free narrow_ended) ended_within now.tokens (all_of l.join) refl l.columns.remains;
-              began = r.left_next_began planned _ _ start.tokens None None ended (free narrow_ended) ended_within now.tokens (all_of l.join) refl l.columns.remains;
+              exceeded = r.left_next_exceeded left_factored _ _ start.tokens None None ended (free narrow_ended) ended_within now.tokens (all_of l.join) refl l.columns.residual;
+              began = r.left_next_began left_factored _ _ start.tokens None None ended (free narrow_ended) ended_within now.tokens (all_of l.join) refl l.columns.residual;
             }) u.columns.answers;
           };
-          copied = record { answers = copied_to fault (on_last l.going) price u.copied.answers };
+          copied = record { answers = copied_to fault (on_last l.going) cost u.copied.answers };
           extends = l.extends ⨟ u.extends;
         };
         relations = record {
           answers = held (record {
-            exceeded = r.left_next_exceeded planned _ _ start.tokens (Some zero) (Some room) ended (free ended) any_ended now.tokens (all_of l.join) refl l.relations.remains;
-            began = r.left_next_began planned _ _ start.tokens (Some zero) (Some room) ended (free ended) any_ended now.tokens (all_of l.join) refl l.relations.remains;
+            exceeded = r.left_next_exceeded left_factored _ _ start.tokens (Some zero) (Some room) ended (free ended) any_ended now.tokens (all_of l.join) refl l.relations.residual;
+            began = r.left_next_began left_factored _ _ start.tokens (Some zero) (Some room) ended (free ended) any_ended now.tokens (all_of l.join) refl l.relations.residual;
           }) (statement_refused u.reads.answers);
         };
       }
     where
-      price : (v : Built Statement) → start.copies + (each (l.join (v ∷ []))).copies ≡ now.copies + v.copies
-      price v =
+      cost : (v : Built Statement) → start.copies + (each (l.join (v ∷ []))).copies ≡ now.copies + v.copies
+      cost v =
           let e : (each (l.join (v ∷ []))).copies ≡ (each (l.done_so_far ++ v ∷ [])).copies = ap (λ z. (each z).copies) (l.same_done (v ∷ [])) in
           omega (arith, e, each_more_copies l.done_so_far v, l.builds.copies)
 

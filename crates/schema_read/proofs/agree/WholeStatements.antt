@@ -5,8 +5,8 @@ use Rattle.data_model.specs.Lists.{Each}
 use Rattle.grammar.specs.Form.{Room, IsRoomier, form_language, language}
 use Rattle.grammar.specs.Language.{Includes, Language, map_language, upto_language}
 use Rattle.grammar.specs.Reading.{Took}
-use Rattle.grammar.proofs.languages.Forms.{form_grows, includes_through, map_in, repeated_grows, form_fronts}
-use Rattle.grammar.proofs.languages.Heights.{name_fronts, name_grows}
+use Rattle.grammar.proofs.languages.Forms.{form_grows, includes_through, map_in, repeated_grows, form_prefixes}
+use Rattle.grammar.proofs.languages.Heights.{name_prefixes, name_grows}
 use Rattle.grammar.proofs.languages.Limits.{IsPrefixClosed}
 use Rattle.grammar.proofs.readers.Steps.{IsWithin, Same, took_in, map_within}
 use Rattle.sql_lex.specs.Lexemes.{Lexeme}
@@ -22,11 +22,11 @@ use Rattle.sql_grammar.specs.Queries.{most_levels}
 use Rattle.sql_grammar.specs.QueryCopies.{most_copies}
 use Rattle.sql_grammar.specs.QueryEntries.{few_rules, most_further}
 use Rattle.sql_grammar.specs.QueryGrammar.{Production, The}
-use Rattle.sql_grammar.specs.QueryPlan.{few_plan, in_plan}
+use Rattle.sql_grammar.specs.FactoredQueries.{few_factored, in_factored}
 use Rattle.sql_read.specs.Reads.{GivesWithin, few_form, relations_too}
-use Rattle.sql_grammar.proofs.entries.FewPlan.{few_plan_includes, few_rules_include}
+use Rattle.sql_grammar.proofs.entries.FewFactored.{few_factored_includes, few_rules_include}
 use Rattle.schema_read.specs.Declarations.{IsSmall}
-use Rattle.schema_read.specs.Counting.{TakesCounted, few_planned, narrowly}
+use Rattle.schema_read.specs.Counting.{TakesCounted, few_left_factored, narrowly}
 use Rattle.schema_read.specs.ReadingStatements.{IsRead, IsRefused, texts}
 use Rattle.schema_read.specs.StatementGrammar as g
 use Rattle.schema_read.specs.StatementLimits.{column_count, most_further_columns, most_relations, rule_count, within, few_columns}
@@ -38,57 +38,57 @@ use Rattle.schema_read.proofs.agree.StatementsAgree.{AllAgree, few_within}
 use Rattle.schema_read.proofs.spelled.Unlimited.{itself}
 use Rattle.schema_read.proofs.spelled.StatementColumns.{narrow}
 use Rattle.schema_read.proofs.counts.StatementCounts.{few, few_rules_spelled}
-use Rattle.schema_read.proofs.spelled.StatementFronts.{narrow_below, few_statement_fronts}
-use Rattle.sql_grammar.proofs.queries.QueryForms.{form_has_fronts, known_includes, planned_includes, roomier}
+use Rattle.schema_read.proofs.spelled.StatementPrefixes.{narrow_below, few_statement_prefixes}
+use Rattle.sql_grammar.proofs.queries.QueryForms.{form_has_prefixes, known_includes, left_factored_includes, roomier}
 use Rattle.sql_read.proofs.whole.WholeTexts as whole
 
 -- ---- few entries
 
-few_names : (small large : Room) → IsRoomier small large → (p : Production) → Includes (language kind_of (few_rules most_further) large p) (language kind_of (few_plan most_further) small p)
+few_names : (small large : Room) → IsRoomier small large → (p : Production) → Includes (language kind_of (few_rules most_further) large p) (language kind_of (few_factored most_further) small p)
 few_names small large w p =
-    includes_through _ _ _ (name_grows kind_of (few_plan most_further) small large w p) (few_rules_include most_further (omega arith) large p)
+    includes_through _ _ _ (name_grows kind_of (few_factored most_further) small large w p) (few_rules_include most_further (omega arith) large p)
 
-few_names_back : (small large : Room) → IsRoomier small large → (p : Production) → Includes (language kind_of (few_plan most_further) large p) (language kind_of (few_rules most_further) small p)
+few_names_back : (small large : Room) → IsRoomier small large → (p : Production) → Includes (language kind_of (few_factored most_further) large p) (language kind_of (few_rules most_further) small p)
 few_names_back small large w p =
-    includes_through _ _ _ (name_grows kind_of (few_rules most_further) small large w p) (few_plan_includes most_further (omega arith) large p)
+    includes_through _ _ _ (name_grows kind_of (few_rules most_further) small large w p) (few_factored_includes most_further (omega arith) large p)
 
 -- a form, where the names of queries have the languages with few entries
 abbrev pub few_grammar : {A : Type 0} → The A → Language Lexeme A
 few_grammar f = form_language kind_of (language kind_of (few_rules most_further)) None f
 
--- over the plan it is the same
+-- over the left-factored grammar it is the same
 pub few_there : {A : Type 0} (f : The A) → Includes (few_grammar f) (few_form f)
 unfolding few_form
-few_there f = form_grows kind_of (language kind_of (few_plan most_further)) (language kind_of (few_rules most_further)) (name_fronts kind_of (few_rules most_further)) few_names f None None tt
+few_there f = form_grows kind_of (language kind_of (few_factored most_further)) (language kind_of (few_rules most_further)) (name_prefixes kind_of (few_rules most_further)) few_names f None None tt
 
 pub few_back : {A : Type 0} (f : The A) → Includes (few_form f) (few_grammar f)
 unfolding few_form
-few_back f = form_grows kind_of (language kind_of (few_rules most_further)) (language kind_of (few_plan most_further)) (name_fronts kind_of (few_plan most_further)) few_names_back f None None tt
+few_back f = form_grows kind_of (language kind_of (few_rules most_further)) (language kind_of (few_factored most_further)) (name_prefixes kind_of (few_factored most_further)) few_names_back f None None tt
 
 -- ---- all counts
 
--- the statements within the limit of a count, over the plan
-abbrev pub planned_within : LimitKind → OfStatements
-planned_within limit.Columns = in_plan None (g.statements_with narrowly)
-planned_within limit.Entries = few_form g.statements
-planned_within limit.Relations = few_planned
-planned_within limit.Copies = in_plan None g.statements
+-- the statements within the limit of a count, over the left-factored grammar
+abbrev pub left_factored_within : LimitKind → OfStatements
+left_factored_within limit.Columns = in_factored None (g.statements_with narrowly)
+left_factored_within limit.Entries = few_form g.statements
+left_factored_within limit.Relations = few_left_factored
+left_factored_within limit.Copies = in_factored None g.statements
 
 pub few_included : {L M : Language Lexeme (Built Statement)} → Includes M L
     → Includes (map_language (λ read. each read) (upto_language most_relations M)) (map_language (λ read. each read) (upto_language most_relations L))
 few_included {L = L} {M = M} m = map_in (upto_language most_relations L) (upto_language most_relations M) (repeated_grows L M m (Some most_relations) (Some 0) (Some 0) (omega arith)) (λ read. each read)
 
-within_same : (what : LimitKind) → Same (planned_within what) (within what)
-within_same limit.Columns = record { there = known_includes None (g.statements_with narrowly); back = planned_includes None (g.statements_with narrowly) }
+within_same : (what : LimitKind) → Same (left_factored_within what) (within what)
+within_same limit.Columns = record { there = known_includes None (g.statements_with narrowly); back = left_factored_includes None (g.statements_with narrowly) }
 within_same limit.Entries = record { there = few_there g.statements; back = few_back g.statements }
-within_same limit.Relations = record { there = few_included (known_includes None (g.ended_with g.elements)); back = few_included (planned_includes None (g.ended_with g.elements)) }
+within_same limit.Relations = record { there = few_included (known_includes None (g.ended_with g.elements)); back = few_included (left_factored_includes None (g.ended_with g.elements)) }
 within_same limit.Copies = whole.free_same texts
 
 closed : (what : LimitKind) → IsPrefixClosed (within what)
-closed limit.Columns = (form_has_fronts None (g.statements_with (few_columns most_further_columns))).shorter
-closed limit.Entries = (form_fronts kind_of (language kind_of (few_rules most_further)) (name_fronts kind_of (few_rules most_further)) g.statements None).shorter
-closed limit.Relations = (few_statement_fronts most_relations).shorter
-closed limit.Copies = (form_has_fronts None g.statements).shorter
+closed limit.Columns = (form_has_prefixes None (g.statements_with (few_columns most_further_columns))).shorter
+closed limit.Entries = (form_prefixes kind_of (language kind_of (few_rules most_further)) (name_prefixes kind_of (few_rules most_further)) g.statements None).shorter
+closed limit.Relations = (few_statement_prefixes most_relations).shorter
+closed limit.Copies = (form_has_prefixes None g.statements).shorter
 
 -- ---- sizes
 
@@ -122,17 +122,17 @@ module _ {before after : Cursor} {list : List Statement} (t : AllAgree before (O
   abbrev s : GivesAll before list after
   s = t.agrees.reads.answers
 
-  free_taken : Took (in_plan None g.statements) (in_plan None g.statements) before.tokens s.read after.tokens
+  free_taken : Took (in_factored None g.statements) (in_factored None g.statements) before.tokens s.read after.tokens
   free_taken = took_free s.takes
 
   -- another reading of them reads the same
-  counted_taken : (what : LimitKind) → IsWithin (in_plan None g.statements) (planned_within what) → TakesCounted g.statements (planned_within what) before after
-      → Took (in_plan None g.statements) (planned_within what) before.tokens s.read after.tokens
+  counted_taken : (what : LimitKind) → IsWithin (in_factored None g.statements) (left_factored_within what) → TakesCounted g.statements (left_factored_within what) before after
+      → Took (in_factored None g.statements) (left_factored_within what) before.tokens s.read after.tokens
   counted_taken what w t =
-      subst (λ z. Took (in_plan None g.statements) (planned_within what) before.tokens z after.tokens)
+      subst (λ z. Took (in_factored None g.statements) (left_factored_within what) before.tokens z after.tokens)
       (same_read g.statements refl w (below_within (itself g.statements)) t.took free_taken) t.took
 
-  taken_within : (what : LimitKind) → Took (in_plan None g.statements) (planned_within what) before.tokens s.read after.tokens
+  taken_within : (what : LimitKind) → Took (in_factored None g.statements) (left_factored_within what) before.tokens s.read after.tokens
   taken_within limit.Columns = counted_taken limit.Columns (below_within (narrow_below most_further_columns)) t.agrees.columns.answers
   taken_within limit.Entries = s.takes.few tt
   taken_within limit.Relations = counted_taken limit.Relations (map_within kind_of (λ read. each read) _ _ (few_within most_relations)) t.relations.answers
@@ -147,7 +147,7 @@ module _ {before after : Cursor} {list : List Statement} (t : AllAgree before (O
 
   pub read_whole : after.copies ≤ most_copies → after.passed + length after.tokens ≤ most_tokens → IsRead before list after
   read_whole most counted = record {
-    read = whole.read_whole texts (planned_within limit.Columns) (planned_within limit.Relations) (within_same limit.Columns) (within_same limit.Entries) (within_same limit.Relations) closed statement_costs s
+    read = whole.read_whole texts (left_factored_within limit.Columns) (left_factored_within limit.Relations) (within_same limit.Columns) (within_same limit.Entries) (within_same limit.Relations) closed statement_costs s
         (taken_within limit.Columns) (taken_within limit.Entries) (taken_within limit.Relations) t.agrees.extends most;
     few_relations = few_read;
     small = small_read (omega (arith, t.agrees.extends.counted, counted));
@@ -158,7 +158,7 @@ module _ {before after : Cursor} {list : List Statement} (t : AllAgree before (O
 pub refused_whole : {before after : Cursor} → after.copies ≤ most_copies → (fault : ReadFault) → AllAgree before (Err fault, after) → IsRefused before fault
 refused_whole {before} {after} most fault t =
     let columns = t.agrees.columns.answers in let relations = t.relations.answers in
-    whole.refused texts (planned_within limit.Columns) (planned_within limit.Relations) (within_same limit.Columns) (within_same limit.Entries) (within_same limit.Relations) closed statement_costs
+    whole.refused texts (left_factored_within limit.Columns) (left_factored_within limit.Relations) (within_same limit.Columns) (within_same limit.Entries) (within_same limit.Relations) closed statement_costs
     relations_too tt before after t.agrees.extends fault t.agrees.reads.answers
     (record { columns_kept = λ placed shallow. columns.begun placed; relations_kept = λ placed shallow. relations.begun placed; columns_passed = columns.passed; relations_passed = relations.passed })
     (keeps_copies texts most fault t.agrees.copied.answers)

@@ -13,17 +13,17 @@ use Rattle.sql_read.specs.Copied as of_query
 use Rattle.sql_read.specs.Copied.{CopiesSoFar, CopiesTooMuch}
 use Rattle.sql_read.specs.Cursor.{Cursor, next_of}
 use Rattle.sql_read.specs.Reads.{TakesWithin, Told, few_form, of_form}
-use Rattle.sql_read.proofs.steps.ReadCopies.{Going, SamePrice}
+use Rattle.sql_read.proofs.steps.ReadCopies.{Going, SameCost}
 use Rattle.sql_grammar.specs.Numbering.{Built}
 use Rattle.sql_grammar.specs.QueryCopies.{copies_nothing, most_copies, within_copies}
 use Rattle.sql_grammar.specs.QueryGrammar.{The}
 use Rattle.sql_grammar.proofs.copies.CopyLimits.{reached_copies}
-use Rattle.sql_grammar.proofs.copies.CopySteps.{plan_filled}
+use Rattle.sql_grammar.proofs.copies.CopySteps.{factored_filled}
 use Rattle.sql_grammar.proofs.copies.QueryCompletions.{filled, is_filled}
-use Rattle.sql_grammar.proofs.queries.QueryTable.{planned}
+use Rattle.sql_grammar.proofs.queries.QueryTable.{left_factored}
 use Rattle.schema_read.specs.Counting.{IsPlaced}
 use Rattle.schema_read.specs.CopiedStatements.{Copied, CopiedToFault, Says}
-use Rattle.sql_grammar.specs.QueryPlan.{in_plan}
+use Rattle.sql_grammar.specs.FactoredQueries.{in_factored}
 use Rattle.sql_grammar.proofs.queries.QueryForms.{known_includes, roomier}
 use Rattle.schema_read.proofs.spelled.Unlimited.{gl}
 use Rattle.sql_read.specs.Eating.{Misses}
@@ -42,7 +42,7 @@ pub record Spelled {A : Type 0} (f : The A) (here : List Lexeme) (value : A) (re
 
 pub taken_spelled : {A : Type 0} {limits : Told} {f : The A} {levels : ℕ} {here rest : List Lexeme} {value : A} → TakesWithin limits f (few_form f) levels here value rest → Spelled f here value rest
 taken_spelled {f = f} {levels = levels} {value = value} t =
-    let unlimited : Includes (gl f) (in_plan _ f) = includes_through _ _ _ (known_includes _ f) (roomier _ None tt f) in
+    let unlimited : Includes (gl f) (in_factored _ f) = includes_through _ _ _ (known_includes _ f) (roomier _ None tt f) in
     record { taken = t.took.taken; whole = t.took.whole; spelled = unlimited.spells t.took.taken value t.took.spelled }
 
 -- ---- refusals
@@ -64,12 +64,12 @@ module _ {A Y : Type 0} {N : The A} {whole : A → Built Y} {start first after :
     pub counted_before : Going f after.tokens N first.tokens h → (e : is_filled f ≡ true) → after.copies ≡ start.copies + (whole (h (filled f e).value)).copies → CopiesSoFar N whole start first after
     counted_before l e i = let b = filled f e in record {
       value = h b.value;
-      up_to = c.left_filled planned 0 copies_nothing (of_form None N) first.tokens f after.tokens h l.goes b.value (plan_filled f b.value b.filled);
+      up_to = c.left_filled left_factored 0 copies_nothing (of_form None N) first.tokens f after.tokens h l.goes b.value (factored_filled f b.value b.filled);
       count = i;
     }
 
     -- the whole has copied what its part has
-    pub copied_to : {X : Type 0} {part : C → Built X} {began before : Cursor} (fault : ReadFault) → Going f before.tokens N first.tokens h → SamePrice start (λ v. whole (h v)) began part
+    pub copied_to : {X : Type 0} {part : C → Built X} {began before : Cursor} (fault : ReadFault) → Going f before.tokens N first.tokens h → SameCost start (λ v. whole (h v)) began part
         → CopiedToFault f part began before fault after → CopiedToFault N whole start first fault after
     copied_to {X = X} {part = part} {began = began} {before = before} fault l e s = record { says = by fault s.says }
       where
@@ -87,7 +87,7 @@ module _ {A Y : Type 0} {N : The A} {whole : A → Built Y} {start first after :
         by NoMemory s = tt
         by other s = counted s
 
-    pub copied_in : {X D : Type 0} {part : C → Built X} {began before : Cursor} (result : Result D ReadFault) → Going f before.tokens N first.tokens h → SamePrice start (λ v. whole (h v)) began part
+    pub copied_in : {X D : Type 0} {part : C → Built X} {began before : Cursor} (result : Result D ReadFault) → Going f before.tokens N first.tokens h → SameCost start (λ v. whole (h v)) began part
         → Copied f part began before result after → Copied N whole start first result after
     copied_in (Ok value) l e q = record { answers = tt }
     copied_in (Err fault) l e q = record { answers = copied_to fault l e q.answers }
@@ -108,7 +108,7 @@ module _ {V A : Type 0} {f : The V} {h : V → Built A} {start before after : Cu
 
 -- what was counted up to here is within it
 pub counted_within : {A : Type 0} {f : The (Built A)} {before after : Cursor} → CopiesSoFar f (λ read. read) before before after → after.copies ≤ most_copies → (taken : List Lexeme) → before.tokens ≡ taken ++ after.tokens
-    → (within_copies before.copies (gl f)).front taken
+    → (within_copies before.copies (gl f)).prefix taken
 counted_within {f = f} {before = before} {after = after} r most taken e = (r.value, reached_copies f before.tokens taken after.tokens r.value e r.up_to, omega (arith, r.count, most))
 
 pub keeps_copies : {A : Type 0} (T : Texts A) {before after : Cursor} → after.copies ≤ most_copies → (fault : ReadFault) → CopiedToFault T.form (λ read. read) before before fault after → KeepsCopies T before fault after

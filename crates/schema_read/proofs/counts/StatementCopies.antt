@@ -1,14 +1,14 @@
--- What statements copy is what the queries of their views copy. Each front of statements goes on with tokens that copy nothing, and copies least
+-- What statements copy is what the queries of their views copy. Each prefix of statements goes on with tokens that copy nothing, and copies least
 -- so.
 use Rattle.std.proofs.Common.{refl, None, arith}
 use Rattle.grammar.proofs.languages.Limits.{CostsByCompletion}
-use Rattle.grammar.proofs.completed.Prices.{priced_skip_then, priced_then_skip}
+use Rattle.grammar.proofs.completed.Costs.{costed_skip_then, costed_then_skip}
 use Rattle.sql_grammar.specs.Numbering.{each}
 use Rattle.sql_grammar.specs.QueryCopies.{copies_nothing}
 use Rattle.sql_grammar.specs.QueryGrammar.{The, query}
 use Rattle.sql_grammar.proofs.copies.CopyOnce.{form_costs}
-use Rattle.sql_grammar.proofs.copies.CopyPrices.{each_copies}
-use Rattle.sql_grammar.proofs.copies.PlanPrices.{EvenIn, evenly, none}
+use Rattle.sql_grammar.proofs.copies.CopyCosts.{each_copies}
+use Rattle.sql_grammar.proofs.copies.FactoredCosts.{EvenIn, evenly, none}
 use Rattle.schema_read.specs.StatementGrammar as g
 use Rattle.schema_read.specs.StatementTrees as t
 use Rattle.schema_read.specs.Statements.{statements}
@@ -26,10 +26,10 @@ index_even = evenly.of_map (λ p. t.index p.0 p.1.0 p.1.1.0 p.1.1.1) (λ read. r
 view_even : EvenIn g.view (λ read. read.copies)
 view_even =
     evenly.of_map (λ p. t.view p.0 p.1) (λ read. read.copies)
-    (priced_skip_then evenly (free _) (evenly.of_seq (free _) (priced_skip_then evenly (free _) (evenly.of_ref query)))) (λ v. omega arith)
+    (costed_skip_then evenly (free _) (evenly.of_seq (free _) (costed_skip_then evenly (free _) (evenly.of_ref query)))) (λ v. omega arith)
 
 ended_even : EvenIn (g.ended_with g.elements) (λ read. read.copies)
-ended_even = priced_then_skip evenly (priced_skip_then evenly (free _) (evenly.of_alt table_even (evenly.of_alt view_even index_even))) (free _)
+ended_even = costed_then_skip evenly (costed_skip_then evenly (free _) (evenly.of_alt table_even (evenly.of_alt view_even index_even))) (free _)
 
 pub statements_even : EvenIn g.statements (λ read. read.copies)
 statements_even = evenly.of_map (λ read. each read) (λ read. read.copies) (evenly.of_star None ended_even) (λ v. each_copies v)

@@ -20,7 +20,7 @@ pub itself : {A : Type 0} (f : The A) → Below f f
 itself f = record { holds = includes_itself (gl f) }
 
 pub below_map : {A B : Type 0} {f f' : The A} (h : A → B) → Below f f' → Below (map h f) (map h f')
-below_map h l = record { holds = record { spells = λ ts v s. (s.0, l.holds.spells ts s.0 s.1, s.2); front = l.holds.front } }
+below_map h l = record { holds = record { spells = λ ts v s. (s.0, l.holds.spells ts s.0 s.1, s.2); prefix = l.holds.prefix } }
 
 pub below_nest : {A : Type 0} {f f' : The A} → Below f f' → Below (nest f) (nest f')
 below_nest l = record { holds = l.holds }
@@ -32,23 +32,23 @@ pub below_alt : {A : Type 0} {f f' h h' : The A} → Below f f' → Below h h' �
 below_alt l m = record {
   holds = record {
     spells = λ ts v s. elim s [ inl r ↦ inl (l.holds.spells ts v r) | inr r ↦ inr (m.holds.spells ts v r) ];
-    front = λ ts s. elim s [ inl r ↦ inl (l.holds.front ts r) | inr r ↦ inr (m.holds.front ts r) ];
+    prefix = λ ts s. elim s [ inl r ↦ inl (l.holds.prefix ts r) | inr r ↦ inr (m.holds.prefix ts r) ];
   };
 }
 
 pub in_second : {A : Type 0} (f h : The A) → Below h (alt f h)
-in_second f h = record { holds = record { spells = λ ts v s. inr s; front = λ ts s. inr s } }
+in_second f h = record { holds = record { spells = λ ts v s. inr s; prefix = λ ts s. inr s } }
 
 pub in_first : {A : Type 0} (f h : The A) → Below f (alt f h)
-in_first f h = record { holds = record { spells = λ ts v s. inl s; front = λ ts s. inl s } }
+in_first f h = record { holds = record { spells = λ ts v s. inl s; prefix = λ ts s. inl s } }
 
 pub below_seq : {A B : Type 0} {f f' : The A} {h h' : The B} → Below f f' → Below h h' → Below (seq f h) (seq f' h')
 below_seq {f = f} {f' = f'} {h = h} {h' = h'} l m =
-    record { holds = record { spells = λ ts v s. (s.0, s.1, s.2, l.holds.spells s.0 v.0 s.3, m.holds.spells s.1 v.1 s.4); front = front } }
+    record { holds = record { spells = λ ts v s. (s.0, s.1, s.2, l.holds.spells s.0 v.0 s.3, m.holds.spells s.1 v.1 s.4); prefix = prefix } }
   where
-    front : (ts : List Lexeme) → (gl (seq f h)).front ts → (gl (seq f' h')).front ts
-    front ts (inl s) = inl (l.holds.front ts s)
-    front ts (inr (x, y, v, i, s, r)) = inr (x, y, v, i, l.holds.spells x v s, m.holds.front y r)
+    prefix : (ts : List Lexeme) → (gl (seq f h)).prefix ts → (gl (seq f' h')).prefix ts
+    prefix ts (inl s) = inl (l.holds.prefix ts s)
+    prefix ts (inr (x, y, v, i, s, r)) = inr (x, y, v, i, l.holds.spells x v s, m.holds.prefix y r)
 
 pub below_skip_then : {A B : Type 0} {h h' : The B} (f : The A) → Below h h' → Below (skip_then f h) (skip_then f h')
 below_skip_then f l = below_map (λ p. p.1) (below_seq (itself f) l)

@@ -1,4 +1,4 @@
--- The two places where a reader that follows the plan finds too much copied, and what it needs on its way out from there.
+-- The two places where a reader that follows the left-factored grammar finds too much copied, and what it needs on its way out from there.
 use Rattle.std.proofs.Common.{◌≡◌, ℕ, ◌+◌, ◌*◌, ◌≤◌, ◌<◌, true, List, [], ◌∷◌, ◌++◌, inl, inr, refl, sym, ◌∙◌, Option, Some, None, codes, arith}
 use Rattle.std.proofs.lemmas.List.{append-nil}
 use Rattle.std.specs.List.{list_all}
@@ -8,7 +8,7 @@ use Rattle.grammar.specs.Productions.{skip_then}
 use Rattle.grammar.specs.Completions.{Fills, Reaches, Overspends}
 use Rattle.grammar.proofs.readers.Completing.{continues_whole, left_filled}
 use Rattle.grammar.proofs.readers.Predictions.{free}
-use Rattle.grammar.proofs.completed.SameFronts.{still_texts}
+use Rattle.grammar.proofs.completed.SamePrefixes.{still_texts}
 use Rattle.sql_lex.specs.Lexemes.{Lexeme}
 use Rattle.sql_model.specs.declared.tree.Expr.{Expr}
 use Rattle.sql_model.specs.declared.tree.Query.{Query}
@@ -23,33 +23,33 @@ use Rattle.sql_grammar.specs.QueryGrammar as grammar
 use Rattle.sql_grammar.specs.QueryGrammar.{The, expr_tail, set_tail, rest}
 use Rattle.sql_grammar.specs.QueryTails.{next_comma, commas}
 use Rattle.sql_grammar.specs.Queries.{rules}
-use Rattle.sql_grammar.specs.QueryPlan.{by_word, of_plan}
+use Rattle.sql_grammar.specs.FactoredQueries.{by_word, of_factored}
 use Rattle.sql_grammar.specs.QueryCopies.{copies_nothing}
-use Rattle.sql_grammar.proofs.copies.CopyPrices.{to_zero}
+use Rattle.sql_grammar.proofs.copies.CopyCosts.{to_zero}
 use Rattle.sql_grammar.proofs.copies.CopyOnce.{loose_rule, same_rule, still_rule}
-use Rattle.sql_grammar.proofs.copies.PlanPrices.{any, SameRead, StillRead, LooseRead, members_price}
+use Rattle.sql_grammar.proofs.copies.FactoredCosts.{any, SameRead, StillRead, LooseRead, members_cost}
 use Rattle.sql_grammar.proofs.copies.QueryCompletions.{G, in_names}
-use Rattle.sql_grammar.proofs.queries.QueryForms.{planned_includes}
+use Rattle.sql_grammar.proofs.queries.QueryForms.{left_factored_includes}
 use Rattle.sql_grammar.proofs.copies.QueryFillings.{Filled, word, symbol, number_one, select_one, fill_token, fill_seq, fill_second, fill_map, fill_other, fill_none, fill_value, fill_expr, fill_part}
-use Rattle.sql_grammar.proofs.queries.QueryTable.{planned}
+use Rattle.sql_grammar.proofs.queries.QueryTable.{left_factored}
 use Rattle.grammar.proofs.languages.Heights.{from_rule}
 
--- what fills a form, fills it in the plan
-pub plan_filled : {A : Type 0} (f : The A) (v : A) → Filled f v → Fills copies_nothing (free planned f) v
-plan_filled f v l = record { filling = l.by.filling; are_chosen = l.by.are_chosen; spelled = (planned_includes None f).spells l.by.filling v l.by.spelled }
+-- what fills a form, fills it in the left-factored grammar
+pub factored_filled : {A : Type 0} (f : The A) (v : A) → Filled f v → Fills copies_nothing (free left_factored f) v
+factored_filled f v l = record { filling = l.by.filling; are_chosen = l.by.are_chosen; spelled = (left_factored_includes None f).spells l.by.filling v l.by.spelled }
 
--- a front of one token, and what completes it
+-- a prefix of one token, and what completes it
 one_token : {A : Type 0} (f : The A) (v : A) (here more : List Lexeme) (token : Lexeme) (filling : List Lexeme) → here ≡ token ∷ more
     → list_all copies_nothing filling ≡ true → (in_names G f).spells (token ∷ filling) v
-    → Reaches copies_nothing (free planned f) here v more
+    → Reaches copies_nothing (free left_factored f) here v more
 one_token f v here more token filling i c s = record {
   taken = token ∷ [];
   whole = i;
-  completes = record { more = filling; are_chosen = c; spelled = (planned_includes None f).spells (token ∷ filling) v s };
+  completes = record { more = filling; are_chosen = c; spelled = (left_factored_includes None f).spells (token ∷ filling) v s };
 }
 
-no_token : {A : Type 0} (f : The A) (v : A) (here : List Lexeme) → Filled f v → Reaches copies_nothing (free planned f) here v here
-no_token f v here l = left_filled planned 0 copies_nothing (free planned f) here f here (λ v. v) (continues_whole copies_nothing (free planned f) here) v (plan_filled f v l)
+no_token : {A : Type 0} (f : The A) (v : A) (here : List Lexeme) → Filled f v → Reaches copies_nothing (free left_factored f) here v here
+no_token f v here l = left_filled left_factored 0 copies_nothing (free left_factored f) here f here (λ v. v) (continues_whole copies_nothing (free left_factored f) here) v (factored_filled f v l)
 
 pub fill_like : Filled by_word (λ word left. t.like word number_one left)
 fill_like = fill_other _ (fill_other _ (fill_map (λ x word left. t.like word x left) (fill_second (fill_token k.Like (word (codes "like")) refl refl) fill_value)))
@@ -67,7 +67,7 @@ fill_bounds = fill_seq fill_value fill_high
 
 -- the word BETWEEN stands next, behind this left side and perhaps a NOT
 pub between_too_much : (not_word : Option Lexeme) (left : Left) (most spent : ℕ) (here more : List Lexeme) (token : Lexeme) → here ≡ token ∷ more → k.same k.Between (kind_of token) ≡ true
-    → spent + left.0.copies ≤ most → most < (spent + left.0.copies) + weight left → Overspends copies_nothing (free planned by_word) (λ f. (f not_word left).copies) most spent here here
+    → spent + left.0.copies ≤ most → most < (spent + left.0.copies) + weight left → Overspends copies_nothing (free left_factored by_word) (λ f. (f not_word left).copies) most spent here here
 between_too_much not_word left most spent here more token i b within passed = record {
   before = λ word left. t.like word number_one left;
   up_to = no_token by_word (λ word left. t.like word number_one left) here fill_like;
@@ -89,7 +89,7 @@ between_too_much not_word left most spent here more token i b within passed = re
 
 -- a comma stands next in a list of IN behind this left side
 pub comma_too_much : (left : Left) (most spent : ℕ) (here more : List Lexeme) (token : Lexeme) → here ≡ token ∷ more → k.same k.Comma (kind_of token) ≡ true
-    → spent ≤ most → most < spent + weight left → Overspends copies_nothing (free planned commas) (members_price left) most spent here here
+    → spent ≤ most → most < spent + weight left → Overspends copies_nothing (free left_factored commas) (members_cost left) most spent here here
 comma_too_much left most spent here more token i b within passed = record {
   before = [];
   up_to = no_token commas [] here (fill_none (Some 255) next_comma);
@@ -111,37 +111,37 @@ comma_too_much left most spent here more token i b within passed = record {
 
 -- ---- tails that have a token
 
--- Where a front of a tail is completed by nothing, it may be completed by something that copies nothing either.
-pub record SomeTail {A : Type 0} (L : Language Lexeme A) (price : A → ℕ) (here beyond : List Lexeme) (total : ℕ) : Type 0 where
+-- Where a prefix of a tail is completed by nothing, it may be completed by something that copies nothing either.
+pub record SomeTail {A : Type 0} (L : Language Lexeme A) (cost : A → ℕ) (here beyond : List Lexeme) (total : ℕ) : Type 0 where
   pub value : A
   pub reaches : Reaches copies_nothing (nonempty_language L) here value beyond
-  pub same_price : price value ≡ total
+  pub same_cost : cost value ≡ total
 
-some_tail : {A : Type 0} (L : Language Lexeme A) (price : A → ℕ) (here beyond : List Lexeme) (v other : A) (token : Lexeme) (filling : List Lexeme)
+some_tail : {A : Type 0} (L : Language Lexeme A) (cost : A → ℕ) (here beyond : List Lexeme) (v other : A) (token : Lexeme) (filling : List Lexeme)
     → list_all copies_nothing (token ∷ filling) ≡ true → L.spells (token ∷ filling) other
-    → (L.spells [] v → price other ≡ price v) → Reaches copies_nothing L here v beyond → SomeTail L price here beyond (price v)
-some_tail {A = A} L price here beyond v other token filling c s e r = go r.taken r.completes.more r.whole r.completes.are_chosen r.completes.spelled
+    → (L.spells [] v → cost other ≡ cost v) → Reaches copies_nothing L here v beyond → SomeTail L cost here beyond (cost v)
+some_tail {A = A} L cost here beyond v other token filling c s e r = go r.taken r.completes.more r.whole r.completes.are_chosen r.completes.spelled
   where
-    go : (taken more : List Lexeme) → here ≡ taken ++ beyond → list_all copies_nothing more ≡ true → L.spells (taken ++ more) v → SomeTail L price here beyond (price v)
-    go [] [] i m p = record { value = other; reaches = record { taken = []; whole = i; completes = record { more = token ∷ filling; are_chosen = c; spelled = (s, λ z. cc) } }; same_price = e p }
-    go [] (x ∷ more) i m p = record { value = v; reaches = record { taken = []; whole = i; completes = record { more = x ∷ more; are_chosen = m; spelled = (p, λ z. cc) } }; same_price = refl }
-    go (x ∷ taken) more i m p = record { value = v; reaches = record { taken = x ∷ taken; whole = i; completes = record { more = more; are_chosen = m; spelled = (p, λ z. cc) } }; same_price = refl }
+    go : (taken more : List Lexeme) → here ≡ taken ++ beyond → list_all copies_nothing more ≡ true → L.spells (taken ++ more) v → SomeTail L cost here beyond (cost v)
+    go [] [] i m p = record { value = other; reaches = record { taken = []; whole = i; completes = record { more = token ∷ filling; are_chosen = c; spelled = (s, λ z. cc) } }; same_cost = e p }
+    go [] (x ∷ more) i m p = record { value = v; reaches = record { taken = []; whole = i; completes = record { more = x ∷ more; are_chosen = m; spelled = (p, λ z. cc) } }; same_cost = refl }
+    go (x ∷ taken) more i m p = record { value = v; reaches = record { taken = x ∷ taken; whole = i; completes = record { more = more; are_chosen = m; spelled = (p, λ z. cc) } }; same_cost = refl }
 
-overspends_some : {A : Type 0} (L : Language Lexeme A) (price : A → ℕ) (most spent : ℕ) (here beyond : List Lexeme)
-    → ((v : A) (beyond : List Lexeme) → Reaches copies_nothing L here v beyond → SomeTail L price here beyond (price v))
-    → Overspends copies_nothing L price most spent here beyond → Overspends copies_nothing (nonempty_language L) price most spent here beyond
-overspends_some L price most spent here beyond m o =
+overspends_some : {A : Type 0} (L : Language Lexeme A) (cost : A → ℕ) (most spent : ℕ) (here beyond : List Lexeme)
+    → ((v : A) (beyond : List Lexeme) → Reaches copies_nothing L here v beyond → SomeTail L cost here beyond (cost v))
+    → Overspends copies_nothing L cost most spent here beyond → Overspends copies_nothing (nonempty_language L) cost most spent here beyond
+overspends_some L cost most spent here beyond m o =
     let b = m o.before beyond o.up_to in let w = m o.with_it o.more o.and_it in
     record {
       before = b.value;
       up_to = b.reaches;
-      within = few spent (price b.value) (price o.before) most b.same_price o.within;
+      within = few spent (cost b.value) (cost o.before) most b.same_cost o.within;
       token = o.token;
       more = o.more;
       next = o.next;
       with_it = w.value;
       and_it = w.reaches;
-      too_much = many spent (price w.value) (price o.with_it) most w.same_price o.too_much;
+      too_much = many spent (cost w.value) (cost o.with_it) most w.same_cost o.too_much;
     }
   where
     few : (a b c m : ℕ) → b ≡ c → a + c ≤ m → a + b ≤ m
@@ -154,9 +154,9 @@ abbrev compared_tail : Left → Built Expr
 compared_tail left = tails.continued (([], []), 0) (Some (λ left. t.comparison (symbol 61) number_one left)) [] [] left
 
 -- = 1
-expr_tail_spelled : (of_plan None expr_tail).spells (symbol 61 ∷ fill_value.by.filling) compared_tail
+expr_tail_spelled : (of_factored None expr_tail).spells (symbol 61 ∷ fill_value.by.filling) compared_tail
 expr_tail_spelled =
-    (planned_includes None (ref expr_tail)).spells (symbol 61 ∷ fill_value.by.filling) compared_tail ((from_rule kind_of rules None expr_tail).spells (symbol 61 ∷ fill_value.by.filling) compared_tail (
+    (left_factored_includes None (ref expr_tail)).spells (symbol 61 ∷ fill_value.by.filling) compared_tail ((from_rule kind_of rules None expr_tail).spells (symbol 61 ∷ fill_value.by.filling) compared_tail (
       ((([], []), 0), (Some (λ left. t.comparison (symbol 61) number_one left), ([], []))),
       (
         [],
@@ -172,23 +172,23 @@ expr_tail_spelled =
     rest_spelled = (from_rule kind_of rules None rest).spells (symbol 61 ∷ fill_value.by.filling) (λ left. t.comparison (symbol 61) number_one left)
         (inl ((symbol 61, number_one), (symbol 61 ∷ [], fill_value.by.filling, refl, (refl, refl), fill_value.by.spelled), refl))
 
-pub expr_tail_reaches : (left : Left) (here : List Lexeme) (v : Left → Built Expr) (beyond : List Lexeme) → Reaches copies_nothing (of_plan None expr_tail) here v beyond
-    → SomeTail (of_plan None expr_tail) (λ f. (f left).copies) here beyond (v left).copies
+pub expr_tail_reaches : (left : Left) (here : List Lexeme) (v : Left → Built Expr) (beyond : List Lexeme) → Reaches copies_nothing (of_factored None expr_tail) here v beyond
+    → SomeTail (of_factored None expr_tail) (λ f. (f left).copies) here beyond (v left).copies
 expr_tail_reaches left here v beyond r =
-    some_tail (of_plan None expr_tail) (λ f. (f left).copies) here beyond v compared_tail (symbol 61) fill_value.by.filling fill_value.by.are_chosen expr_tail_spelled
-    (λ p. sym (to_zero left.0.copies) ∙ sym (still_texts planned copies_nothing any SameRead StillRead LooseRead still_rule loose_rule same_rule expr_tail [] v refl p left)) r
+    some_tail (of_factored None expr_tail) (λ f. (f left).copies) here beyond v compared_tail (symbol 61) fill_value.by.filling fill_value.by.are_chosen expr_tail_spelled
+    (λ p. sym (to_zero left.0.copies) ∙ sym (still_texts left_factored copies_nothing any SameRead StillRead LooseRead still_rule loose_rule same_rule expr_tail [] v refl p left)) r
 
-pub expr_tail_some : (left : Left) (most spent : ℕ) (here beyond : List Lexeme) → Overspends copies_nothing (of_plan None expr_tail) (λ f. (f left).copies) most spent here beyond
-    → Overspends copies_nothing (nonempty_language (of_plan None expr_tail)) (λ f. (f left).copies) most spent here beyond
-expr_tail_some left most spent here beyond o = overspends_some (of_plan None expr_tail) (λ f. (f left).copies) most spent here beyond (expr_tail_reaches left here) o
+pub expr_tail_some : (left : Left) (most spent : ℕ) (here beyond : List Lexeme) → Overspends copies_nothing (of_factored None expr_tail) (λ f. (f left).copies) most spent here beyond
+    → Overspends copies_nothing (nonempty_language (of_factored None expr_tail)) (λ f. (f left).copies) most spent here beyond
+expr_tail_some left most spent here beyond o = overspends_some (of_factored None expr_tail) (λ f. (f left).copies) most spent here beyond (expr_tail_reaches left here) o
 
 abbrev union_tail : Built Query → Built Query
 union_tail q = tails.combined [] (((Union, 0), select_one) ∷ []) q
 
 -- UNION SELECT 1 FROM a
-set_tail_spelled : (of_plan None set_tail).spells (word (codes "union") ∷ fill_part.by.filling) union_tail
+set_tail_spelled : (of_factored None set_tail).spells (word (codes "union") ∷ fill_part.by.filling) union_tail
 set_tail_spelled =
-    (planned_includes None (ref set_tail)).spells (word (codes "union") ∷ fill_part.by.filling) union_tail ((from_rule kind_of rules None set_tail).spells (word (codes "union") ∷ fill_part.by.filling) union_tail (
+    (left_factored_includes None (ref set_tail)).spells (word (codes "union") ∷ fill_part.by.filling) union_tail ((from_rule kind_of rules None set_tail).spells (word (codes "union") ∷ fill_part.by.filling) union_tail (
       ([], ((Union, 0), select_one) ∷ []),
       (
         [],
@@ -206,12 +206,12 @@ set_tail_spelled =
       refl,
     ))
 
-pub set_tail_reaches : (q : Built Query) (here : List Lexeme) (v : Built Query → Built Query) (beyond : List Lexeme) → Reaches copies_nothing (of_plan None set_tail) here v beyond
-    → SomeTail (of_plan None set_tail) (λ f. (f q).copies) here beyond (v q).copies
+pub set_tail_reaches : (q : Built Query) (here : List Lexeme) (v : Built Query → Built Query) (beyond : List Lexeme) → Reaches copies_nothing (of_factored None set_tail) here v beyond
+    → SomeTail (of_factored None set_tail) (λ f. (f q).copies) here beyond (v q).copies
 set_tail_reaches q here v beyond r =
-    some_tail (of_plan None set_tail) (λ f. (f q).copies) here beyond v union_tail (word (codes "union")) fill_part.by.filling fill_part.by.are_chosen set_tail_spelled
-    (λ p. sym (to_zero q.copies) ∙ sym (still_texts planned copies_nothing any SameRead StillRead LooseRead still_rule loose_rule same_rule set_tail [] v refl p q)) r
+    some_tail (of_factored None set_tail) (λ f. (f q).copies) here beyond v union_tail (word (codes "union")) fill_part.by.filling fill_part.by.are_chosen set_tail_spelled
+    (λ p. sym (to_zero q.copies) ∙ sym (still_texts left_factored copies_nothing any SameRead StillRead LooseRead still_rule loose_rule same_rule set_tail [] v refl p q)) r
 
-pub set_tail_some : (q : Built Query) (most spent : ℕ) (here beyond : List Lexeme) → Overspends copies_nothing (of_plan None set_tail) (λ f. (f q).copies) most spent here beyond
-    → Overspends copies_nothing (nonempty_language (of_plan None set_tail)) (λ f. (f q).copies) most spent here beyond
-set_tail_some q most spent here beyond o = overspends_some (of_plan None set_tail) (λ f. (f q).copies) most spent here beyond (set_tail_reaches q here) o
+pub set_tail_some : (q : Built Query) (most spent : ℕ) (here beyond : List Lexeme) → Overspends copies_nothing (of_factored None set_tail) (λ f. (f q).copies) most spent here beyond
+    → Overspends copies_nothing (nonempty_language (of_factored None set_tail)) (λ f. (f q).copies) most spent here beyond
+set_tail_some q most spent here beyond o = overspends_some (of_factored None set_tail) (λ f. (f q).copies) most spent here beyond (set_tail_reaches q here) o

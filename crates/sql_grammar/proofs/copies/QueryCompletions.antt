@@ -1,4 +1,4 @@
--- Each front of a production goes on, with tokens that copy nothing, to a whole text, and so does each of a form over these names.
+-- Each prefix of a production goes on, with tokens that copy nothing, to a whole text, and so does each of a form over these names.
 use Rattle.std.proofs.Common.{◌≡◌, ◌&&◌, ℕ, zero, suc, Bool, true, false, List, [], ◌∷◌, ◌++◌, inl, inr, refl, sym, ◌∙◌, ap, subst, append_assoc, codes, None}
 use Rattle.std.proofs.lemmas.List.{append-nil}
 use Rattle.std.specs.List.{list_all}
@@ -8,10 +8,10 @@ use Rattle.grammar.specs.Productions.{skip_then, then_skip, optional}
 use Rattle.grammar.specs.Completions.{Completed}
 use Rattle.grammar.proofs.readers.Completing.{both_chosen}
 use Rattle.grammar.proofs.completed.ComputedCompletions as d
-use Rattle.grammar.proofs.completed.FrontCompletions as c
-use Rattle.grammar.proofs.completed.FrontCompletions.{Completable, as_text, completable_alt, completable_map, completable_nest, completable_ref, completable_seq, completable_token, completion_with}
+use Rattle.grammar.proofs.completed.PrefixCompletions as c
+use Rattle.grammar.proofs.completed.PrefixCompletions.{Completable, as_text, completable_alt, completable_map, completable_nest, completable_ref, completable_seq, completable_token, completion_with}
 use Rattle.grammar.proofs.languages.Forms.{form_grows, includes_through}
-use Rattle.grammar.proofs.languages.Heights.{from_rule, front_at, to_rule, in_name, name_fronts, name_grows}
+use Rattle.grammar.proofs.languages.Heights.{from_rule, prefix_at, to_rule, in_name, name_prefixes, name_grows}
 use Rattle.grammar.proofs.readers.Repetitions.{one_more}
 use Rattle.grammar.proofs.languages.Sets.{and_left, and_right}
 use Rattle.sql_model.specs.declared.tree.Expr.{Expr}
@@ -40,7 +40,7 @@ At h = language_within kind_of rules h
 
 up : (h : ℕ) (A : Type 0) (f : The A) (ts : List Lexeme) (v : A) → (in_names (At h) f).spells ts v → (in_names G f).spells ts v
 up h A f ts v s =
-    (form_grows kind_of (At h) G (name_fronts kind_of rules)
+    (form_grows kind_of (At h) G (name_prefixes kind_of rules)
     (λ small large w p. includes_through _ _ _ (in_name kind_of rules h small p) (name_grows kind_of rules small large w p)) f None None tt).spells ts v s
 
 never : false ≡ true → ⊥
@@ -90,7 +90,7 @@ abbrev Completion : ℕ → {A : Type 0} → The A → List Lexeme → Type 0
 Completion h f x = c.Completion kind_of copies_nothing G (At h) (up h) f x
 
 abbrev AreCompleted : ℕ → Type 0
-AreCompleted h = (p : Production) → is_part p ≡ true → (x : List Lexeme) → (x ≡ [] → ⊥) → (At h None p).front x → Completion h (ref p) x
+AreCompleted h = (p : Production) → is_part p ≡ true → (x : List Lexeme) → (x ≡ [] → ⊥) → (At h None p).prefix x → Completion h (ref p) x
 
 module _ (h : ℕ) (m : AreCompleted h) where
   abbrev Goes : {A : Type 0} → The A → Type 0
@@ -162,7 +162,7 @@ module _ (h : ℕ) (m : AreCompleted h) where
           completion_with members x (more ++ or_one.by.filling) (n.value, []) (both_chosen copies_nothing more or_one.by.filling c or_one.by.are_chosen)
           ((x ++ (more ++ or_one.by.filling), [], sym (append-nil (x ++ (more ++ or_one.by.filling))), subst (λ z. (G None expr).spells z n.value) (append_assoc x more or_one.by.filling) n.spelled, refl), n.no_sub)
 
-      go : (x : List Lexeme) → (x ≡ [] → ⊥) → (in_names (At h) members).front x → Completion h members x
+      go : (x : List Lexeme) → (x ≡ [] → ⊥) → (in_names (At h) members).prefix x → Completion h members x
       go x e s = let r = (by_parts (listed (ref expr)) refl).completion x e s in listed_so x r.by.more r.value r.by.are_chosen r.by.spelled
 
   goes_in_list : Goes in_list
@@ -170,14 +170,14 @@ module _ (h : ℕ) (m : AreCompleted h) where
       completable_map (λ p left. t.in_list p.0 p.1 left)
       (completable_seq (by_parts (optional (a k.Not)) refl) (goes_second (completable_token (same k.In)) (goes_parens goes_members members_filled) (fill_parens members_filled)) (fill_second in_filled (fill_parens members_filled)))
 
-  -- the word BETWEEN copies, so a front with NOT alone goes on with LIKE
+  -- the word BETWEEN copies, so a prefix with NOT alone goes on with LIKE
   goes_between_words : Goes (skip_then (a k.Between) (seq (ref value) (skip_then (a k.And) (ref value))))
   goes_between_words = by_parts _ refl
 
-  by_like : (x : List Lexeme) → (x ≡ [] → ⊥) → (in_names (At h) like).front x → Completion h (rules rest) x
+  by_like : (x : List Lexeme) → (x ≡ [] → ⊥) → (in_names (At h) like).prefix x → Completion h (rules rest) x
   by_like x e s = as_text (rules rest) (λ v. v) (λ ts v r. inr (inr (inr (inr r)))) x ((by_parts like refl).completion x e s)
 
-  between_completion : (x : List Lexeme) → (x ≡ [] → ⊥) → (in_names (At h) between).front x → Completion h (rules rest) x
+  between_completion : (x : List Lexeme) → (x ≡ [] → ⊥) → (in_names (At h) between).prefix x → Completion h (rules rest) x
   between_completion x e (inl s) = by_like x e (inl s)
   between_completion x e (inr (p, [], v, i, s, d)) = by_like x e (inr (p, [], v, i, s, inl (inl refl)))
   between_completion x e (inr (p, u ∷ q, v, i, s, d)) =
@@ -188,7 +188,7 @@ module _ (h : ℕ) (m : AreCompleted h) where
   goes_rest : Goes (rules rest)
   goes_rest = record { completion = go }
     where
-      go : (x : List Lexeme) → (x ≡ [] → ⊥) → (in_names (At h) (rules rest)).front x → Completion h (rules rest) x
+      go : (x : List Lexeme) → (x ≡ [] → ⊥) → (in_names (At h) (rules rest)).prefix x → Completion h (rules rest) x
       go x e (inl s) = as_text (rules rest) (λ v. v) (λ ts v r. inl r) x ((by_parts comparison refl).completion x e s)
       go x e (inr (inl s)) = as_text (rules rest) (λ v. v) (λ ts v r. inr (inl r)) x ((by_parts in_query refl).completion x e s)
       go x e (inr (inr (inl s))) = as_text (rules rest) (λ v. v) (λ ts v r. inr (inr (inl r))) x (goes_in_list.completion x e s)
@@ -215,7 +215,7 @@ completed_at (suc h) p i x e s =
 
 of_part : (p : Production) → is_part p ≡ true → Completable kind_of copies_nothing G G (λ A f ts v s. s) (ref p)
 of_part p i = completable_ref p (λ x e s.
-    let q = front_at kind_of rules None p x s in let r = completed_at q.0 p i x e q.1 in
+    let q = prefix_at kind_of rules None p x s in let r = completed_at q.0 p i x e q.1 in
     record { value = r.value; by = r.by })
 
 -- tokens that copy nothing fill it
@@ -225,11 +225,11 @@ is_filled f = d.is_filled kind_of G copies_nothing (d.fill kind_of G copies_noth
 abbrev pub filled : {A : Type 0} (f : The A) → is_filled f ≡ true → FilledBy f
 filled f e = d.filled_by kind_of G copies_nothing (d.fill kind_of G copies_nothing samples of_names f) e
 
--- and each front goes on with such tokens
+-- and each prefix goes on with such tokens
 abbrev pub goes_on : {A : Type 0} → The A → Bool
 goes_on f = is_filled f && d.goes kind_of G copies_nothing samples of_names is_part f
 
-pub completed : {A : Type 0} (f : The A) → goes_on f ≡ true → (ts : List Lexeme) → (of_form None f).front ts → Completed copies_nothing (of_form None f) ts
+pub completed : {A : Type 0} (f : The A) → goes_on f ≡ true → (ts : List Lexeme) → (of_form None f).prefix ts → Completed copies_nothing (of_form None f) ts
 completed f e [] s =
     let b = filled f (and_left (is_filled f) (d.goes kind_of G copies_nothing samples of_names is_part f) e) in
     record { value = b.value; by = record { more = b.filled.by.filling; are_chosen = b.filled.by.are_chosen; spelled = b.filled.by.spelled } }

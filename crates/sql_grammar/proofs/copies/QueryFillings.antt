@@ -219,7 +219,7 @@ FilledBy f = d.FilledBy kind_of (language kind_of rules) copies_nothing f
 abbrev sample : (kind : Kind) (t : Lexeme) → kind_of t ≡ kind → copies_nothing t ≡ true → Sample
 sample kind t i c = record { its_kind = kind; token = t; is_of_kind = i; is_chosen = c }
 
--- tokens that copy nothing, for the parts that a front may lack
+-- tokens that copy nothing, for the parts that a prefix may lack
 abbrev pub samples : List Sample
 samples =
     sample k.Number one refl refl ∷ sample k.Word (word (codes "a")) refl refl

@@ -1,9 +1,9 @@
--- The items of a query by the grammar, the plan reads.
+-- The items of a query by the grammar, the left-factored grammar reads.
 use Rattle.std.proofs.Common.{List, [], ◌++◌, length, inl, inr, refl, sym, ◌∙◌, ap, append_assoc}
 use Rattle.std.proofs.lemmas.List.{append-nil}
 use Rattle.grammar.specs.Form.{Room, empty, seq, alt, map, counted, fork, ref}
 use Rattle.grammar.specs.Productions.{optional}
-use Rattle.grammar.proofs.plans.Alike.{alt_seq, at_first, at_second, below_alt, below_map, below_seq, either, first_part, itself, map_alt, of_alike, second_part, through}
+use Rattle.grammar.proofs.factorings.Alike.{alt_seq, at_first, at_second, below_alt, below_map, below_seq, either, first_part, itself, map_alt, of_alike, second_part, through}
 use Rattle.sql_lex.specs.Lexemes.{Lexeme}
 use Rattle.sql_model.specs.declared.tree.Expr.{Expr}
 use Rattle.sql_model.specs.declared.tree.Item.{Item}
@@ -13,7 +13,7 @@ use Rattle.sql_grammar.specs.QueryTrees as t
 use Rattle.sql_grammar.specs.QueryTrees.{Left}
 use Rattle.sql_grammar.specs.QueryGrammar.{The, a, name, called_word, alias, minus, parens, item, expr, expr_tail}
 use Rattle.sql_grammar.specs.Queries.{rules}
-use Rattle.sql_grammar.specs.QueryPlan.{plan, literal, dot_name, dot_star_or_name, arguments, one_argument, other_aggregate, count_arguments, word_with, words, column_of, named_first, enclosed_first, going_on, going_on_by_and, star_or_column, star_or_left, Starred}
+use Rattle.sql_grammar.specs.FactoredQueries.{factored, literal, dot_name, dot_star_or_name, arguments, one_argument, other_aggregate, count_arguments, word_with, words, column_of, named_first, enclosed_first, going_on, going_on_by_and, star_or_column, star_or_left, Starred}
 use Rattle.sql_grammar.proofs.queries.QueryInside.{P, fl}
 use Rattle.sql_grammar.proofs.queries.QueryInsides.{expr_parts, kept}
 use Rattle.sql_grammar.proofs.queries.QuerySplits.{going_on_alt}
@@ -56,8 +56,8 @@ module _ (variant : Variant) where
   star_first = through (first_part (star_parts name)) (any_named variant dot_star_or_name star_or_column right_of)
 
   -- name . *
-  star_planned : Below (P variant) (map t.alias_star_item (name_and_star name)) by_name
-  star_planned = record {
+  star_left_factored : Below (P variant) (map t.alias_star_item (name_and_star name)) by_name
+  star_left_factored = record {
     holds = λ room. record {
       spells = λ ts v (w, s, i). (
         ts,
@@ -67,7 +67,7 @@ module _ (variant : Variant) where
         ((inl w, length ts), ((star_first.holds room).spells ts (inl w) (w, s, refl), refl), refl),
         ((λ qual. t.alias_star_item qual), (tt, refl, refl), i),
       );
-      front = λ ts s. inl ((star_first.holds room).front ts s);
+      prefix = λ ts s. inl ((star_first.holds room).prefix ts s);
     };
   }
 
@@ -75,8 +75,8 @@ module _ (variant : Variant) where
   with_alias f = map (λ p. t.value_item p.0 p.1) (seq f (optional alias))
 
   -- an expression that begins with a name
-  named_planned : Below (P variant) (with_alias (going_on named_first)) by_name
-  named_planned = record { holds = λ room. record { spells = spells room; front = front room } }
+  named_left_factored : Below (P variant) (with_alias (going_on named_first)) by_name
+  named_left_factored = record { holds = λ room. record { spells = spells room; prefix = prefix room } }
     where
       first_left : (room : Room) (x : List Lexeme) (left : Left) → (fl variant room (counted named_first)).spells x left → (fl variant room (map star_or_left (counted starred_words))).spells x (inr left)
       first_left room x left (s, n) = ((inr left.0, left.1), ((named_starred.holds room).spells x (inr left.0) (left.0, s, refl), n), refl)
@@ -91,10 +91,10 @@ module _ (variant : Variant) where
         ((λ left. t.value_item (u.1 left) p.1), ((u.1, p.1), (y1, y, refl, r, o), refl), i ∙ ap (λ z. t.value_item z p.1) j),
       )
 
-      front : (room : Room) (ts : List Lexeme) → (fl variant room (seq (going_on named_first) (optional alias))).front ts → (fl variant room by_name).front ts
-      front room ts (inl (inl s)) = inl ((named_starred.holds room).front ts s)
-      front room ts (inl (inr (x, y, left, e, s, r))) = inr (x, y, inr left, e, first_left room x left s, inl r)
-      front room ts (inr (x, y, v, e, (u, (x1, y1, e1, s, r), j), o)) =
+      prefix : (room : Room) (ts : List Lexeme) → (fl variant room (seq (going_on named_first) (optional alias))).prefix ts → (fl variant room by_name).prefix ts
+      prefix room ts (inl (inl s)) = inl ((named_starred.holds room).prefix ts s)
+      prefix room ts (inl (inr (x, y, left, e, s, r))) = inr (x, y, inr left, e, first_left room x left s, inl r)
+      prefix room ts (inr (x, y, v, e, (u, (x1, y1, e1, s, r), j), o)) =
           inr (x1, y1 ++ y, inr u.0, e ∙ (ap (λ z. z ++ y) e1 ∙ append_assoc x1 y1 y), first_left room x1 u.0 s, inr (y1, y, u.1, refl, r, o))
 
   -- ---- all items
@@ -129,14 +129,14 @@ module _ (variant : Variant) where
       (at_first by_others (itself (going_on named_first)))))))
       (at_second (going_on named_first) (at_first going_on_by_and (go_on_below (at_second minus (at_second literal (itself enclosed_first))))))))
 
-  value_planned : Below (P variant) (with_alias (ref expr)) (alt by_name others)
-  value_planned =
+  value_left_factored : Below (P variant) (with_alias (ref expr)) (alt by_name others)
+  value_left_factored =
       through (with_alias_below expr_by_first)
       (through (with_alias_either (going_on named_first) by_others)
-      (below_alt named_planned (itself others)))
+      (below_alt named_left_factored (itself others)))
 
-  pub item_below : Below (P variant) (rules item) (plan item)
+  pub item_below : Below (P variant) (rules item) (factored item)
   item_below =
       either (at_first (alt by_name others) (itself (map t.star_item (a k.Star))))
-      (either (at_second (map t.star_item (a k.Star)) (at_first others star_planned))
-      (at_second (map t.star_item (a k.Star)) value_planned))
+      (either (at_second (map t.star_item (a k.Star)) (at_first others star_left_factored))
+      (at_second (map t.star_item (a k.Star)) value_left_factored))

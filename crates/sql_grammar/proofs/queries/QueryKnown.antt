@@ -1,4 +1,4 @@
--- The grammar is included in the plan, and no list of tokens spells two queries.
+-- The grammar is included in the left-factored grammar, and no list of tokens spells two queries.
 use Rattle.std.proofs.Common.{◌≡◌, List, ◌∙◌, sym, ap, None}
 use Rattle.grammar.specs.Language.{Includes}
 use Rattle.grammar.specs.Form.{Room, language}
@@ -10,13 +10,13 @@ use Rattle.sql_grammar.specs.Numbering.{Numbers}
 use Rattle.sql_grammar.specs.Queries.{rules, Spells}
 use Rattle.sql_grammar.specs.QueryGrammar.{Production, query}
 use Rattle.sql_grammar.specs.QueryLookahead.{table}
-use Rattle.sql_grammar.specs.QueryPlan.{plan}
-use Rattle.sql_grammar.proofs.queries.QueryBelow.{known_of, plan_above}
+use Rattle.sql_grammar.specs.FactoredQueries.{factored}
+use Rattle.sql_grammar.proofs.queries.QueryBelow.{known_of, factored_above}
 use Rattle.sql_grammar.proofs.queries.Variants.{unchanged}
 
--- what the grammar spells and begins, the plan does
-pub plan_includes : (room : Room) (p : Production) → Includes (language kind_of plan room p) (language kind_of rules room p)
-plan_includes = plan_above unchanged
+-- what the grammar spells and begins, the left-factored grammar does
+pub factored_includes : (room : Room) (p : Production) → Includes (language kind_of factored room p) (language kind_of rules room p)
+factored_includes = factored_above unchanged
 
 pub production_known : (room : Room) (p : Production) → Known kind_of (language kind_of rules room p) (table p)
 production_known = known_of unchanged

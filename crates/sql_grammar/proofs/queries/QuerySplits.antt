@@ -3,7 +3,7 @@ use Rattle.std.proofs.Common.{◌≡◌, Bool, true, false, List, refl, Option, 
 use Rattle.grammar.specs.Language.{Language}
 use Rattle.grammar.specs.Form.{Room, seq, alt, map, counted, ref}
 use Rattle.grammar.specs.Productions.{optional}
-use Rattle.grammar.proofs.plans.Alike.{Alike, chain, flip, flattened, applied, alike_itself, alike_map, alike_first, alike_second, alike_alt, alike_counted, map_map, map_alt, seq_with_map, seq_seq, alt_seq, counted_seq, counted_map, counted_alt, alt_alt, regrouped, counted_both}
+use Rattle.grammar.proofs.factorings.Alike.{Alike, chain, flip, flattened, applied, alike_itself, alike_map, alike_first, alike_second, alike_alt, alike_counted, map_map, map_alt, seq_with_map, seq_seq, alt_seq, counted_seq, counted_map, counted_alt, alt_alt, regrouped, counted_both}
 use Rattle.sql_lex.specs.Lexemes.{Lexeme}
 use Rattle.sql_model.specs.declared.tree.Expr.{Expr}
 use Rattle.sql_grammar.specs.Kinds.{kind_of}
@@ -13,9 +13,9 @@ use Rattle.sql_grammar.specs.QueryTailTrees as tails
 use Rattle.sql_grammar.specs.QueryTrees.{Left}
 use Rattle.sql_grammar.specs.QueryGrammar.{Production, Read, The, Froms, rules_with, intersects, unions, products, sums, ands, ors, not_neg, exists, query, part, operand, item, reference, expr, conj, neg, test, rest, value, term, unary, primary, agg, set_tail, and_tail, expr_tail, inner, in_inner}
 use Rattle.sql_grammar.specs.QueryTails.{tail_rules}
-use Rattle.sql_grammar.specs.QueryPlan.{going_on, going_on_by_and}
+use Rattle.sql_grammar.specs.FactoredQueries.{going_on, going_on_by_and}
 
--- whether the plan has the grammar's own production of a name
+-- whether the left-factored grammar has the grammar's own production of a name
 abbrev pub is_kept : Production → Bool
 is_kept item = false
 is_kept reference = false

@@ -1,4 +1,4 @@
--- The table of the plan is right, which is computed line by line.
+-- The table of the left-factored grammar is right, which is computed line by line.
 use Rattle.std.proofs.Common.{◌≡◌, true, refl}
 use Rattle.grammar.specs.Lookahead.{PredictiveGrammar, is_right}
 use Rattle.sql_lex.specs.Lexemes.{Lexeme}
@@ -6,19 +6,19 @@ use Rattle.sql_grammar.specs.Kinds.{Kind, kind_of, every_kind}
 use Rattle.sql_grammar.specs.QueryGrammar.{Production, Read, query}
 use Rattle.sql_grammar.specs.QueryLookahead.{table}
 use Rattle.sql_grammar.proofs.lists.EveryKind.{every_kind_is_there}
-use Rattle.sql_grammar.specs.QueryPlan.{plan}
+use Rattle.sql_grammar.specs.FactoredQueries.{factored}
 
-abbrev pub right : (p : Production) → is_right every_kind table plan p ≡ true
+abbrev pub right : (p : Production) → is_right every_kind table factored p ≡ true
 right query = refl
 right other = refl
 
--- the plan, with its table
-abbrev pub planned : PredictiveGrammar Lexeme Kind Production Read
-planned = record {
+-- the left-factored grammar, with its table
+abbrev pub left_factored : PredictiveGrammar Lexeme Kind Production Read
+left_factored = record {
   kind = kind_of;
   kinds = every_kind;
   every = every_kind_is_there;
-  rules = plan;
+  rules = factored;
   table = table;
   right = right;
 }

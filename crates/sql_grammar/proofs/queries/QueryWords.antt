@@ -1,10 +1,10 @@
--- What stands in parentheses and behind words in two ways, in any languages of the names; and that the plan reads what begins with a name.
+-- What stands in parentheses and behind words in two ways, in any languages of the names; and that the left-factored grammar reads what begins with a name.
 use Rattle.std.proofs.Common.{◌≡◌, Bool, true, false, not, ◌||◌, List, [], ◌∷◌, ◌⊎◌, inl, inr, refl, sym, ◌∙◌, ap, subst, ◌++◌, Option, Some, None}
 use Rattle.grammar.specs.Form.{Room, token, seq, alt, map, ref}
 use Rattle.grammar.specs.Productions.{optional, then_skip}
 use Rattle.grammar.proofs.languages.Sets.{implied}
-use Rattle.grammar.proofs.plans.Alike as alike
-use Rattle.grammar.proofs.plans.Alike.{Alike, alike_alt, alike_itself, alike_map, alike_nest, alike_second, alt_alt, alt_seq, applied, at_first, at_second, below_alt, below_counted, below_map, below_nest, below_seq, both_below, chain, either, first_part, flip, itself, map_alt, map_map, nest_alt, nest_map, of_alike, second_part, seq_alt, seq_map, seq_with_map, through}
+use Rattle.grammar.proofs.factorings.Alike as alike
+use Rattle.grammar.proofs.factorings.Alike.{Alike, alike_alt, alike_itself, alike_map, alike_nest, alike_second, alt_alt, alt_seq, applied, at_first, at_second, below_alt, below_counted, below_map, below_nest, below_seq, both_below, chain, either, first_part, flip, itself, map_alt, map_map, nest_alt, nest_map, of_alike, second_part, seq_alt, seq_map, seq_with_map, through}
 use Rattle.sql_lex.specs.Lexemes.{Lexeme}
 use Rattle.sql_model.specs.declared.tree.Expr.{Expr}
 use Rattle.sql_grammar.specs.Kinds as k
@@ -14,7 +14,7 @@ use Rattle.sql_grammar.specs.QueryTrees as t
 use Rattle.sql_grammar.specs.QueryTrees.{Left}
 use Rattle.sql_grammar.specs.QueryGrammar.{The, a, name, name_kinds, call, called_word, aggregate_word, expr, in_parentheses, listed, parens, expr_tail}
 use Rattle.sql_grammar.proofs.lists.EveryKind.{every_kind_is_there}
-use Rattle.sql_grammar.specs.QueryPlan.{arguments, column_of, count_arguments, dot_name, dot_star_or_name, going_on, one_argument, other_aggregate, star_or_column, word_with, words, Starred}
+use Rattle.sql_grammar.specs.FactoredQueries.{arguments, column_of, count_arguments, dot_name, dot_star_or_name, going_on, one_argument, other_aggregate, star_or_column, word_with, words, Starred}
 use Rattle.sql_grammar.proofs.queries.QueryInside.{Names, P, el, fl}
 use Rattle.sql_grammar.proofs.queries.Variants.{Variant}
 
@@ -152,7 +152,7 @@ module _ {E : Names} where
   -- where a star may follow the point
   pub star_parts : (word : The Lexeme) → Alike kind_of E (with_dot dot_star_or_name star_or_column word) (star_or_first word (with_dot dot_name column_of word))
   star_parts word =
-      both_below (record { holds = λ room. record { spells = spells room; front = front room } }) (record { holds = λ room. record { spells = spelled_back room; front = front_back room } })
+      both_below (record { holds = λ room. record { spells = spells room; prefix = prefix room } }) (record { holds = λ room. record { spells = spelled_back room; prefix = prefix_back room } })
     where
       spells : (room : Room) (ts : List Lexeme) (v : Starred) → (el E room (with_dot dot_star_or_name star_or_column word)).spells ts v
           → (el E room (star_or_first word (with_dot dot_name column_of word))).spells ts v
@@ -162,12 +162,12 @@ module _ {E : Names} where
           inr (column_of u.0 (Some n), ((u.0, Some n), (x, y, e, w, inl (n, ((p.0, n), (x1, y1, e1, d, s), refl), refl)), refl), i ∙ ap (star_or_column u.0) (m ∙ ap (λ z. Some z) (j ∙ l)))
       spells room ts v (u, (x, y, e, w, inr (c, n, m)), i) = inr (column_of u.0 None, ((u.0, None), (x, y, e, w, inr (tt, n, refl)), refl), i ∙ ap (star_or_column u.0) m)
 
-      front : (room : Room) (ts : List Lexeme) → (el E room (seq word dot_star_or_name)).front ts → (el E room (star_or_first word (with_dot dot_name column_of word))).front ts
-      front room ts (inl w) = inr (inl w)
-      front room ts (inr (x, y, u, e, w, inl (inl d))) = inr (inr (x, y, u, e, w, inl (inl d)))
-      front room ts (inr (x, y, u, e, w, inl (inr (x1, y1, c, e1, d, inl s)))) = inl (inr (x, y, u, e, w, inr (x1, y1, c, e1, d, s)))
-      front room ts (inr (x, y, u, e, w, inl (inr (x1, y1, c, e1, d, inr s)))) = inr (inr (x, y, u, e, w, inl (inr (x1, y1, c, e1, d, s))))
-      front room ts (inr (x, y, u, e, w, inr n)) = inr (inr (x, y, u, e, w, inr n))
+      prefix : (room : Room) (ts : List Lexeme) → (el E room (seq word dot_star_or_name)).prefix ts → (el E room (star_or_first word (with_dot dot_name column_of word))).prefix ts
+      prefix room ts (inl w) = inr (inl w)
+      prefix room ts (inr (x, y, u, e, w, inl (inl d))) = inr (inr (x, y, u, e, w, inl (inl d)))
+      prefix room ts (inr (x, y, u, e, w, inl (inr (x1, y1, c, e1, d, inl s)))) = inl (inr (x, y, u, e, w, inr (x1, y1, c, e1, d, s)))
+      prefix room ts (inr (x, y, u, e, w, inl (inr (x1, y1, c, e1, d, inr s)))) = inr (inr (x, y, u, e, w, inl (inr (x1, y1, c, e1, d, s))))
+      prefix room ts (inr (x, y, u, e, w, inr n)) = inr (inr (x, y, u, e, w, inr n))
 
       spelled_back : (room : Room) (ts : List Lexeme) (v : Starred) → (el E room (star_or_first word (with_dot dot_name column_of word))).spells ts v
           → (el E room (with_dot dot_star_or_name star_or_column word)).spells ts v
@@ -177,14 +177,14 @@ module _ {E : Names} where
           ((u.0, Some (inr p.1)), (x, y, e, w, inl (inr p.1, ((p.0, inr p.1), (x1, y1, e1, d, inr (p.1, s, refl)), refl), refl)), i ∙ ap right_of (l ∙ ap (column_of u.0) (m ∙ ap (λ q. Some q) j)))
       spelled_back room ts v (inr (z, (u, (x, y, e, w, inr (c, n, m)), l), i)) = ((u.0, None), (x, y, e, w, inr (tt, n, refl)), i ∙ ap right_of (l ∙ ap (column_of u.0) m))
 
-      front_back : (room : Room) (ts : List Lexeme) → (el E room (star_or_first word (with_dot dot_name column_of word))).front ts → (el E room (seq word dot_star_or_name)).front ts
-      front_back room ts (inl (inl w)) = inl w
-      front_back room ts (inl (inr (x, y, u, e, w, inl d))) = inr (x, y, u, e, w, inl (inl d))
-      front_back room ts (inl (inr (x, y, u, e, w, inr (x1, y1, c, e1, d, s)))) = inr (x, y, u, e, w, inl (inr (x1, y1, c, e1, d, inl s)))
-      front_back room ts (inr (inl w)) = inl w
-      front_back room ts (inr (inr (x, y, u, e, w, inl (inl d)))) = inr (x, y, u, e, w, inl (inl d))
-      front_back room ts (inr (inr (x, y, u, e, w, inl (inr (x1, y1, c, e1, d, s))))) = inr (x, y, u, e, w, inl (inr (x1, y1, c, e1, d, inr s)))
-      front_back room ts (inr (inr (x, y, u, e, w, inr n))) = inr (x, y, u, e, w, inr n)
+      prefix_back : (room : Room) (ts : List Lexeme) → (el E room (star_or_first word (with_dot dot_name column_of word))).prefix ts → (el E room (seq word dot_star_or_name)).prefix ts
+      prefix_back room ts (inl (inl w)) = inl w
+      prefix_back room ts (inl (inr (x, y, u, e, w, inl d))) = inr (x, y, u, e, w, inl (inl d))
+      prefix_back room ts (inl (inr (x, y, u, e, w, inr (x1, y1, c, e1, d, s)))) = inr (x, y, u, e, w, inl (inr (x1, y1, c, e1, d, inl s)))
+      prefix_back room ts (inr (inl w)) = inl w
+      prefix_back room ts (inr (inr (x, y, u, e, w, inl (inl d)))) = inr (x, y, u, e, w, inl (inl d))
+      prefix_back room ts (inr (inr (x, y, u, e, w, inl (inr (x1, y1, c, e1, d, s))))) = inr (x, y, u, e, w, inl (inr (x1, y1, c, e1, d, inr s)))
+      prefix_back room ts (inr (inr (x, y, u, e, w, inr n))) = inr (x, y, u, e, w, inr n)
 
   pub starred_parts : (word : The Lexeme) (args : The (Lexeme → Built Expr))
       → Alike kind_of E (word_with word args dot_star_or_name star_or_column right_of) (star_or_first word (word_with word args dot_name column_of (λ x. x)))
@@ -201,12 +201,12 @@ module _ {E : Names} where
   -- behind a NOT, and behind none
   pub given_parts : {A : Type 0} (h : A → Test) (f : The A) → Alike kind_of E (given h f) (alt (map negated (seq (a k.Not) (map h f))) (map alone (map h f)))
   given_parts h f =
-      both_below (record { holds = λ room. record { spells = spells room; front = front room } }) (either (record {
-        holds = λ room. record { spells = λ ts v (u, (x, y, e, n, (b, s, l)), i). ((Some u.0, b), (x, y, e, inl (u.0, n, refl), s), i ∙ ap (λ g. g (Some u.0)) l); front = not_front room };
+      both_below (record { holds = λ room. record { spells = spells room; prefix = prefix room } }) (either (record {
+        holds = λ room. record { spells = λ ts v (u, (x, y, e, n, (b, s, l)), i). ((Some u.0, b), (x, y, e, inl (u.0, n, refl), s), i ∙ ap (λ g. g (Some u.0)) l); prefix = not_prefix room };
       }) (record {
         holds = λ room. record {
           spells = λ ts v (g, (b, s, l), i). ((None, b), ([], ts, refl, inr (tt, refl, refl), s), i ∙ ap (λ m. m None) l);
-          front = λ ts s. inr ([], ts, None, refl, inr (tt, refl, refl), s);
+          prefix = λ ts s. inr ([], ts, None, refl, inr (tt, refl, refl), s);
         };
       }))
     where
@@ -215,15 +215,15 @@ module _ {E : Names} where
       spells room ts v (u, (x, y, e, inr (w, n, j), s), i) =
           inr (h u.1, (u.1, subst (λ z. (el E room f).spells z u.1) (sym (e ∙ ap (λ z. z ++ y) n)) s, refl), i ∙ ap (λ z left. h u.1 z left) j)
 
-      front : (room : Room) (ts : List Lexeme) → (el E room (given h f)).front ts → (el E room (alt (map negated (seq (a k.Not) (map h f))) (map alone (map h f)))).front ts
-      front room ts (inl (inl n)) = inl (inl n)
-      front room ts (inl (inr e)) = inl (inl (inl e))
-      front room ts (inr (x, y, o, e, inl (w, n, j), s)) = inl (inr (x, y, w, e, n, s))
-      front room ts (inr (x, y, o, e, inr (w, n, j), s)) = inr (subst (el E room f).front (sym (e ∙ ap (λ z. z ++ y) n)) s)
+      prefix : (room : Room) (ts : List Lexeme) → (el E room (given h f)).prefix ts → (el E room (alt (map negated (seq (a k.Not) (map h f))) (map alone (map h f)))).prefix ts
+      prefix room ts (inl (inl n)) = inl (inl n)
+      prefix room ts (inl (inr e)) = inl (inl (inl e))
+      prefix room ts (inr (x, y, o, e, inl (w, n, j), s)) = inl (inr (x, y, w, e, n, s))
+      prefix room ts (inr (x, y, o, e, inr (w, n, j), s)) = inr (subst (el E room f).prefix (sym (e ∙ ap (λ z. z ++ y) n)) s)
 
-      not_front : (room : Room) (ts : List Lexeme) → (el E room (seq (a k.Not) (map h f))).front ts → (el E room (given h f)).front ts
-      not_front room ts (inl n) = inl (inl n)
-      not_front room ts (inr (x, y, w, e, n, s)) = inr (x, y, Some w, e, inl (w, n, refl), s)
+      not_prefix : (room : Room) (ts : List Lexeme) → (el E room (seq (a k.Not) (map h f))).prefix ts → (el E room (given h f)).prefix ts
+      not_prefix room ts (inl n) = inl (inl n)
+      not_prefix room ts (inr (x, y, w, e, n, s)) = inr (x, y, Some w, e, inl (w, n, refl), s)
 
 -- ---- kinds of names
 
@@ -243,14 +243,14 @@ aggregate_by_kind kind e = e
 module _ (variant : Variant) where
   -- a token of either set
   token_parts : (p q r : Kind → Bool) → ((kind : Kind) → p kind ≡ true → (q kind || r kind) ≡ true) → Below (P variant) (token p) (alt (token q) (token r))
-  token_parts p q r m = record { holds = λ room. record { spells = spells room; front = front room } }
+  token_parts p q r m = record { holds = λ room. record { spells = spells room; prefix = prefix room } }
     where
       spells : (room : Room) (ts : List Lexeme) (v : Lexeme) → (fl variant room (token p)).spells ts v → (fl variant room (alt (token q) (token r))).spells ts v
       spells room ts v (e, s) = elim (or_cases (q (kind_of v)) (r (kind_of v)) (m (kind_of v) s)) [ inl x ↦ inl (e, x) | inr y ↦ inr (e, y) ]
 
-      front : (room : Room) (ts : List Lexeme) → (fl variant room (token p)).front ts → (fl variant room (alt (token q) (token r))).front ts
-      front room ts (inl e) = inl (inl e)
-      front room ts (inr (v, e, s)) = elim (or_cases (q (kind_of v)) (r (kind_of v)) (m (kind_of v) s)) [ inl x ↦ inl (inr (v, e, x)) | inr y ↦ inr (inr (v, e, y)) ]
+      prefix : (room : Room) (ts : List Lexeme) → (fl variant room (token p)).prefix ts → (fl variant room (alt (token q) (token r))).prefix ts
+      prefix room ts (inl e) = inl (inl e)
+      prefix room ts (inr (v, e, s)) = elim (or_cases (q (kind_of v)) (r (kind_of v)) (m (kind_of v) s)) [ inl x ↦ inl (inr (v, e, x)) | inr y ↦ inr (inr (v, e, y)) ]
 
   abbrev after_quoted : Kind → Bool
   after_quoted kind = among (k.Word ∷ k.Key ∷ k.View ∷ k.Index ∷ []) kind || (same k.Count kind || among (k.Sum ∷ k.Avg ∷ k.Min ∷ k.Max ∷ []) kind)

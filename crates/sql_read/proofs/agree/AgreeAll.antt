@@ -1,4 +1,4 @@
--- All readers agree with the plan: each level from the one below it, and so, by induction, all of them.
+-- All readers agree with the left-factored grammar: each level from the one below it, and so, by induction, all of them.
 use Rattle.std.proofs.Common.{◌≡◌, ◌-◌, sym, ℕ, zero, suc, Result, Ok, Err, subst, arith}
 use Rattle.grammar.specs.Form.{ref}
 use Rattle.sql_read.specs.declared.fault.ReadFault.{ReadFault}

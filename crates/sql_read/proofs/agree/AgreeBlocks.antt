@@ -1,4 +1,4 @@
--- The readers of blocks and of their clauses agree with the plan.
+-- The readers of blocks and of their clauses agree with the left-factored grammar.
 use Rattle.std.proofs.Common.{◌≡◌, ℕ, ◌+◌, Bool, true, List, [], ◌∷◌, ◌++◌, codes, Option, Some, None, Ok, refl, sym, ap, arith, inl}
 use Rattle.grammar.specs.Form.{ref, seq}
 use Rattle.grammar.specs.Productions.{optional, skip_then}
@@ -22,12 +22,12 @@ use Rattle.sql_grammar.specs.QueryGrammar as grammar
 use Rattle.sql_grammar.specs.QueryGrammar.{The, listed}
 use Rattle.sql_grammar.specs.QueryTrees.{all_entries, all_of, block_node, block_of, columns_of, is_given}
 use Rattle.sql_grammar.proofs.copies.QueryFillings.{fill_block, fill_from, fill_froms, fill_groups, fill_having, fill_listed, fill_none, fill_reference, fill_seq, fill_token, fill_where, word}
-use Rattle.sql_grammar.proofs.queries.QueryTable.{planned}
-use Rattle.grammar.proofs.plans.Alike.{itself}
+use Rattle.sql_grammar.proofs.queries.QueryTable.{left_factored}
+use Rattle.grammar.proofs.factorings.Alike.{itself}
 use Rattle.sql_read.proofs.steps.AgreeChains.{listed_agrees}
 use Rattle.sql_read.proofs.steps.AgreeLoops.{parts_repeat, skipped_word}
 use Rattle.sql_read.proofs.steps.AgreeSteps.{by_eaten_alone, none_here}
-use Rattle.sql_read.proofs.steps.Agreeing.{Agrees, AgreesWithin, Remains, RemainsIn, all_left, behind, behind_taken, built, by_eaten, by_expected, by_read, by_token, first_of, first_to, inside, makes, mapped, mapped_to, needs_at, production, refused_here, second, second_to, stopped, then_part, then_rest, whole, whole_in}
+use Rattle.sql_read.proofs.steps.Agreeing.{Agrees, AgreesWithin, Residual, ResidualIn, all_left, behind, behind_taken, built, by_eaten, by_expected, by_read, by_token, first_of, first_to, inside, makes, mapped, mapped_to, needs_at, production, refused_here, second, second_to, stopped, then_part, then_rest, whole, whole_in}
 use Rattle.sql_read.proofs.steps.Extending.{◌⨟◌, extends_itself, extends_passes}
 use Rattle.sql_read.proofs.steps.ReadLoops.{begins_skip, takes}
 use Rattle.sql_read.proofs.steps.ReadPassing.{◌then◌, Alike, alike_passes, built_from}
@@ -59,7 +59,7 @@ module _ (levels : ℕ) where
   Grouped start r = Agrees grammar.group_by levels columns columns start start (r >>= λ found. done (Some found))
 
   -- behind GROUP BY
-  columns_agree : (c next : Cursor) → Alike c next → Remains (listed (ref grammar.reference)) levels next grammar.group_by levels c (λ v. Some v) → Grouped c (r.listed reference next)
+  columns_agree : (c next : Cursor) → Alike c next → Residual (listed (ref grammar.reference)) levels next grammar.group_by levels c (λ v. Some v) → Grouped c (r.listed reference next)
   columns_agree c next alike l =
       by_read (Grouped c) (Agrees (ref grammar.reference) levels plain plain next next) (reference next) _ (reference_agrees levels next)
       (λ x end t. let first = t.reads.answers in
@@ -84,8 +84,8 @@ module _ (levels : ℕ) (deeper : Deeper) (d : DeeperAgrees levels deeper) where
   abbrev clause : Kind → The (Option (Built Expr))
   clause word = optional (skip_then (grammar.a word) (ref grammar.expr))
 
-  condition_agrees : (word : Kind) → ok planned (clause word) ≡ true → ok planned (seq (grammar.a word) (ref grammar.expr)) ≡ true → begins_with (same word) (ahead planned (skip_then (grammar.a word) (ref grammar.expr))) ≡ true
-      → ok planned (skip_then (grammar.a word) (ref grammar.expr)) ≡ true → (c : Cursor) → Agrees (clause word) levels perhaps perhaps c c (condition levels deeper word c)
+  condition_agrees : (word : Kind) → ok left_factored (clause word) ≡ true → ok left_factored (seq (grammar.a word) (ref grammar.expr)) ≡ true → begins_with (same word) (ahead left_factored (skip_then (grammar.a word) (ref grammar.expr))) ≡ true
+      → ok left_factored (skip_then (grammar.a word) (ref grammar.expr)) ≡ true → (c : Cursor) → Agrees (clause word) levels perhaps perhaps c c (condition levels deeper word c)
   unfolding condition
   condition_agrees word o s w i c = by_eaten (Agrees (clause word) levels perhaps perhaps c c) (same word) c _
       (λ t mid q. makes (expr levels deeper mid) (λ x. Some x) (behind (mapped (mapped (by_token (whole {start = c}) o q (inl (starts q))))) s q)
@@ -105,15 +105,15 @@ module _ (levels : ℕ) (deeper : Deeper) (d : DeeperAgrees levels deeper) where
   abbrev few_block : The (Lexeme × (Option Lexeme × (Items × Clauses)))
   few_block = seq (grammar.a kind.Select) (seq (optional (grammar.a kind.Distinct)) (after_distinct fewer_froms))
 
-  block_whole : (c : Cursor) → RemainsIn entries_too (seq (grammar.a kind.Select) (seq (optional (grammar.a kind.Distinct)) (after_distinct any_froms))) (few_form few_block) levels c (ref grammar.block)
+  block_whole : (c : Cursor) → ResidualIn entries_too (seq (grammar.a kind.Select) (seq (optional (grammar.a kind.Distinct)) (after_distinct any_froms))) (few_form few_block) levels c (ref grammar.block)
       (few_form (ref grammar.block)) levels c
       (λ p. block_of p.1.0 p.1.1.0 p.1.1.1.0 p.1.1.1.1.0 p.1.1.1.1.1.0 p.1.1.1.1.1.1)
   block_whole c = mapped_to few_block (mapped_to (skip_then (grammar.a kind.Select) (seq (optional (grammar.a kind.Distinct)) (after_distinct fewer_froms))) (production grammar.block (whole {start = c})))
 
   distinct_left : {c m n : Cursor} {found : Option Lexeme} {h : Option Lexeme × (Items × Clauses) → Built Query}
-      → RemainsIn entries_too (seq (optional (grammar.a kind.Distinct)) (after_distinct any_froms)) (few_form (seq (optional (grammar.a kind.Distinct)) (after_distinct fewer_froms))) levels m
+      → ResidualIn entries_too (seq (optional (grammar.a kind.Distinct)) (after_distinct any_froms)) (few_form (seq (optional (grammar.a kind.Distinct)) (after_distinct fewer_froms))) levels m
       (ref grammar.block) (few_form (ref grammar.block)) levels c h
-      → Takes (optional (grammar.a kind.Distinct)) levels m.tokens found n.tokens → Extends m n → RemainsIn entries_too (after_distinct any_froms) (few_form (after_distinct fewer_froms)) levels n (ref grammar.block)
+      → Takes (optional (grammar.a kind.Distinct)) levels m.tokens found n.tokens → Extends m n → ResidualIn entries_too (after_distinct any_froms) (few_form (after_distinct fewer_froms)) levels n (ref grammar.block)
       (few_form (ref grammar.block)) levels c (λ p. h (found, p))
   distinct_left l t x = second_to (itself (optional (grammar.a kind.Distinct))) distinct_below l refl t x
 
@@ -123,7 +123,7 @@ module _ (levels : ℕ) (deeper : Deeper) (d : DeeperAgrees levels deeper) where
 
   module _ {c start m : Cursor} (alike : Alike c start) (distinct : Option Lexeme) {is : List Item} (t : AgreesWithin entries_too (listed (ref grammar.item))
       (few_form (listed (ref grammar.item))) levels all_items all_items start start (Ok is, m))
-      (l : RemainsIn entries_too (after_items any_froms) (few_form (after_items fewer_froms)) levels m (ref grammar.block) (few_form (ref grammar.block)) levels c
+      (l : ResidualIn entries_too (after_items any_froms) (few_form (after_items fewer_froms)) levels m (ref grammar.block) (few_form (ref grammar.block)) levels c
       (λ p. block_of distinct t.reads.answers.read p.0 p.1.0 p.1.1.0 p.1.1.1)) where
     module _ {n o : Cursor} {word : Lexeme} (from : Passes (same kind.From) m word n) {es : List Entry} (u : Listed n (Ok es, o)) where
       abbrev item_list : Items
@@ -132,22 +132,22 @@ module _ (levels : ℕ) (deeper : Deeper) (d : DeeperAgrees levels deeper) where
       abbrev from_list : grammar.Froms
       from_list = u.reads.answers.read
 
-      priced : o.copies ≡ c.copies + ((each (all_of item_list)).copies + (each (all_of from_list)).copies)
-      priced = omega (arith, alike.copies, t.reads.answers.builds.copies, (alike_passes from).copies, u.reads.answers.builds.copies)
+      costed : o.copies ≡ c.copies + ((each (all_of item_list)).copies + (each (all_of from_list)).copies)
+      costed = omega (arith, alike.copies, t.reads.answers.builds.copies, (alike_passes from).copies, u.reads.answers.builds.copies)
 
-      behind_entries : Remains after_from levels o (ref grammar.block) levels c (λ p. block_of distinct item_list from_list p.0 p.1.0 p.1.1) → Block c (clauses levels deeper (is_given distinct) is es o)
+      behind_entries : Residual after_from levels o (ref grammar.block) levels c (λ p. block_of distinct item_list from_list p.0 p.1.0 p.1.1) → Block c (clauses levels deeper (is_given distinct) is es o)
       unfolding clauses
       behind_entries l =
           then_rest (condition levels deeper kind.Where o) (condition_agrees kind.Where refl refl refl refl o)
           (λ wc g z. let cond = z.reads.answers in
           then_rest (group_by g) (group_by_agrees levels g)
           (λ gs h y. let groups = y.reads.answers in
-          makes (condition levels deeper kind.Having h) (λ hv. block_node (is_given distinct) is es wc gs hv) (second (second l refl z) refl y) (λ v. omega (arith, priced, cond.builds.copies, groups.builds.copies))
+          makes (condition levels deeper kind.Having h) (λ hv. block_node (is_given distinct) is es wc gs hv) (second (second l refl z) refl y) (λ v. omega (arith, costed, cond.builds.copies, groups.builds.copies))
           (λ v hv end x. block_built distinct item_list from_list cond.read groups.read v (built_from alike t.reads.answers.builds) (built_from (alike_passes from) u.reads.answers.builds) cond.builds
           (built_columns groups.read groups.builds) (built_from (alike_columns groups.read groups.builds) x))
           (condition_agrees kind.Having refl refl refl refl h))
-          (second l refl z) refl fill_having (λ v. omega (arith, priced, cond.builds.copies)))
-          l refl fill_groups (λ v. omega (arith, priced))
+          (second l refl z) refl fill_having (λ v. omega (arith, costed, cond.builds.copies)))
+          l refl fill_groups (λ v. omega (arith, costed))
 
     behind_items : Block c (expected (same kind.From) m >>= λ word c. entries levels deeper c >>= clauses levels deeper (is_given distinct) is)
     behind_items =
@@ -160,7 +160,7 @@ module _ (levels : ℕ) (deeper : Deeper) (d : DeeperAgrees levels deeper) where
         (λ es o u. behind_entries from u (second_to clause_below (itself after_from) l refl (takes froms.left u.reads.answers.takes) (extends_passes from ⨟ u.extends))))
 
   -- behind DISTINCT, or where none stands
-  behind_distinct : {c n : Cursor} → Alike c n → (distinct : Option Lexeme) → RemainsIn entries_too (after_distinct any_froms) (few_form (after_distinct fewer_froms)) levels n (ref grammar.block)
+  behind_distinct : {c n : Cursor} → Alike c n → (distinct : Option Lexeme) → ResidualIn entries_too (after_distinct any_froms) (few_form (after_distinct fewer_froms)) levels n (ref grammar.block)
       (few_form (ref grammar.block)) levels c
       (λ p. block_of distinct p.0 p.1.0 p.1.1.0 p.1.1.1.0 p.1.1.1.1)
       → Block c (from_items (is_given distinct) n)

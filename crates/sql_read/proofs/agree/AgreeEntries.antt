@@ -1,4 +1,4 @@
--- The readers of an entry of FROM agree with the plan, where an entry is allowed behind so many.
+-- The readers of an entry of FROM agree with the left-factored grammar, where an entry is allowed behind so many.
 use Rattle.std.proofs.Common.{◌≡◌, ℕ, true, false, ◌∷◌, codes, Option, Some, None, Result, Ok, Err, refl, sym, subst, arith, [], ap, Bool, ◌<◌, ◌∙◌}
 use Rattle.grammar.specs.Form.{ref, seq}
 use Rattle.grammar.specs.Productions.{optional, skip_then}
@@ -21,15 +21,15 @@ use Rattle.sql_grammar.specs.QueryGrammar.{parens}
 use Rattle.sql_grammar.specs.QueryTrees as t
 use Rattle.sql_grammar.specs.QueryTrees.{entry_of}
 use Rattle.sql_grammar.proofs.copies.QueryFillings.{Filled, number_one, fill_entry, fill_expr, fill_query, fill_seq, fill_second, fill_token, symbol, word}
-use Rattle.sql_grammar.proofs.queries.QueryTable.{planned}
+use Rattle.sql_grammar.proofs.queries.QueryTable.{left_factored}
 use Rattle.sql_grammar.proofs.queries.QueryWords.{Below}
-use Rattle.grammar.proofs.plans.Alike.{below_seq, itself}
-use Rattle.sql_grammar.specs.QueryPlan.{of_plan}
+use Rattle.grammar.proofs.factorings.Alike.{below_seq, itself}
+use Rattle.sql_grammar.specs.FactoredQueries.{of_factored}
 use Rattle.grammar.proofs.readers.Begun.{nothing_began}
 use Rattle.sql_read.specs.declared.fault.ReadFault.TheVariants.{TooDeep}
 use Rattle.sql_read.proofs.steps.AgreeDeeper.{DeeperAgrees}
 use Rattle.sql_read.proofs.steps.AgreeSteps.{by_eaten_alone, fill_group}
-use Rattle.sql_read.proofs.steps.Agreeing.{Agrees, AgreesWithin, Remains, RemainsIn, StopsIn, all_left, behind, behind_taken, built, by_eaten, by_next, ends_in, first, first_of, first_to, inside, mapped, mapped_to, needs_at, nested, one_to, other, other_to, production, second, second_to, then_part, too_deep_here, whole, by_expected, missing, refused_here, whole_in}
+use Rattle.sql_read.proofs.steps.Agreeing.{Agrees, AgreesWithin, Residual, ResidualIn, StopsIn, all_left, behind, behind_taken, built, by_eaten, by_next, ends_in, first, first_of, first_to, inside, mapped, mapped_to, needs_at, nested, one_to, other, other_to, production, second, second_to, then_part, too_deep_here, whole, by_expected, missing, refused_here, whole_in}
 use Rattle.sql_read.proofs.steps.Extending.{◌⨟◌, extends_itself, extends_passes, extends_within}
 use Rattle.sql_read.proofs.agree.AgreeItems.{fill_alias, alias_agrees, table_entry_agrees}
 use Rattle.sql_read.proofs.steps.ReadCopies.{copied_before}
@@ -59,8 +59,8 @@ module _ (levels : ℕ) (deeper : Deeper) (d : DeeperAgrees levels deeper) where
   EntryRead c r = Agrees (ref grammar.entry) levels (λ read. read) (λ read. read) c c r
 
   module _ (c : Cursor) (n : is_next (same k.Open) c.tokens ≡ true) where
-    entry_left : Remains (seq (parens (ref grammar.query)) grammar.alias) levels c (ref grammar.entry) levels c (λ p. t.query_entry p.0 p.1)
-    entry_left = mapped (other (production grammar.entry (whole {start = c})) refl (absent_where (same k.Open) (ahead planned (seq grammar.name (optional grammar.alias))) refl c.tokens n))
+    entry_left : Residual (seq (parens (ref grammar.query)) grammar.alias) levels c (ref grammar.entry) levels c (λ p. t.query_entry p.0 p.1)
+    entry_left = mapped (other (production grammar.entry (whole {start = c})) refl (absent_where (same k.Open) (ahead left_factored (seq grammar.name (optional grammar.alias))) refl c.tokens n))
 
     -- the query in parentheses
     in_parens : StopsIn entries_too (parens (ref grammar.query)) (few_form (parens (ref grammar.query))) levels c (ref grammar.entry) (few_form (ref grammar.entry)) levels c (λ q. t.query_entry q (word (codes "a")))
@@ -88,7 +88,7 @@ module _ (levels : ℕ) (deeper : Deeper) (d : DeeperAgrees levels deeper) where
   one_entry_agrees c =
       by_eaten_alone (EntryRead c) k.Open c levels _ (λ open_ mid i. query_entry_agrees c mid open_ i)
       (λ at full. too_deep_here (inside (in_parens c full.next) (all_left (mapped whole))) (fill_group fill_query) (omega arith) (overflows full))
-      (λ n. ends_in (reading.table_entry c) (mapped (first (production grammar.entry whole) refl (absent_unless (same k.Open) (ahead planned (seq (parens (ref grammar.query)) grammar.alias)) refl c.tokens n)))
+      (λ n. ends_in (reading.table_entry c) (mapped (first (production grammar.entry whole) refl (absent_unless (same k.Open) (ahead left_factored (seq (parens (ref grammar.query)) grammar.alias)) refl c.tokens n)))
       (λ v. refl) (table_entry_agrees levels c))
 
   abbrev Behind : ℕ → Cursor → Reading Listed → Type 0
@@ -101,7 +101,7 @@ module _ (levels : ℕ) (deeper : Deeper) (d : DeeperAgrees levels deeper) where
     nested_too_deep : {at : ℕ} → Overflows (same k.Open) levels c (TooDeep at) c → RefusesWithin entries_too (ref grammar.entry) (few_form (entry_behind count)) levels c (TooDeep at) c
     nested_too_deep full =
         let x = steps.refuses {s = c} (inside (in_parens c full.next) (all_left (mapped whole))).blocks (overflows full) in
-        record { says = record { exceeded = x.says.exceeded; few = λ n. nothing_began (few_form (entry_behind count)) (fewer_within (entry_below (fits count))).fronts c.tokens; place = x.says.place } }
+        record { says = record { exceeded = x.says.exceeded; few = λ n. nothing_began (few_form (entry_behind count)) (fewer_within (entry_below (fits count))).prefixes c.tokens; place = x.says.place } }
 
     -- none fits, and yet one is allowed, since none begins here
     none_fits : {done : Unit {0}} → fits count ≡ false → Ok done ≡ allowed_entry levels count c.tokens → Behind count c (one_entry c)
@@ -143,15 +143,15 @@ fill_condition = fill_second (fill_token k.On (word (codes "on")) refl refl) fil
 
 module _ (levels count : ℕ) (c : Cursor) where
   cross_left : is_next (same k.Cross) c.tokens ≡ true
-      → RemainsIn entries_too (seq cross_words (ref grammar.entry)) (few_form (seq cross_words (entry_behind count))) levels c joins (few_form (joins_behind count)) levels c (λ p. t.cross_joined p.1)
+      → ResidualIn entries_too (seq cross_words (ref grammar.entry)) (few_form (seq cross_words (entry_behind count))) levels c joins (few_form (joins_behind count)) levels c (λ p. t.cross_joined p.1)
   cross_left n = mapped_to (seq cross_words (entry_behind count)) (mapped_to (skip_then cross_words (entry_behind count))
-      (other_to (cross_of (entry_behind count)) whole_in (on_below (fits count)) refl (absent_where (same k.Cross) (ahead planned grammar.join_on) refl c.tokens n)))
+      (other_to (cross_of (entry_behind count)) whole_in (on_below (fits count)) refl (absent_where (same k.Cross) (ahead left_factored grammar.join_on) refl c.tokens n)))
 
   on_left : is_next (same k.Cross) c.tokens ≡ false
-      → RemainsIn entries_too (seq on_words (seq (ref grammar.entry) condition)) (few_form (seq on_words (seq (entry_behind count) condition))) levels c joins (few_form (joins_behind count)) levels c
+      → ResidualIn entries_too (seq on_words (seq (ref grammar.entry) condition)) (few_form (seq on_words (seq (entry_behind count) condition))) levels c joins (few_form (joins_behind count)) levels c
       (λ p. t.joined_on p.1.0 p.1.1)
   on_left n = mapped_to (seq on_words (seq (entry_behind count) condition)) (mapped_to (skip_then on_words (seq (entry_behind count) condition))
-      (one_to (on_of (entry_behind count)) whole_in (cross_below (fits count)) refl (absent_unless (same k.Cross) (ahead planned grammar.cross_join) refl c.tokens n)))
+      (one_to (on_of (entry_behind count)) whole_in (cross_below (fits count)) refl (absent_unless (same k.Cross) (ahead left_factored grammar.cross_join) refl c.tokens n)))
 
 module _ (levels : ℕ) (deeper : Deeper) (d : DeeperAgrees levels deeper) (count : ℕ) (c : Cursor) where
   abbrev pub Joins : Reading (Option Entry) → Type 0
@@ -174,7 +174,7 @@ module _ (levels : ℕ) (deeper : Deeper) (d : DeeperAgrees levels deeper) (coun
   behind_join c =
       expected (same k.Join) c >>= λ join c. entry levels deeper count c >>= λ listed c. expected (same k.On) c >>= λ word c. reading.expr levels deeper c >>= λ on. done (Some (entry_of true (Some on) listed))
 
-  both_below : Below of_plan (seq (entry_behind count) condition) (seq (ref grammar.entry) condition)
+  both_below : Below of_factored (seq (entry_behind count) condition) (seq (ref grammar.entry) condition)
   both_below = below_seq (entry_below (fits count)) (itself condition)
 
   -- behind INNER, if it stands there

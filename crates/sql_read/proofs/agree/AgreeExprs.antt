@@ -1,4 +1,4 @@
--- The readers of expressions agree with the plan: NOT, AND and OR, what follows a first part, and arguments.
+-- The readers of expressions agree with the left-factored grammar: NOT, AND and OR, what follows a first part, and arguments.
 use Rattle.std.proofs.Common.{ℕ, ◌-◌, codes, Option, Some, None, refl, ap, subst, inl, arith, [], ◌+◌, ◌≡◌, ◌∙◌, ◌||◌, Bool, true, false, List, ◌∷◌, Ok, Err, sym}
 use Rattle.std.proofs.lemmas.Bool.{false_from_ne_true, or_from}
 use Rattle.grammar.specs.Form.{alt, ref, seq}
@@ -17,7 +17,7 @@ use Rattle.sql_grammar.specs.Kinds.{among, kind_of, same, every_kind}
 use Rattle.sql_grammar.specs.Numbering.{Built, each}
 use Rattle.sql_grammar.specs.QueryGrammar as grammar
 use Rattle.sql_grammar.specs.QueryGrammar.{The, a, exists, listed, next_and, next_or, next_sum, not_neg}
-use Rattle.sql_grammar.specs.QueryPlan.{one_argument}
+use Rattle.sql_grammar.specs.FactoredQueries.{one_argument}
 use Rattle.sql_grammar.specs.QueryTrees.{aggregate, and_node, chained, is_given, listed_or_none, not_of, operated, or_node}
 use Rattle.sql_grammar.proofs.copies.QueryFillings.{fill_absent, fill_none, fill_other, fill_seq, fill_test, fill_token, Filled, fill_map, fill_neg, fill_nest, fill_one, number_one, word}
 use Rattle.sql_read.proofs.steps.AgreeChains.{parts_agree, listed_agrees}
@@ -26,7 +26,7 @@ use Rattle.sql_read.proofs.steps.AgreeSteps.{first_next, may_open, none_here, on
 use Rattle.sql_read.proofs.agree.AgreeNames.{word_kinds}
 use Rattle.sql_read.proofs.agree.AgreeTests.{exists_agrees, test_agrees, tested_agrees}
 use Rattle.sql_read.proofs.agree.AgreePrimaries.{products_agrees, sums_agrees}
-use Rattle.sql_read.proofs.steps.Agreeing.{Agrees, Remains, behind, behind_taken, built, by_eaten, by_next, makes, ends_in, mapped, production, second, then_rest, then_tail, whole}
+use Rattle.sql_read.proofs.steps.Agreeing.{Agrees, Residual, behind, behind_taken, built, by_eaten, by_next, makes, ends_in, mapped, production, second, then_rest, then_tail, whole}
 use Rattle.sql_read.proofs.steps.Extending.{extends_itself, extends_passes}
 use Rattle.sql_read.proofs.steps.ReadPassing.{Alike, alike_passes, alike_within, built_from}
 use Rattle.sql_read.proofs.steps.ReadSteps as steps
@@ -81,7 +81,7 @@ module _ (levels : ℕ) (deeper : Deeper) (d : DeeperAgrees levels deeper) where
   -- ---- NOT
 
   -- behind NOT
-  not_agrees : {N : The (Built Expr)} {c : Cursor} (word : Lexeme) (mid : Cursor) → PassesWithin (same k.Not) levels c word mid → Remains (ref grammar.neg) (levels - 1) mid N levels c (λ x. not_of (word, x))
+  not_agrees : {N : The (Built Expr)} {c : Cursor} (word : Lexeme) (mid : Cursor) → PassesWithin (same k.Not) levels c word mid → Residual (ref grammar.neg) (levels - 1) mid N levels c (λ x. not_of (word, x))
       → Agrees N levels (λ read. read) (λ read. read) c c (negated levels deeper word mid)
   not_agrees word mid i l = makes (deeper.neg mid) (λ part. an_expr.Not part word.start) l (λ v. omega (arith, ap (λ z. z.copies) i.passes.moved))
       (λ v x end b. built_map (λ part. an_expr.Not part word.start) (built_from (alike_within i) b)) ((d i.room_left).neg mid)

@@ -1,4 +1,4 @@
--- The readers of FROM agree with the plan: an item of it, as part of the one list of all entries of a block, and all items.
+-- The readers of FROM agree with the left-factored grammar: an item of it, as part of the one list of all entries of a block, and all items.
 use Rattle.std.proofs.Common.{◌≡◌, ℕ, zero, suc, ◌+◌, ◌-◌, ◌<◌, Bool, true, false, List, [], ◌∷◌, ◌++◌, length, length-append, Option, Some, None, Ok, Err, inl, inr, refl, sym, ◌∙◌, ap, subst, append_assoc, arith}
 use Rattle.std.proofs.lemmas.Bool.{false_from_ne_true, ltb-true}
 use Rattle.std.proofs.lemmas.List.{append-nil}
@@ -23,18 +23,18 @@ use Rattle.sql_grammar.specs.QueryGrammar.{The, listed}
 use Rattle.sql_grammar.specs.QueryTrees as t
 use Rattle.sql_grammar.specs.QueryTrees.{all_entries, appended, concatenated, entry_of}
 use Rattle.sql_grammar.proofs.copies.QueryFillings.{fill_none}
-use Rattle.sql_grammar.proofs.queries.QueryTable.{planned}
+use Rattle.sql_grammar.proofs.queries.QueryTable.{left_factored}
 use Rattle.sql_read.proofs.agree.AgreeEntries.{found, entry_agrees, by_join}
 use Rattle.sql_read.proofs.steps.AgreeLoops.{IsSame, built_same, next_behind, next_of, repeats, skipped_word, so}
 use Rattle.sql_read.proofs.steps.AgreeSteps.{by_eaten_alone}
-use Rattle.sql_read.proofs.steps.Agreeing.{AgreesWithin, RemainsIn, behind_taken, built, by_read, first_of, mapped, production, second, stopped, whole}
+use Rattle.sql_read.proofs.steps.Agreeing.{AgreesWithin, ResidualIn, behind_taken, built, by_read, first_of, mapped, production, second, stopped, whole}
 use Rattle.sql_read.proofs.parts.ReadChains.{each_more, each_more_copies}
 use Rattle.sql_read.proofs.parts.ReadEntryLists.{EntryAwaited, FurtherLeft, at_start, behind_comma, entry_behind, entry_halts, entry_read, fits, fitting, join_begins, join_kinds, joins, joins_behind, joins_of, list_begins, list_ended}
 use Rattle.sql_read.proofs.parts.ReadFewEntries.{ListRead, ListRefused, ReadsList, joined_taken, joining_halts, list_given, list_refused, list_stopped, no_further}
 use Rattle.sql_read.proofs.steps.ReadForks.{unmapped}
 use Rattle.sql_read.proofs.steps.ReadLoops.{begins_skip, repeated_end}
 use Rattle.sql_read.proofs.steps.ReadPassing.{alike_within, built_until}
-use Rattle.grammar.proofs.readers.Remaining.{remains_whole}
+use Rattle.grammar.proofs.readers.Residuals.{residual_whole}
 use Rattle.sql_read.proofs.steps.ReadSteps.{built_both, built_map, halts_of, plain_here, absent_unless, refuses_less}
 use Rattle.sql_read.proofs.steps.AgreeDeeper.{DeeperAgrees}
 
@@ -45,7 +45,7 @@ module _ {A : Type 0} {f : The A} {B C : Language Lexeme A} {d : ℕ} where
   refused_alone : (a b : Cursor) (fault : ReadFault) → RefusesWithin entries_too f B d a fault b → RefusesWithin depth_alone f C d a fault b
   refused_alone a b fault t =
       refuses_less entries_too {less = depth_alone} {f = f} {B = B} {d = d} {N = f} {NB = C} {e = d} (λ n. absurd n) (λ n. n) (λ n. n) a a b fault
-      (record { halts = halts_of (remains_whole (of_form None f) (of_form (Some d) f) a.tokens); few = λ n. absurd n }) t
+      (record { halts = halts_of (residual_whole (of_form None f) (of_form (Some d) f) a.tokens); few = λ n. absurd n }) t
 
 -- what is told of the limit on depth and length alone
 alone : {V A : Type 0} {f : The V} {B C : Language Lexeme V} {d : ℕ} {k w : V → Built A} {began a : Cursor} {r : Reading A} → AgreesWithin entries_too f B d k w began a r → AgreesWithin depth_alone f C d k w began a r
@@ -117,7 +117,7 @@ module _ (levels : ℕ) (deeper : Deeper) (d : DeeperAgrees levels deeper) where
     -- The first of its entries and some more were read.
     module _ (first : Built Listed) where
       record Joining (some : List (Built Entry)) (es : List Entry) (now : Cursor) : Type 0 where
-        remains : RemainsIn depth_alone (star None joins) (few_form (star None joins)) levels now (ref grammar.from) (few_form (ref grammar.from)) levels begun (λ js. t.entries first (some ++ js))
+        residual : ResidualIn depth_alone (star None joins) (few_form (star None joins)) levels now (ref grammar.from) (few_form (ref grammar.from)) levels begun (λ js. t.entries first (some ++ js))
         builds : Builds (appended built_before (t.entries first some)) start es now
         further : FurtherLeft (length es) list now.tokens
 
@@ -125,7 +125,7 @@ module _ (levels : ℕ) (deeper : Deeper) (d : DeeperAgrees levels deeper) where
         join_stopped : (fault : ReadFault) (mid : Cursor) → is_next join_kinds now.tokens ≡ true
             → AgreesWithin entries_too joins (few_form (joins_behind (length es))) levels found found now now (Err fault, mid) → From (Err fault, mid)
         join_stopped fault mid n u = record {
-          agrees = stopped (next_of None l.remains refl join_kinds join_begins n) (λ v. omega (arith, (joined_same built_before first some v).copies, l.builds.copies)) (alone u);
+          agrees = stopped (next_of None l.residual refl join_kinds join_begins n) (λ v. omega (arith, (joined_same built_before first some v).copies, l.builds.copies)) (alone u);
           few = record { answers = list_stopped list fault (joining_halts l.further n) u.reads.answers };
         }
 
@@ -133,15 +133,15 @@ module _ (levels : ℕ) (deeper : Deeper) (d : DeeperAgrees levels deeper) where
         none_joined n = record {
           agrees = built whole (t.entries first some)
               (subst (λ z. TakesWithin depth_alone (ref grammar.from) (few_form (ref grammar.from)) levels begun.tokens (t.entries first z) now.tokens) (append-nil some)
-              (repeated_end l.remains.left refl (absent_unless join_kinds (ahead planned joins) refl now.tokens n)))
-              l.remains.extends l.builds;
+              (repeated_end l.residual.left refl (absent_unless join_kinds (ahead left_factored joins) refl now.tokens n)))
+              l.residual.extends l.builds;
           few = record { answers = record { further = l.further; no_join = n } };
         }
 
         one_joined : {value : Entry} {mid : Cursor} (u : AgreesWithin entries_too joins (few_form (joins_behind (length es))) levels found found now now (Ok (Some value), mid))
             → Joining (some ++ u.reads.answers.read ∷ []) (es ++ value ∷ []) mid
         one_joined {value = value} {mid = mid} u = let read = u.reads.answers in record {
-          remains = so (next_behind None l.remains refl (taken_alone read.takes) u.extends) (λ js. ap (λ z. t.entries first z) (sym (append_assoc some (read.read ∷ []) js)));
+          residual = so (next_behind None l.residual refl (taken_alone read.takes) u.extends) (λ js. ap (λ z. t.entries first z) (sym (append_assoc some (read.read ∷ []) js)));
           builds = built_same (joined_same built_before first some read.read) (built_map (λ p. p.0 ++ p.1 ∷ []) (built_both l.builds (unmapped {built = read.read} (λ x. Some x) one_some read.builds)));
           further = subst (λ z. FurtherLeft z list mid.tokens) (one_longer es value) (joined_taken l.further read.takes);
         }
@@ -171,7 +171,7 @@ module _ (levels : ℕ) (deeper : Deeper) (d : DeeperAgrees levels deeper) where
       (entry levels deeper (length before) c) _ (entry_agrees levels deeper d (length before) c)
       (λ first mid u. let read = u.reads.answers in
       joined_agrees built_before start c list read.read _ [] (before ++ entry_of false None first ∷ []) mid refl (record {
-        remains = behind_taken whole_from refl (taken_alone read.takes) u.extends;
+        residual = behind_taken whole_from refl (taken_alone read.takes) u.extends;
         builds = record { numbers = (built_map (λ p. p.0 ++ entry_of false None p.1 ∷ []) (built_both b read.builds)).numbers; copies = omega (arith, b.copies, read.builds.copies) };
         further = subst (λ z. FurtherLeft z list mid.tokens) (one_longer before (entry_of false None first)) (entry_read awaited read.read mid.tokens read.takes);
       }))
@@ -180,7 +180,7 @@ module _ (levels : ℕ) (deeper : Deeper) (d : DeeperAgrees levels deeper) where
         few = record { answers = list_stopped list fault (entry_halts awaited) u.reads.answers };
       })
     where
-      whole_from : RemainsIn depth_alone (seq (ref grammar.entry) (star None joins)) (few_form (seq (ref grammar.entry) (star None joins))) levels c (ref grammar.from) (few_form (ref grammar.from)) levels c (λ p. t.entries p.0 p.1)
+      whole_from : ResidualIn depth_alone (seq (ref grammar.entry) (star None joins)) (few_form (seq (ref grammar.entry) (star None joins))) levels c (ref grammar.from) (few_form (ref grammar.from)) levels c (λ p. t.entries p.0 p.1)
       whole_from = mapped (production grammar.from whole)
 
   -- ---- all items

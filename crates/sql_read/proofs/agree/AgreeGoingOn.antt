@@ -1,4 +1,4 @@
--- The readers of expressions by their first parts, and of whole items, agree with the plan.
+-- The readers of expressions by their first parts, and of whole items, agree with the left-factored grammar.
 use Rattle.std.proofs.Common.{◌≡◌, ℕ, ◌-◌, true, Option, None, Ok, ◌+◌, inl, inr, refl, ◌∙◌, ap, arith, false, [], ◌∷◌, Bool, subst}
 use Rattle.grammar.specs.Form.{alt, counted, ref, seq}
 use Rattle.grammar.proofs.readers.Predictions.{ok, ahead}
@@ -16,7 +16,7 @@ use Rattle.sql_grammar.specs.Kinds.{among, name_kinds, same}
 use Rattle.sql_grammar.specs.Numbering.{Built, plain}
 use Rattle.sql_grammar.specs.QueryGrammar as grammar
 use Rattle.sql_grammar.specs.QueryGrammar.{The, minus}
-use Rattle.sql_grammar.specs.QueryPlan as plan
+use Rattle.sql_grammar.specs.FactoredQueries as factored
 use Rattle.sql_grammar.specs.QueryTrees as t
 use Rattle.sql_grammar.specs.QueryCopies.{copies_nothing}
 use Rattle.sql_model.specs.Syntax.{Name}
@@ -26,10 +26,10 @@ use Rattle.sql_grammar.proofs.copies.QueryFillings.{fill_empty, fill_map, fill_s
 use Rattle.sql_read.proofs.steps.ReadForks.{first_of, star_of, takes_mapped}
 use Rattle.sql_read.proofs.parts.ReadInsides.{takes_nothing}
 use Rattle.sql_read.proofs.steps.AgreeSteps.{behind_first, counted_of, fork_of, behind_other, first_unless, first_where, other_where, then_counted}
-use Rattle.sql_read.proofs.steps.Agreeing.{StopsIn, Agrees, Remains, all_left, built, by_eaten, by_next, by_token, ends_in, inside, makes, mapped, other_unless, production, second, then_part, then_rest, then_tail, whole}
+use Rattle.sql_read.proofs.steps.Agreeing.{StopsIn, Agrees, Residual, all_left, built, by_eaten, by_next, by_token, ends_in, inside, makes, mapped, other_unless, production, second, then_part, then_rest, then_tail, whole}
 use Rattle.sql_read.proofs.steps.Extending.{extends_itself, extends_passes}
-use Rattle.sql_grammar.specs.QueryPlan.{enclosed_first, going_on, going_on_by_and, star_or_left}
-use Rattle.sql_grammar.proofs.queries.QueryTable.{planned}
+use Rattle.sql_grammar.specs.FactoredQueries.{enclosed_first, going_on, going_on_by_and, star_or_left}
+use Rattle.sql_grammar.proofs.queries.QueryTable.{left_factored}
 use Rattle.sql_read.proofs.agree.AgreeItems.{item_name_agrees, name_or_star_agrees}
 use Rattle.sql_read.proofs.steps.ReadPassing.{alike_passes, built_counted, took_counted}
 use Rattle.sql_read.proofs.steps.ReadSteps.{begins_otherwise, built_plain, starts, took_token}
@@ -53,7 +53,7 @@ module _ (levels : ℕ) (deeper : Deeper) (d : DeeperAgrees levels deeper) where
 
   module _ (form : The (Built Expr)) where
     abbrev first_part : The (Built Expr)
-    first_part = alt minus (alt plan.literal form)
+    first_part = alt minus (alt factored.literal form)
 
     abbrev goes_on : The (Built Expr)
     goes_on = alt (going_on first_part) going_on_by_and
@@ -62,17 +62,17 @@ module _ (levels : ℕ) (deeper : Deeper) (d : DeeperAgrees levels deeper) where
     Went c r = Agrees goes_on levels (λ read. read) (λ read. read) c c r
 
     -- the first part is read
-    begun : (c : Cursor) → ok planned (seq (counted first_part) (ref grammar.expr_tail)) ≡ true → Remains (seq (counted first_part) (ref grammar.expr_tail)) levels c goes_on levels c (λ p. p.1 p.0) → (r : Reading Expr)
+    begun : (c : Cursor) → ok left_factored (seq (counted first_part) (ref grammar.expr_tail)) ≡ true → Residual (seq (counted first_part) (ref grammar.expr_tail)) levels c goes_on levels c (λ p. p.1 p.0) → (r : Reading Expr)
         → Agrees first_part levels (λ read. read) (λ read. read) c c r → Went c (r >>= expr_tail levels deeper (mark c))
     begun c o l r u = then_counted r (λ v. v) u l o fill_expr_tail (λ v count. refl) (λ v. refl)
         (λ x mid t l. ends_in (expr_tail levels deeper (mark c) x mid) l (λ v. refl) (expr_tail_agrees levels deeper d t.reads.answers.read _ c mid (mark c) x (refl, refl) (built_counted t.extends t.reads.answers.builds)))
 
   -- where a part of the form begins an expression that begins with no sign, literal, NOT or EXISTS
   module _ (form : The (Built Expr)) (c : Cursor) (form_agrees : Agrees form levels (λ read. read) (λ read. read) c c (seen (same kind.Open) (enclosed levels deeper) (named_first levels deeper) c))
-      (o : ok planned (seq (counted (first_part form)) (ref grammar.expr_tail)) ≡ true)
-      (going : ok planned (going_on (first_part form)) ≡ true) (no_word : begins_otherwise word_kinds (ahead planned (going_on (first_part form))) ≡ true)
-      (others : ok planned (alt plan.literal form) ≡ true) (no_minus : begins_otherwise (same kind.Minus) (ahead planned (alt plan.literal form)) ≡ true)
-      (last : ok planned form ≡ true) (no_literal : begins_otherwise literal_kinds (ahead planned form) ≡ true) where
+      (o : ok left_factored (seq (counted (first_part form)) (ref grammar.expr_tail)) ≡ true)
+      (going : ok left_factored (going_on (first_part form)) ≡ true) (no_word : begins_otherwise word_kinds (ahead left_factored (going_on (first_part form))) ≡ true)
+      (others : ok left_factored (alt factored.literal form) ≡ true) (no_minus : begins_otherwise (same kind.Minus) (ahead left_factored (alt factored.literal form)) ≡ true)
+      (last : ok left_factored form ≡ true) (no_literal : begins_otherwise literal_kinds (ahead left_factored form) ≡ true) where
     abbrev First : Reading Expr → Type 0
     First r = Agrees (first_part form) levels (λ read. read) (λ read. read) c c r
 
@@ -93,9 +93,9 @@ module _ (levels : ℕ) (deeper : Deeper) (d : DeeperAgrees levels deeper) where
         let l = mapped (first_unless word_kinds (whole {start = c}) refl refl n) in
         subst (Went form c) (expr_by_unary levels deeper d c n) (begun form c o l (unary levels deeper c) first_agrees)
 
-  pub no_parenthesis_agrees : (c : Cursor) → is_next (same kind.Open) c.tokens ≡ false → Agrees plan.no_parenthesis levels (λ read. read) (λ read. read) c c (expr levels deeper c)
-  no_parenthesis_agrees c n = by_words plan.named_first c
-      (by_next (λ r. Agrees plan.named_first levels (λ read. read) (λ read. read) c c r) (same kind.Open) c (λ m. cc) (λ m. named_first_agrees levels deeper d c))
+  pub no_parenthesis_agrees : (c : Cursor) → is_next (same kind.Open) c.tokens ≡ false → Agrees factored.no_parenthesis levels (λ read. read) (λ read. read) c c (expr levels deeper c)
+  no_parenthesis_agrees c n = by_words factored.named_first c
+      (by_next (λ r. Agrees factored.named_first levels (λ read. read) (λ read. read) c c r) (same kind.Open) c (λ m. cc) (λ m. named_first_agrees levels deeper d c))
       refl refl refl refl refl refl refl (is_next word_kinds c.tokens) refl
 
   -- what begins with no name and no parenthesis is refused in either way
@@ -109,7 +109,7 @@ module _ (levels : ℕ) (deeper : Deeper) (d : DeeperAgrees levels deeper) where
     none_among (among other_aggregates) (among name_kinds) refl c.tokens m,
   ) refl
 
-  pub item_value_agrees : (c : Cursor) → is_next (among name_kinds) c.tokens ≡ false → Agrees plan.item_value levels (λ read. read) (λ read. read) c c (expr levels deeper c)
+  pub item_value_agrees : (c : Cursor) → is_next (among name_kinds) c.tokens ≡ false → Agrees factored.item_value levels (λ read. read) (λ read. read) c c (expr levels deeper c)
   item_value_agrees c n = by_words enclosed_first c
       (by_next (λ r. Agrees enclosed_first levels (λ read. read) (λ read. read) c c r) (same kind.Open) c (λ m. enclosed_agrees levels deeper d c)
       (λ m. subst (λ r. Agrees enclosed_first levels (λ read. read) (λ read. read) c c r) (none_begins c m n) (enclosed_agrees levels deeper d c)))
@@ -118,29 +118,29 @@ module _ (levels : ℕ) (deeper : Deeper) (d : DeeperAgrees levels deeper) where
   -- ---- items
 
   abbrev Named : Cursor → Reading Item → Type 0
-  Named c r = Agrees plan.named_item levels (λ read. read) (λ read. read) c c r
+  Named c r = Agrees factored.named_item levels (λ read. read) (λ read. read) c c r
 
   -- the item of a first part alone
-  abbrev item_of : plan.Starred → Built Item
+  abbrev item_of : factored.Starred → Built Item
   item_of (inl qual) = t.alias_star_item qual
   item_of (inr x) = t.value_item x None
 
   abbrev item_alone : t.Left → Built Item
   item_alone left = t.value_item left.0 None
 
-  star_stops : (c : Cursor) → StopsIn entries_too plan.starred (few_form plan.starred) levels c plan.named_item (few_form plan.named_item) levels c item_of
+  star_stops : (c : Cursor) → StopsIn entries_too factored.starred (few_form factored.starred) levels c factored.named_item (few_form factored.named_item) levels c item_of
   star_stops c = counted_of (inside (fork_of whole refl (fill_map (λ nothing qual. t.alias_star_item qual) fill_empty)
       (fill_map (λ p left. t.value_item (p.0 left) p.1) (fill_seq fill_expr_tail (fill_absent grammar.alias)))) (all_left (mapped whole))) same_item
     where
-      same_item : (v : plan.Starred) (count : ℕ) → either_of planned 0 copies_nothing (of_form None plan.named_item) c.tokens t.alias_star_item item_alone (star_or_left (v, count)) ≡ item_of v
+      same_item : (v : factored.Starred) (count : ℕ) → either_of left_factored 0 copies_nothing (of_form None factored.named_item) c.tokens t.alias_star_item item_alone (star_or_left (v, count)) ≡ item_of v
       same_item (inl qual) count = refl
       same_item (inr x) count = refl
 
-  same_price : (c : Cursor) (v : plan.Starred) → c.copies + (item_of v).copies ≡ c.copies + (built_starred v).copies
-  same_price c (inl qual) = refl
-  same_price c (inr x) = refl
+  same_cost : (c : Cursor) (v : factored.Starred) → c.copies + (item_of v).copies ≡ c.copies + (built_starred v).copies
+  same_cost c (inl qual) = refl
+  same_cost c (inr x) = refl
 
-  behind_star : (c : Cursor) (found : Starred) (mid : Cursor) → Agrees plan.starred levels built_starred built_starred c c (Ok found, mid) → Named c (starred_item levels deeper (mark c) found mid)
+  behind_star : (c : Cursor) (found : Starred) (mid : Cursor) → Agrees factored.starred levels built_starred built_starred c c (Ok found, mid) → Named c (starred_item levels deeper (mark c) found mid)
   behind_star c (starred.All item) mid u =
       let read = u.reads.answers in let star = star_of {before = c} {after = mid} read.read read.takes read.builds in built
       (mapped (behind_first (whole {start = c}) refl (takes_mapped star_or_left (took_counted u.extends star.takes)) u.extends)) tt takes_nothing extends_itself star.builds
@@ -155,7 +155,7 @@ module _ (levels : ℕ) (deeper : Deeper) (d : DeeperAgrees levels deeper) where
 
   pub named_item_agrees : (c : Cursor) → Named c (named_item levels deeper c)
   unfolding named_item
-  named_item_agrees c = then_part (name_or_star levels deeper c) (starred_item levels deeper (mark c)) (name_or_star_agrees levels deeper d c) (star_stops c) (same_price c) (behind_star c)
+  named_item_agrees c = then_part (name_or_star levels deeper c) (starred_item levels deeper (mark c)) (name_or_star_agrees levels deeper d c) (star_stops c) (same_cost c) (behind_star c)
 
   pub item_agrees : (c : Cursor) → Agrees (ref grammar.item) levels (λ read. read) (λ read. read) c c (item levels deeper c)
   unfolding item

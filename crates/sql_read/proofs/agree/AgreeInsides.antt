@@ -1,4 +1,4 @@
--- The readers of what stands in parentheses agree with the plan.
+-- The readers of what stands in parentheses agree with the left-factored grammar.
 use Rattle.std.proofs.Common.{◌≡◌, ℕ, ◌+◌, ◌-◌, Bool, true, Some, None, Ok, Err, refl, sym, ap, arith, inl, inr, []}
 use Rattle.grammar.specs.Form.{empty, fork, nonempty, ref, seq}
 use Rattle.grammar.proofs.readers.Predictions.{ok}
@@ -28,17 +28,17 @@ use Rattle.sql_grammar.specs.QueryCopies.{copies_nothing}
 use Rattle.sql_grammar.specs.QueryGrammar as grammar
 use Rattle.sql_grammar.specs.QueryGrammar.{The}
 use Rattle.sql_grammar.specs.QueryTails.{commas, next_comma}
-use Rattle.sql_grammar.specs.QueryPlan as plan
+use Rattle.sql_grammar.specs.FactoredQueries as factored
 use Rattle.sql_grammar.specs.QueryTrees as t
 use Rattle.sql_grammar.specs.QueryTailTrees as tails
 use Rattle.sql_grammar.proofs.copies.QueryFillings.{Filled, fill_empty, fill_expr_tail, fill_map, fill_none, fill_other, fill_seq, fill_set_tail}
-use Rattle.sql_grammar.proofs.queries.QueryTable.{planned}
+use Rattle.sql_grammar.proofs.queries.QueryTable.{left_factored}
 use Rattle.sql_read.proofs.steps.AgreeSteps.{behind_first, behind_other, counted_of, first_next, fork_of, first_unless, first_where, other_where}
-use Rattle.sql_read.proofs.steps.Agreeing.{Agrees, Remains, StopsIn, all_left, built, by_next, ends_in, inside, makes, mapped, other_unless, production, second, then_part, then_rest, then_tail, whole}
+use Rattle.sql_read.proofs.steps.Agreeing.{Agrees, Residual, StopsIn, all_left, built, by_next, ends_in, inside, makes, mapped, other_unless, production, second, then_part, then_rest, then_tail, whole}
 use Rattle.sql_read.proofs.steps.Extending.{extends_itself}
 use Rattle.sql_read.proofs.parts.ReadBegins.{expr_tail_begins, set_tail_begins}
-use Rattle.sql_read.proofs.steps.ReadCopies.{SamePrice, copied_in}
-use Rattle.sql_read.proofs.parts.ReadInsides.{sorted_parentheses, built_in_query, built_sub, closed, closed_price, expr_of, in_closed_price, listed_price, more_listed, no_commas, query_of, some_expr_tail, some_part, some_set_tail, takes_nothing, takes_some}
+use Rattle.sql_read.proofs.steps.ReadCopies.{SameCost, copied_in}
+use Rattle.sql_read.proofs.parts.ReadInsides.{sorted_parentheses, built_in_query, built_sub, closed, closed_cost, expr_of, in_closed_cost, listed_cost, more_listed, no_commas, query_of, some_expr_tail, some_part, some_set_tail, takes_nothing, takes_some}
 use Rattle.sql_read.proofs.steps.ReadLoops.{Begins}
 use Rattle.sql_read.proofs.steps.ReadPassing.{handed_on}
 use Rattle.sql_read.proofs.steps.ReadSteps as steps
@@ -67,14 +67,14 @@ some_agrees {now = now} q i n some (Err fault, end) u = record {
 
 module _ {A X : Type 0} {N : The A} {e : ℕ} {whole_of whole_copied : A → Built X} {built_at s : Cursor} where
   -- of what was read a node is made, and nothing follows
-  makes_alone : {C Y : Type 0} {d : ℕ} {f : The C} {w : C → Built Y} {began here : Cursor} {h : C × Unit {0} → A} (r : Reading Y) (of : Y → X) → Remains (seq f empty) d here N e s h → ok planned (seq f empty) ≡ true
-      → SamePrice built_at (λ v. whole_copied (h (v, tt))) began w → ((v : C) (y : Y) (end : Cursor) → Builds (w v) began y end → Builds (whole_of (h (v, tt))) built_at (of y) end) → Agrees f d w w began here r
+  makes_alone : {C Y : Type 0} {d : ℕ} {f : The C} {w : C → Built Y} {began here : Cursor} {h : C × Unit {0} → A} (r : Reading Y) (of : Y → X) → Residual (seq f empty) d here N e s h → ok left_factored (seq f empty) ≡ true
+      → SameCost built_at (λ v. whole_copied (h (v, tt))) began w → ((v : C) (y : Y) (end : Cursor) → Builds (w v) began y end → Builds (whole_of (h (v, tt))) built_at (of y) end) → Agrees f d w w began here r
       → Agrees N e whole_of whole_copied built_at s (r >>= λ y. done (of y))
-  makes_alone r of l o price made u = then_rest r u (λ y end u. let read = u.reads.answers in built (second l o u) tt takes_nothing extends_itself (made read.read y end read.builds)) l o fill_empty price
+  makes_alone r of l o cost made u = then_rest r u (λ y end u. let read = u.reads.answers in built (second l o u) tt takes_nothing extends_itself (made read.read y end read.builds)) l o fill_empty cost
 
 -- what stops a query or an expression in parentheses, by which it goes on
 module _ {A M : Type 0} {N : The A} {e d : ℕ} {start here : Cursor} {more : The M} {m : M} {h : tails.Inside M → A} where
-  group_stops : Remains (fork sorted_parentheses (plan.after_query more) (plan.after_expression more)) d here N e start h → ok planned (fork sorted_parentheses (plan.after_query more) (plan.after_expression more)) ≡ true → Filled more m
+  group_stops : Residual (fork sorted_parentheses (factored.after_query more) (factored.after_expression more)) d here N e start h → ok left_factored (fork sorted_parentheses (factored.after_query more) (factored.after_expression more)) ≡ true → Filled more m
       → StopsIn entries_too (grammar.in_parentheses (ref grammar.inner)) (few_form (grammar.in_parentheses (ref grammar.inner))) d here N (few_form N) e start (λ v. h (closed m v))
   group_stops l o b = counted_of (inside (fork_of l o query_closed expr_closed) (all_left (mapped whole))) same
     where
@@ -84,13 +84,13 @@ module _ {A M : Type 0} {N : The A} {e d : ℕ} {start here : Cursor} {more : Th
       expr_of : t.Left → tails.Inside M
       expr_of left = inr (inr (left.0, m))
 
-      query_closed : Filled (plan.after_query more) query_of
+      query_closed : Filled (factored.after_query more) query_of
       query_closed = fill_other _ (fill_other _ (fill_map (λ m q. inr (inl (q.0, m))) b))
 
-      expr_closed : Filled (plan.after_expression more) expr_of
+      expr_closed : Filled (factored.after_expression more) expr_of
       expr_closed = fill_map (λ p left. inr (inr (p.0 left, p.1))) (fill_seq fill_expr_tail b)
 
-      same : (v : Lexeme × tails.Inside (Unit {0})) (count : ℕ) → h (either_of planned 0 copies_nothing (of_form None N) start.tokens query_of expr_of (plan.sort (v, count))) ≡ h (closed m v)
+      same : (v : Lexeme × tails.Inside (Unit {0})) (count : ℕ) → h (either_of left_factored 0 copies_nothing (of_form None N) start.tokens query_of expr_of (factored.sort (v, count))) ≡ h (closed m v)
       same (open_, inl q) count = refl
       same (open_, inr (inl p)) count = refl
       same (open_, inr (inr p)) count = refl
@@ -107,7 +107,7 @@ module _ (levels : ℕ) (deeper : Deeper) (d : DeeperAgrees levels deeper) where
     expr_tail_there n = some_agrees (among tail_kinds) expr_tail_begins n (λ fault after r. some_expr_tail r) (expr_tail levels deeper start (an_expr.Sub q at) now)
         (expr_tail_agrees levels deeper d (t.sub (opening, before)) count began now start (an_expr.Sub q at) marked (built_sub opening place b))
 
-    pub after_query_agrees : Agrees (plan.after_query empty) levels (λ read. built_inside (read ((opening, before), count))) (λ read. built_inside (read ((opening, before), count))) began now (after_query levels deeper start q at now)
+    pub after_query_agrees : Agrees (factored.after_query empty) levels (λ read. built_inside (read ((opening, before), count))) (λ read. built_inside (read ((opening, before), count))) began now (after_query levels deeper start q at now)
     unfolding after_query
     after_query_agrees = by_next After (among set_kinds) now
         (λ n. makes (set_tail levels deeper q now) (λ x. inside.Query x) (mapped (first_next (among set_kinds) whole refl set_tail_begins n)) (λ v. refl) (λ v y end u. built_map (λ x. inside.Query x) u) (set_tail_there n))
@@ -119,14 +119,14 @@ module _ (levels : ℕ) (deeper : Deeper) (d : DeeperAgrees levels deeper) where
         (built_as (ap (λ z. inside.Enclosed q z) (sym place)) (built_map (λ x. inside.Enclosed x opening.start) b.builds))))
       where
         After : Reading Inside → Type 0
-        After = Agrees (plan.after_query empty) levels (λ read. built_inside (read ((opening, before), count))) (λ read. built_inside (read ((opening, before), count))) began now
+        After = Agrees (factored.after_query empty) levels (λ read. built_inside (read ((opening, before), count))) (λ read. built_inside (read ((opening, before), count))) began now
 
   -- ---- inside of parentheses
 
   abbrev Inner : Cursor → Reading Inside → Type 0
   Inner c r = Agrees (ref grammar.inner) levels built_inside built_inside c c r
 
-  inner_behind : (c : Cursor) → Remains (fork sorted_parentheses (plan.after_query empty) (plan.after_expression empty)) levels c (ref grammar.inner) levels c (λ v. v) → (group : Grouped) (mid : Cursor)
+  inner_behind : (c : Cursor) → Residual (fork sorted_parentheses (factored.after_query empty) (factored.after_expression empty)) levels c (ref grammar.inner) levels c (λ v. v) → (group : Grouped) (mid : Cursor)
       → Agrees (grammar.in_parentheses (ref grammar.inner)) levels built_grouped built_grouped c c (Ok group, mid) → Inner c (after_group levels deeper (mark c) group mid)
   inner_behind c l (grouped.Query q at) mid u =
       let read = u.reads.answers in let i = query_of u.extends read.read read.takes read.builds in
@@ -148,7 +148,7 @@ module _ (levels : ℕ) (deeper : Deeper) (d : DeeperAgrees levels deeper) where
       l refl fill_set_tail (λ v. refl))
       (λ n. by_next (Inner c) (same kind.Open) c
       (λ m. let l = other_where (same kind.Open) (other_unless (same kind.Select) l refl refl n) refl refl m in
-      then_part (in_parentheses levels deeper c) (after_group levels deeper (mark c)) (in_parentheses_agrees levels deeper d c) (group_stops l refl fill_empty) (λ v. ap (λ z. c.copies + z) (closed_price v)) (inner_behind c l))
+      then_part (in_parentheses levels deeper c) (after_group levels deeper (mark c)) (in_parentheses_agrees levels deeper d c) (group_stops l refl fill_empty) (λ v. ap (λ z. c.copies + z) (closed_cost v)) (inner_behind c l))
       (λ m. makes_alone (expr levels deeper c) (λ x. inside.Expr x) (mapped (first_unless (same kind.Open) (other_unless (same kind.Select) l refl refl n) refl refl m)) refl
       (λ v. refl) (λ v y end u. built_map (λ x. inside.Expr x) u) (no_parenthesis_agrees levels deeper d c m)))
 
@@ -157,16 +157,16 @@ module _ (levels : ℕ) (deeper : Deeper) (d : DeeperAgrees levels deeper) where
   module _ (word opening : Lexeme) (before : Built Expr) (found : Built Query) (count tokens_inside : ℕ) (began middle now : Cursor) (sought : Sought) (start : Mark) (q : Query) (at : ℕ) (in_at : word.start ≡ sought.in_at)
       (weight : sought.weight ≡ t.weight (before, count)) (value : Builds before began sought.value middle) (place : opening.start ≡ at) (marked : IsMark start middle) (b : IsBuilt found tokens_inside middle q now) where
     abbrev InAfter : Reading Expr → Type 0
-    InAfter r = Agrees (plan.after_query commas) levels (λ read. tails.in_inside None word (read ((opening, found), tokens_inside)) (before, count))
+    InAfter r = Agrees (factored.after_query commas) levels (λ read. tails.in_inside None word (read ((opening, found), tokens_inside)) (before, count))
         (λ read. tails.in_inside None word (read ((opening, found), tokens_inside)) (before, count)) began now r
 
     -- a list whose first member is the query
-    listed_there : is_next (same kind.Comma) now.tokens ≡ true → Remains commas levels now (plan.after_query commas) levels now (λ m q. inr (inl (q.0, m))) → InAfter (members levels deeper sought (an_expr.Sub q at) now)
+    listed_there : is_next (same kind.Comma) now.tokens ≡ true → Residual commas levels now (factored.after_query commas) levels now (λ m q. inr (inl (q.0, m))) → InAfter (members levels deeper sought (an_expr.Sub q at) now)
     listed_there n l =
         let u = members_agrees levels deeper d before (t.sub (opening, found)) count began middle now sought (an_expr.Sub q at) weight value (built_sub opening place b).builds in
         record {
           reads = handed_on l.left (more_listed n word (opening, found) (before, count) u.reads);
-          copied = copied_in l.going (λ v. ap (λ z. began.copies + z) (listed_price word (before, count) (opening, found) v)) u.copied;
+          copied = copied_in l.going (λ v. ap (λ z. began.copies + z) (listed_cost word (before, count) (opening, found) v)) u.copied;
           extends = u.extends;
         }
 
@@ -189,7 +189,7 @@ module _ (levels : ℕ) (deeper : Deeper) (d : DeeperAgrees levels deeper) where
     abbrev In : Reading Expr → Type 0
     In r = Agrees (ref grammar.in_inner) levels (λ read. tails.in_inside None word read (before, count)) (λ read. tails.in_inside None word read (before, count)) began c r
 
-    in_behind : Remains (fork sorted_parentheses (plan.after_query commas) (plan.after_expression commas)) levels c (ref grammar.in_inner) levels c (λ v. v) → (group : Grouped) (mid : Cursor)
+    in_behind : Residual (fork sorted_parentheses (factored.after_query commas) (factored.after_expression commas)) levels c (ref grammar.in_inner) levels c (λ v. v) → (group : Grouped) (mid : Cursor)
         → Agrees (grammar.in_parentheses (ref grammar.inner)) levels built_grouped built_grouped c c (Ok group, mid) → In (in_after_group levels deeper sought (mark c) group mid)
     in_behind l (grouped.Query q at) mid u =
         let read = u.reads.answers in let i = query_of u.extends read.read read.takes read.builds in
@@ -215,7 +215,7 @@ module _ (levels : ℕ) (deeper : Deeper) (d : DeeperAgrees levels deeper) where
         (λ n. by_next In (same kind.Open) c
         (λ m. let l = other_where (same kind.Open) (other_unless (same kind.Select) l refl refl n) refl refl m in
         then_part (in_parentheses levels deeper c) (in_after_group levels deeper sought (mark c)) (in_parentheses_agrees levels deeper d c) (group_stops l refl (fill_none (Some 255) next_comma))
-        (λ v. omega (arith, in_closed_price word (before, count) v, value.copies)) (in_behind l))
+        (λ v. omega (arith, in_closed_cost word (before, count) v, value.copies)) (in_behind l))
         (λ m. let l = mapped (first_unless (same kind.Open) (other_unless (same kind.Select) l refl refl n) refl refl m) in
         then_tail (expr levels deeper c) (members levels deeper sought) (no_parenthesis_agrees levels deeper d c m) l refl (fill_none (Some 255) next_comma) (λ v. omega (arith, value.copies))
         (λ read x mid b. members_agrees levels deeper d before read count began c mid sought x weight value b)))

@@ -1,4 +1,4 @@
--- The readers of items and of the names behind them agree with the plan.
+-- The readers of items and of the names behind them agree with the left-factored grammar.
 use Rattle.std.proofs.Common.{◌≡◌, ℕ, Bool, ◌||◌, ◌∷◌, codes, Option, Some, None, refl, arith, inl, inr, []}
 use Rattle.grammar.specs.Form.{seq}
 use Rattle.grammar.specs.Productions.{optional}
@@ -16,12 +16,12 @@ use Rattle.sql_grammar.specs.Kinds.{among, name_kinds, same}
 use Rattle.sql_grammar.specs.Numbering.{plain}
 use Rattle.sql_grammar.specs.QueryGrammar as grammar
 use Rattle.sql_grammar.specs.QueryGrammar.{The, name}
-use Rattle.sql_grammar.specs.QueryPlan as plan
-use Rattle.sql_grammar.specs.QueryPlan.{dot_star_or_name, star_or_column}
+use Rattle.sql_grammar.specs.FactoredQueries as factored
+use Rattle.sql_grammar.specs.FactoredQueries.{dot_star_or_name, star_or_column}
 use Rattle.sql_grammar.specs.QueryTrees as t
 use Rattle.sql_grammar.proofs.copies.QueryFillings.{fill_absent, fill_seq, fill_token_of, fill_second, Filled, word}
 use Rattle.sql_read.proofs.steps.AgreeSteps.{ends_alike, none_here, token_agrees}
-use Rattle.sql_read.proofs.steps.Agreeing.{Agrees, behind, behind_taken, built, by_eaten, by_eaten_last, by_token, makes, mapped, needs, needs_last, other_unless, Remains, whole}
+use Rattle.sql_read.proofs.steps.Agreeing.{Agrees, behind, behind_taken, built, by_eaten, by_eaten_last, by_token, makes, mapped, needs, needs_last, other_unless, Residual, whole}
 use Rattle.sql_read.proofs.steps.Extending.{extends_itself, extends_passes}
 use Rattle.sql_read.proofs.steps.ReadLoops.{takes}
 use Rattle.sql_read.proofs.steps.ReadPassing.{◌then◌, alike_passes, built_from, neither_next}
@@ -43,7 +43,7 @@ fill_alias = fill_second (fill_absent (grammar.a kind.As)) fill_name
 
 module _ (levels : ℕ) where
   -- the name behind AS
-  name_behind : {N : Type 0} {M : The N} {c mid : Cursor} {word : Lexeme} {h : Lexeme → N} → Remains grammar.alias levels c M levels c h → Passes (same kind.As) c word mid → Remains name levels mid M levels c h
+  name_behind : {N : Type 0} {M : The N} {c mid : Cursor} {word : Lexeme} {h : Lexeme → N} → Residual grammar.alias levels c M levels c h → Passes (same kind.As) c word mid → Residual name levels mid M levels c h
   name_behind l q = behind_taken (mapped l) refl (takes (some_left steps.whole refl q (starts q)) (took_token levels q)) (extends_passes q)
 
   pub alias_agrees : (c : Cursor) → Agrees grammar.alias levels plain plain c c (alias c)
@@ -76,14 +76,14 @@ module _ (levels : ℕ) where
   named_built table None b = built_map (table_named table) b
   named_built table (Some word) b = built_map (table_named table) b
 
-  named_price : (table : Lexeme) (v : Option Lexeme) → (t.table_entry table v).copies ≡ 0
-  named_price table None = refl
-  named_price table (Some word) = refl
+  named_cost : (table : Lexeme) (v : Option Lexeme) → (t.table_entry table v).copies ≡ 0
+  named_cost table None = refl
+  named_cost table (Some word) = refl
 
   pub table_entry_agrees : (c : Cursor) → Agrees (seq name (optional grammar.alias)) levels (λ read. t.table_entry read.0 read.1) (λ read. t.table_entry read.0 read.1) c c (table_entry c)
   unfolding table_entry
   table_entry_agrees c = needs whole refl (fill_seq fill_name (fill_absent grammar.alias)) (omega arith)
-      (λ table mid q. makes (optional_alias mid) (table_named table) (behind whole refl q) (λ v. omega (arith, named_price table v, (alike_passes q).copies))
+      (λ table mid q. makes (optional_alias mid) (table_named table) (behind whole refl q) (λ v. omega (arith, named_cost table v, (alike_passes q).copies))
       (λ v y end b. built_from (alike_passes q) (named_built table v b)) (optional_alias_agrees mid))
 
   -- ---- names and stars
@@ -106,7 +106,7 @@ module _ (levels : ℕ) where
 -- ---- items by their first parts
 
 module _ (levels : ℕ) (deeper : Deeper) (d : DeeperAgrees levels deeper) where
-  pub name_or_star_agrees : (c : Cursor) → Agrees plan.starred levels built_starred built_starred c c (name_or_star levels deeper c)
+  pub name_or_star_agrees : (c : Cursor) → Agrees factored.starred levels built_starred built_starred c c (name_or_star levels deeper c)
   unfolding name_or_star
   name_or_star_agrees c = words_agree levels deeper d dot_star_or_name star_or_column (λ x. inr x) built_starred column_or_star (λ f c. f c >>= λ x. done (starred.First x)) c (column_or_star_agrees levels)
       (λ args r word mid alike l t. makes (r mid) (λ x. starred.First x) l (λ v. omega (arith, alike.copies)) (λ v y end b. built_map (λ x. starred.First x) (built_from alike b)) t) (fill_absent _)

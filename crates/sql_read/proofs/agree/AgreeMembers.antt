@@ -1,4 +1,4 @@
--- The reader of the members of a list of IN agrees with the plan.
+-- The reader of the members of a list of IN agrees with the left-factored grammar.
 use Rattle.std.proofs.Common.{◌≡◌, ℕ, ◌+◌, ◌≤◌, ◌<◌, List, [], ◌∷◌, ◌++◌, None, Ok, Err, refl, sym, ◌∙◌, ap, subst, arith}
 use Rattle.grammar.specs.Completions.{Continues, Overspends}
 use Rattle.grammar.specs.Form.{ref}
@@ -22,7 +22,7 @@ use Rattle.sql_grammar.specs.QueryGrammar as grammar
 use Rattle.sql_grammar.specs.QueryTails as tails
 use Rattle.sql_grammar.specs.QueryTrees as t
 use Rattle.sql_grammar.proofs.copies.CopySteps.{comma_too_much}
-use Rattle.sql_grammar.proofs.copies.PlanPrices.{members_price}
+use Rattle.sql_grammar.proofs.copies.FactoredCosts.{members_cost}
 use Rattle.sql_grammar.proofs.copies.TestCopies.{behind_commas, list_adds, no_members, one_more_comma}
 use Rattle.sql_read.proofs.steps.AgreeDeeper.{DeeperAgrees}
 use Rattle.sql_read.proofs.agree.AgreeExprs.{expr_agrees}
@@ -67,20 +67,20 @@ behind_more (v ∷ done) others left =
 
 module _ (levels : ℕ) (deeper : Deeper) (d : DeeperAgrees levels deeper) where
   module _ (sought : Sought) (before member : Built Expr) (count : ℕ) (weighs : sought.weight ≡ t.weight (before, count)) (began begun : Cursor) where
-    abbrev cost : List (Built Expr) → ℕ
-    cost others = (t.in_list None (member, others) (before, count)).copies
+    abbrev own_cost : List (Built Expr) → ℕ
+    own_cost others = (t.in_list None (member, others) (before, count)).copies
 
     -- what more members cost
-    cost_more : (done others : List (Built Expr)) → cost (done ++ others) ≡ cost done + members_price (before, count) others
+    cost_more : (done others : List (Built Expr)) → own_cost (done ++ others) ≡ own_cost done + members_cost (before, count) others
     cost_more done others =
-        let all : cost (done ++ others) ≡ before.copies + (member.copies + behind_commas (done ++ others) (before, count)) = list_adds None (member, done ++ others) (before, count) in
-        let so_far : cost done ≡ before.copies + (member.copies + behind_commas done (before, count)) = list_adds None (member, done) (before, count) in
+        let all : own_cost (done ++ others) ≡ before.copies + (member.copies + behind_commas (done ++ others) (before, count)) = list_adds None (member, done ++ others) (before, count) in
+        let so_far : own_cost done ≡ before.copies + (member.copies + behind_commas done (before, count)) = list_adds None (member, done) (before, count) in
         omega (arith, all, so_far, behind_more done others (before, count))
 
-    cost_one : (done : List (Built Expr)) (x : Built Expr) → cost (done ++ x ∷ []) ≡ cost done + (sought.weight + x.copies)
+    cost_one : (done : List (Built Expr)) (x : Built Expr) → own_cost (done ++ x ∷ []) ≡ own_cost done + (sought.weight + x.copies)
     cost_one done x =
-        let none : members_price (before, count) [] ≡ 0 = no_members [] (before, count) refl in
-        let one : members_price (before, count) (x ∷ []) ≡ (t.weight (before, count) + x.copies) + members_price (before, count) [] = one_more_comma x [] (before, count) in
+        let none : members_cost (before, count) [] ≡ 0 = no_members [] (before, count) refl in
+        let one : members_cost (before, count) (x ∷ []) ≡ (t.weight (before, count) + x.copies) + members_cost (before, count) [] = one_more_comma x [] (before, count) in
         omega (arith, cost_more done (x ∷ []), one, none, weighs)
 
     abbrev Listed : Reading Expr → Type 0
@@ -91,7 +91,7 @@ module _ (levels : ℕ) (deeper : Deeper) (d : DeeperAgrees levels deeper) where
       one : Expr
       others : List Expr
       numbers : (both before (both member (each done))).build began.numbers ≡ ((sought.value, (one, others)), now.numbers)
-      copies : now.copies ≡ began.copies + cost done
+      copies : now.copies ≡ began.copies + own_cost done
       members : t.equals_each sought.value (one ∷ others) ≡ found.0 ++ an_expr.Eq sought.value found.1 (t.place_of sought.value) ∷ []
 
     abbrev Tested : Reading (List Expr × Expr) → Type 0
@@ -124,9 +124,9 @@ module _ (levels : ℕ) (deeper : Deeper) (d : DeeperAgrees levels deeper) where
         too_much goes over = record {
           token = word;
           overspends = overspends_from copies_nothing (of_form None tails.commas) now.tokens (of_form None tails.commas) begun.tokens (λ others. some ++ others) goes
-              (members_price (before, count)) cost most_copies now.copies began.copies
+              (members_cost (before, count)) own_cost most_copies now.copies began.copies
               (λ others. omega (arith, cost_more some others, l.copies)) (word ∷ mid.tokens)
-              (subst (λ z. Overspends copies_nothing (of_form None tails.commas) (members_price (before, count)) most_copies now.copies z (word ∷ mid.tokens)) (sym i.passes.stood)
+              (subst (λ z. Overspends copies_nothing (of_form None tails.commas) (members_cost (before, count)) most_copies now.copies z (word ∷ mid.tokens)) (sym i.passes.stood)
               (comma_too_much (before, count) most_copies now.copies (word ∷ mid.tokens) mid.tokens word refl i.passes.of_kind within passed));
         }
           where

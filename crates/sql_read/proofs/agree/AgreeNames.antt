@@ -1,4 +1,4 @@
--- The readers of literals and of names agree with the plan.
+-- The readers of literals and of names agree with the left-factored grammar.
 use Rattle.std.proofs.Common.{◌≡◌, ℕ, Bool, true, false, ◌||◌, List, [], ◌∷◌, codes, Option, Some, None, Ok, refl, ap, inl, arith, sym, subst}
 use Rattle.grammar.specs.Form.{ref, token}
 use Rattle.grammar.specs.Productions.{skip_then}
@@ -14,11 +14,11 @@ use Rattle.sql_grammar.specs.declared.kinds.Kind.{Kind}
 use Rattle.sql_grammar.specs.Kinds.{name_kinds, same, among}
 use Rattle.sql_grammar.specs.Numbering.{literal_number, plain}
 use Rattle.sql_grammar.specs.QueryGrammar as grammar
-use Rattle.sql_grammar.specs.QueryPlan.{column_of, column_or, dot_name}
-use Rattle.sql_grammar.specs.QueryPlan as plan
+use Rattle.sql_grammar.specs.FactoredQueries.{column_of, column_or, dot_name}
+use Rattle.sql_grammar.specs.FactoredQueries as factored
 use Rattle.sql_grammar.specs.QueryTrees as t
 use Rattle.sql_grammar.proofs.copies.QueryFillings.{fill_absent, fill_seq, fill_token_of, word as spelled, word}
-use Rattle.sql_read.proofs.steps.Agreeing.{Agrees, Remains, behind, built, by_eaten, by_token, ends_by, mapped, needs, needs_last, other_unless, production, whole}
+use Rattle.sql_read.proofs.steps.Agreeing.{Agrees, Residual, behind, built, by_eaten, by_token, ends_by, mapped, needs, needs_last, other_unless, production, whole}
 use Rattle.sql_read.proofs.steps.AgreeSteps.{by_numbered, extends_literal, none_here}
 use Rattle.sql_read.proofs.steps.Extending.{◌⨟◌, extends_itself, extends_passes}
 use Rattle.sql_read.proofs.steps.ReadPassing.{alike_passes, built_from, either_next, neither_next, or_next, numbered as number_built}
@@ -41,15 +41,15 @@ takes_there {f = f} {d = d} {v = v} {here = here} e t = subst (λ z. Takes f d h
 literal_built : {p : Kind → Bool} {m n o : Cursor} {t : Lexeme} {number : ℕ} (l : Lit) → Passes p m t n → Numbers (literal_number l) n number o → Builds (literal_at t.start l) m (an_expr.Lit number t.start) o
 literal_built {t = t} l q u = built_from (alike_passes q) (built_map (λ z. an_expr.Lit z t.start) (number_built refl u))
 
-literal_agrees : {levels : ℕ} {q : Kind → Bool} {c mid end : Cursor} {word : Lexeme} {lit : ℕ} (of : Lexeme → Lit) → Remains (token q) levels c plan.literal levels c (λ t. literal_at t.start (of t))
+literal_agrees : {levels : ℕ} {q : Kind → Bool} {c mid end : Cursor} {word : Lexeme} {lit : ℕ} (of : Lexeme → Lit) → Residual (token q) levels c factored.literal levels c (λ t. literal_at t.start (of t))
     → Passes q c word mid
-    → Numbers (literal_number (of word)) mid lit end → Agrees plan.literal levels (λ read. read) (λ read. read) c c (Ok (an_expr.Lit lit word.start), end)
+    → Numbers (literal_number (of word)) mid lit end → Agrees factored.literal levels (λ read. read) (λ read. read) c c (Ok (an_expr.Lit lit word.start), end)
 literal_agrees {levels = levels} {word = word} of l i u =
     built l word (takes_there (ap (λ z. z.tokens) u.moved) (took_token levels i)) (extends_passes i ⨟ extends_literal u) (literal_built (of word) i u)
 
 -- a literal stands next, or none does
 module _ {X : Type 0} (P : Reading X → Type 0) (next : Option Expr → Reader X) (c : Cursor) where
-  pub by_literal : ((x : Expr) (mid : Cursor) → is_next literal_kinds c.tokens ≡ true → ((levels : ℕ) → Agrees plan.literal levels (λ read. read) (λ read. read) c c (Ok x, mid)) → P (next (Some x) mid))
+  pub by_literal : ((x : Expr) (mid : Cursor) → is_next literal_kinds c.tokens ≡ true → ((levels : ℕ) → Agrees factored.literal levels (λ read. read) (λ read. read) c c (Ok x, mid)) → P (next (Some x) mid))
       → (is_next literal_kinds c.tokens ≡ false → P (next None c)) → P (literal c >>= next)
   unfolding literal
   by_literal some none =
@@ -62,7 +62,7 @@ module _ {X : Type 0} (P : Reading X → Type 0) (next : Option Expr → Reader 
       (λ m. none (neither_next (same k.Number) (same k.Text) c.tokens n m)))
     where
       found : (of : Lexeme → Lit) (word : Lexeme) (mid : Cursor) → is_next literal_kinds c.tokens ≡ true
-          → ((levels lit : ℕ) (end : Cursor) → Numbers (literal_number (of word)) mid lit end → Agrees plan.literal levels (λ read. read) (λ read. read) c c (Ok (an_expr.Lit lit word.start), end))
+          → ((levels lit : ℕ) (end : Cursor) → Numbers (literal_number (of word)) mid lit end → Agrees factored.literal levels (λ read. read) (λ read. read) c c (Ok (an_expr.Lit lit word.start), end))
           → P ((numbered (literal_number (of word)) mid >>= λ lit. done (Some (an_expr.Lit lit word.start))) >>= next)
       found of word mid n agrees = by_numbered (λ r. P (r >>= next)) mid (literal_number (of word)) _ (λ lit end u. some (an_expr.Lit lit word.start) end n (λ levels. agrees levels lit end u))
 
@@ -72,9 +72,9 @@ column_built : (word : Lexeme) (v : Option Lexeme) {x : Expr} {start end : Curso
 column_built word None u = u
 column_built word (Some name) u = u
 
-column_price : (word : Lexeme) (read : Option Lexeme) → (column_of word read).copies ≡ 0
-column_price word None = refl
-column_price word (Some other) = refl
+column_cost : (word : Lexeme) (read : Option Lexeme) → (column_of word read).copies ≡ 0
+column_cost word None = refl
+column_cost word (Some other) = refl
 
 module _ (levels : ℕ) where
   pub column_agrees : (word : Lexeme) (c : Cursor) → Agrees dot_name levels (column_of word) (column_of word) c c (column word c)
@@ -91,4 +91,4 @@ module _ (levels : ℕ) where
   reference_agrees c =
       needs (mapped (production grammar.reference (whole {start = c}))) refl (fill_seq (fill_token_of name_kinds (spelled (codes "a")) refl refl) (fill_absent (skip_then (grammar.a k.Dot) grammar.name))) (omega arith)
       (λ word mid i. ends_by (column word mid) (behind (mapped (production grammar.reference (whole {start = c}))) refl i)
-      (λ v. omega (arith, column_price word v, ap (λ z. z.copies) i.moved)) (λ v x end u. column_built word v (built_from (alike_passes i) u)) (column_agrees word mid))
+      (λ v. omega (arith, column_cost word v, ap (λ z. z.copies) i.moved)) (λ v x end u. column_built word v (built_from (alike_passes i) u)) (column_agrees word mid))

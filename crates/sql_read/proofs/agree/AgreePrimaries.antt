@@ -1,4 +1,4 @@
--- The readers of first parts of expressions, and of values, agree with the plan.
+-- The readers of first parts of expressions, and of values, agree with the left-factored grammar.
 use Rattle.std.proofs.Common.{◌≡◌, ℕ, ◌+◌, true, ◌∷◌, codes, None, Ok, refl, ap, inl, inr, arith, [], Some}
 use Rattle.grammar.specs.Form.{alt, map, ref, seq}
 use Rattle.grammar.specs.Productions.{skip_then}
@@ -14,19 +14,19 @@ use Rattle.sql_grammar.specs.Kinds.{among, same}
 use Rattle.sql_grammar.specs.Numbering.{Built, symbol_number}
 use Rattle.sql_grammar.specs.QueryGrammar as grammar
 use Rattle.sql_grammar.specs.QueryGrammar.{The, a, listed, parens, next_product, next_sum}
-use Rattle.sql_grammar.specs.QueryPlan.{column_of, dot_name, enclosed_first, one_argument}
-use Rattle.sql_grammar.specs.QueryPlan as plan
+use Rattle.sql_grammar.specs.FactoredQueries.{column_of, dot_name, enclosed_first, one_argument}
+use Rattle.sql_grammar.specs.FactoredQueries as factored
 use Rattle.sql_grammar.specs.QueryTrees as t
 use Rattle.sql_grammar.specs.TokenValues.{name_of}
 use Rattle.sql_grammar.proofs.copies.QueryFillings.{Filled, fill_absent, fill_inner, fill_map, fill_nest, fill_one, fill_seq, fill_token, fill_token_of, fill_unary, symbol, word as spelled, fill_expr, number_one, word, fill_none}
-use Rattle.sql_grammar.proofs.queries.QueryTable.{planned}
+use Rattle.sql_grammar.proofs.queries.QueryTable.{left_factored}
 use Rattle.sql_read.proofs.steps.AgreeDeeper.{DeeperAgrees}
 use Rattle.sql_read.proofs.agree.AgreeNames.{by_literal, column_agrees, literal_kinds}
 use Rattle.sql_read.proofs.steps.AgreeSteps.{by_numbered, closes, ends_alike, extends_symbol, fill_group, first_unless, first_where, opens_alone, opens_parens, other_next, other_where, there}
-use Rattle.sql_read.proofs.steps.Agreeing.{Agrees, behind, behind_taken, built, by_eaten, by_next, by_token, ends_in, makes, mapped, needs, needs_last, other_unless, production, Remains, whole, then_tail}
+use Rattle.sql_read.proofs.steps.Agreeing.{Agrees, behind, behind_taken, built, by_eaten, by_next, by_token, ends_in, makes, mapped, needs, needs_last, other_unless, production, Residual, whole, then_tail}
 use Rattle.sql_read.proofs.steps.Extending.{extends_passes}
 use Rattle.sql_read.proofs.steps.ReadPassing.{numbered as number_built, Alike, ◌then◌, alike_passes, alike_within, built_from}
-use Rattle.sql_read.proofs.parts.ReadInsides.{built_enclosed, enclosed_price}
+use Rattle.sql_read.proofs.parts.ReadInsides.{built_enclosed, enclosed_cost}
 use Rattle.sql_read.proofs.steps.ReadLoops.{Begins, takes}
 use Rattle.sql_read.proofs.steps.ReadSteps as steps
 use Rattle.sql_read.proofs.steps.ReadSteps.{built_both, begins_with, built_map, plain_here, starts, took_token}
@@ -46,11 +46,11 @@ star_taken {d = d} q = steps.takes (steps.mapped (steps.by_token steps.whole ref
 module _ (levels : ℕ) (deeper : Deeper) (d : DeeperAgrees levels deeper) where
   -- ---- calls
 
-  pub arguments_agrees : (word : Lexeme) (c : Cursor) → Agrees plan.arguments levels (λ read. read word) (λ read. read word) c c (arguments levels deeper word c)
+  pub arguments_agrees : (word : Lexeme) (c : Cursor) → Agrees factored.arguments levels (λ read. read word) (λ read. read word) c c (arguments levels deeper word c)
   unfolding arguments
   arguments_agrees word c =
       opens_parens (mapped (whole {start = c})) refl refl (fill_absent (listed (ref grammar.expr))) (omega arith)
-      (λ open_ mid i m. by_numbered (λ r. Agrees plan.arguments levels (λ read. read word) (λ read. read word) c c r) mid (symbol_number (name_of word)) _
+      (λ open_ mid i m. by_numbered (λ r. Agrees factored.arguments levels (λ read. read word) (λ read. read word) c c r) mid (symbol_number (name_of word)) _
       (λ sym end u. closes (deeper.exprs end) (λ args. an_expr.Call sym args word.start) (there m (ap (λ z. z.tokens) u.moved) (extends_symbol u)) refl
       (λ v. omega (arith, ap (λ z. z.copies) i.passes.moved, ap (λ z. z.copies) u.moved))
       (λ v args after b. built_from (alike_within i) (built_map (λ p. an_expr.Call p.0 p.1 word.start) (built_both (number_built refl u) b))) ((d i.room_left).exprs end)))
@@ -61,11 +61,11 @@ module _ (levels : ℕ) (deeper : Deeper) (d : DeeperAgrees levels deeper) where
       opens_parens (whole {start = c}) refl refl fill_one_argument (omega arith)
       (λ open_ mid i m. closes (deeper.argument word mid) (λ x. x) m refl (λ v. omega (arith, ap (λ z. z.copies) i.passes.moved)) (λ v x end b. built_from (alike_within i) b) ((d i.room_left).argument word mid))
 
-  pub count_arguments_agrees : (word : Lexeme) (c : Cursor) → Agrees plan.count_arguments levels (λ read. read word) (λ read. read word) c c (count_arguments levels deeper word c)
+  pub count_arguments_agrees : (word : Lexeme) (c : Cursor) → Agrees factored.count_arguments levels (λ read. read word) (λ read. read word) c c (count_arguments levels deeper word c)
   unfolding count_arguments
   count_arguments_agrees word c =
       opens_parens (whole {start = c}) refl refl (fill_one one_argument (fill_map (λ sign word. t.count_rows word) (fill_token k.Star (symbol 42) refl refl))) (omega arith)
-      (λ open_ mid i m. by_eaten (λ r. Agrees plan.count_arguments levels (λ read. read word) (λ read. read word) c c r) (same k.Star) mid _
+      (λ open_ mid i m. by_eaten (λ r. Agrees factored.count_arguments levels (λ read. read word) (λ read. read word) c c r) (same k.Star) mid _
       (λ star next j. let left = behind_taken (mapped m) refl (star_taken j) (extends_passes j) in
       needs_last left (fill_token k.Close (symbol 41) refl refl) (omega (arith, ap (λ z. z.copies) i.passes.moved, ap (λ z. z.copies) j.moved))
       (λ close end q. built left close (took_token _ q) (extends_passes q) (built_from (alike_within i then alike_passes j then alike_passes q) plain_here)))
@@ -78,7 +78,7 @@ module _ (levels : ℕ) (deeper : Deeper) (d : DeeperAgrees levels deeper) where
   module _ {D X Y : Type 0} (dot : The D) (named : Lexeme → D → X) (called : Built Expr → X) (made : X → Built Y) (dotted : Lexeme → Reader Y) (call : Reader Expr → Reader Y) (c : Cursor)
       (dotted_agrees : (word : Lexeme) (mid : Cursor) → Agrees dot levels (λ v. made (named word v)) (λ v. made (named word v)) mid mid (dotted word mid)) where
     abbrev Words : Reading Y → Type 0
-    Words r = Agrees (plan.words dot named called) levels made made c c r
+    Words r = Agrees (factored.words dot named called) levels made made c c r
 
     abbrev after_word : The (Lexeme → Built Expr) → The (Lexeme → X)
     after_word args = alt (map (λ d w. named w d) dot) (map (λ f w. called (f w)) args)
@@ -86,37 +86,37 @@ module _ (levels : ℕ) (deeper : Deeper) (d : DeeperAgrees levels deeper) where
     abbrev exchanged : The (Lexeme → Built Expr) → The (Lexeme → X)
     exchanged args = alt (map (λ f w. called (f w)) args) (map (λ d w. named w d) dot)
 
-    module _ (calls : (args : The (Lexeme → Built Expr)) (r : Reader Expr) (word : Lexeme) (mid : Cursor) → Alike c mid → Remains args levels mid (plan.words dot named called) levels c (λ f. called (f word))
+    module _ (calls : (args : The (Lexeme → Built Expr)) (r : Reader Expr) (word : Lexeme) (mid : Cursor) → Alike c mid → Residual args levels mid (factored.words dot named called) levels c (λ f. called (f word))
         → Agrees args levels (λ read. read word) (λ read. read word) mid mid (r mid) → Words (call r mid)) where
       word_agrees : (args : The (Lexeme → Built Expr)) (reader : Lexeme → Reader Expr)
-          → ((word : Lexeme) (mid : Cursor) → Agrees args levels (λ read. read word) (λ read. read word) mid mid (reader word mid)) → ok planned args ≡ true
-          → ok planned (exchanged args) ≡ true → begins_with (same k.Open) (ahead planned args) ≡ true → Begins (same k.Open) args → (word : Lexeme) (mid : Cursor) → Alike c mid
-          → Remains (after_word args) levels mid (plan.words dot named called) levels c (λ f. f word) → Words (seen (same k.Open) (call (reader word)) (dotted word) mid)
+          → ((word : Lexeme) (mid : Cursor) → Agrees args levels (λ read. read word) (λ read. read word) mid mid (reader word mid)) → ok left_factored args ≡ true
+          → ok left_factored (exchanged args) ≡ true → begins_with (same k.Open) (ahead left_factored args) ≡ true → Begins (same k.Open) args → (word : Lexeme) (mid : Cursor) → Alike c mid
+          → Residual (after_word args) levels mid (factored.words dot named called) levels c (λ f. f word) → Words (seen (same k.Open) (call (reader word)) (dotted word) mid)
       word_agrees args reader agrees o both w begins word mid alike l = by_next Words (same k.Open) mid
           (λ n. calls args (reader word) word mid alike (mapped (other_next (same k.Open) l both begins n)) (agrees word mid))
           (λ n. ends_alike (dotted word mid) (mapped (first_unless (same k.Open) l o w n)) alike (dotted_agrees word mid))
 
-      pub words_agree : {none : D} → Filled dot none → (made (named (spelled (codes "sum")) none)).copies ≡ 0 → ok planned (plan.words dot named called) ≡ true → ok planned (seq (a k.Quoted) dot) ≡ true
-          → ok planned (alt (plan.word_with grammar.called_word plan.arguments dot named called)
-          (alt (plan.word_with (a k.Count) plan.count_arguments dot named called) (plan.word_with plan.other_aggregate (parens one_argument) dot named called))) ≡ true
-          → ok planned (alt (plan.word_with (a k.Count) plan.count_arguments dot named called) (plan.word_with plan.other_aggregate (parens one_argument) dot named called)) ≡ true
-          → ok planned (seq grammar.called_word (after_word plan.arguments)) ≡ true → ok planned (seq (a k.Count) (after_word plan.count_arguments)) ≡ true
-          → ok planned (seq plan.other_aggregate (after_word (parens one_argument))) ≡ true
-          → ok planned (exchanged plan.arguments) ≡ true → ok planned (exchanged plan.count_arguments) ≡ true → ok planned (exchanged (parens one_argument)) ≡ true → Words (words levels deeper dotted call c)
+      pub words_agree : {none : D} → Filled dot none → (made (named (spelled (codes "sum")) none)).copies ≡ 0 → ok left_factored (factored.words dot named called) ≡ true → ok left_factored (seq (a k.Quoted) dot) ≡ true
+          → ok left_factored (alt (factored.word_with grammar.called_word factored.arguments dot named called)
+          (alt (factored.word_with (a k.Count) factored.count_arguments dot named called) (factored.word_with factored.other_aggregate (parens one_argument) dot named called))) ≡ true
+          → ok left_factored (alt (factored.word_with (a k.Count) factored.count_arguments dot named called) (factored.word_with factored.other_aggregate (parens one_argument) dot named called)) ≡ true
+          → ok left_factored (seq grammar.called_word (after_word factored.arguments)) ≡ true → ok left_factored (seq (a k.Count) (after_word factored.count_arguments)) ≡ true
+          → ok left_factored (seq factored.other_aggregate (after_word (parens one_argument))) ≡ true
+          → ok left_factored (exchanged factored.arguments) ≡ true → ok left_factored (exchanged factored.count_arguments) ≡ true → ok left_factored (exchanged (parens one_argument)) ≡ true → Words (words levels deeper dotted call c)
       words_agree filled free all_ok quoted_ok words_ok two_ok called_ok count_ok other_ok by_arguments by_count by_one =
           by_eaten Words (same k.Quoted) c _
           (λ word mid i. ends_alike (dotted word mid) (behind (mapped (by_token (whole {start = c}) all_ok i (inl (starts i)))) quoted_ok i) (alike_passes i) (dotted_agrees word mid))
           (λ n. let l = other_unless (same k.Quoted) (whole {start = c}) quoted_ok refl n in by_eaten Words (among called_kinds) c _
-          (λ word mid i. word_agrees plan.arguments (arguments levels deeper) arguments_agrees refl by_arguments refl (λ t j. inl (inr (t, refl, j))) word mid (alike_passes i)
+          (λ word mid i. word_agrees factored.arguments (arguments levels deeper) arguments_agrees refl by_arguments refl (λ t j. inl (inr (t, refl, j))) word mid (alike_passes i)
           (behind (mapped (by_token l words_ok i (inl (starts i)))) called_ok i))
           (λ n. let l = other_unless (among called_kinds) l called_ok refl n in by_eaten Words (same k.Count) c _
-          (λ word mid i. word_agrees plan.count_arguments (count_arguments levels deeper) count_arguments_agrees refl by_count refl (λ t j. inl (inr (t, refl, j))) word mid (alike_passes i)
+          (λ word mid i. word_agrees factored.count_arguments (count_arguments levels deeper) count_arguments_agrees refl by_count refl (λ t j. inl (inr (t, refl, j))) word mid (alike_passes i)
           (behind (mapped (by_token l two_ok i (inl (starts i)))) count_ok i))
           (λ n. let l = mapped (other_unless (same k.Count) l count_ok refl n) in
           needs l other_ok (fill_seq (fill_token_of other_aggregates (spelled (codes "sum")) refl refl) (fill_one _ (fill_map (λ d w. named w d) filled))) (omega (arith, free))
           (λ word mid i. word_agrees (parens one_argument) (aggregate levels deeper) aggregate_agrees refl by_one refl (λ t j. inl (inr (t, refl, j))) word mid (alike_passes i) (behind l other_ok i)))))
 
-  pub named_first_agrees : (c : Cursor) → Agrees plan.named_first levels (λ read. read) (λ read. read) c c (named_first levels deeper c)
+  pub named_first_agrees : (c : Cursor) → Agrees factored.named_first levels (λ read. read) (λ read. read) c c (named_first levels deeper c)
   unfolding named_first
   named_first_agrees c = words_agree dot_name column_of (λ x. x) (λ read. read) column (λ f. f) c (column_agrees levels) (λ args r word mid alike l t. ends_alike (r mid) l alike t)
       (fill_absent (skip_then (a k.Dot) grammar.name))
@@ -134,7 +134,7 @@ module _ (levels : ℕ) (deeper : Deeper) (d : DeeperAgrees levels deeper) where
   pub enclosed_agrees : (c : Cursor) → Agrees enclosed_first levels (λ read. read) (λ read. read) c c (enclosed levels deeper c)
   unfolding enclosed
   enclosed_agrees c =
-      makes (in_parentheses levels deeper c) enclosed_of (mapped (whole {start = c})) (λ v. ap (λ z. c.copies + z) (enclosed_price v)) (λ v g end b. built_enclosed v b) (in_parentheses_agrees c)
+      makes (in_parentheses levels deeper c) enclosed_of (mapped (whole {start = c})) (λ v. ap (λ z. c.copies + z) (enclosed_cost v)) (λ v g end b. built_enclosed v b) (in_parentheses_agrees c)
 
   -- ---- operands
 

@@ -1,4 +1,4 @@
--- The readers of queries and of the set operators between them agree with the plan.
+-- The readers of queries and of the set operators between them agree with the left-factored grammar.
 use Rattle.std.proofs.Common.{◌≡◌, ℕ, ◌+◌, ◌<◌, Bool, true, false, List, [], ◌∷◌, ◌++◌, Option, Some, None, Err, refl, sym, ap, arith, inl, inr}
 use Rattle.grammar.specs.Form.{ref, seq, star}
 use Rattle.grammar.proofs.readers.Predictions.{ok, ahead}
@@ -20,11 +20,11 @@ use Rattle.sql_grammar.specs.QueryGrammar as grammar
 use Rattle.sql_grammar.specs.QueryGrammar.{The, intersect, next_intersect, next_union, union_or_except}
 use Rattle.sql_grammar.specs.QueryTrees.{SetWord, sets}
 use Rattle.sql_grammar.proofs.copies.QueryFillings.{fill_none, fill_query}
-use Rattle.sql_grammar.proofs.queries.QueryTable.{planned}
+use Rattle.sql_grammar.proofs.queries.QueryTable.{left_factored}
 use Rattle.sql_read.proofs.steps.AgreeDeeper.{DeeperAgrees}
 use Rattle.sql_read.proofs.steps.AgreeLoops.{IsWord, parts_repeat, same_by}
 use Rattle.sql_read.proofs.steps.AgreeSteps.{by_eaten_alone, closes, fill_group, first_unless, none_here, other_where}
-use Rattle.sql_read.proofs.steps.Agreeing.{Agrees, Remains, all_left, behind, behind_taken, built, by_eaten, by_eaten_within, by_token, ends_in, mapped, nested, other_unless, production, then_tail, too_deep_here, whole}
+use Rattle.sql_read.proofs.steps.Agreeing.{Agrees, Residual, all_left, behind, behind_taken, built, by_eaten, by_eaten_within, by_token, ends_in, mapped, nested, other_unless, production, then_tail, too_deep_here, whole}
 use Rattle.sql_read.proofs.steps.Extending.{◌⨟◌, extends_passes, extends_within}
 use Rattle.sql_read.proofs.steps.ReadLoops.{Begins}
 use Rattle.sql_read.proofs.steps.ReadPassing as p
@@ -46,7 +46,7 @@ module _ {W : Type 0} (f : The SetWord) (g : The (Built Query)) (q : Kind → Bo
     → ((w : W) (mid : Cursor) → IsWord entries_too (seq f g) g (λ u. (value w, u)) q levels room here mid → P (next (Some w) mid))
     → ((at : ℕ) → Overflows q room here (TooDeep at) here → P (Err (TooDeep at), here)) → (is_next q here.tokens ≡ false → P (next None here)) → P (word room here >>= next))
     (right_agrees : (c : Cursor) → Agrees g levels (λ read. read) (λ read. read) c c (right c))
-    (o : ok planned (star None (seq f g)) ≡ true) (i : Begins q (seq f g)) (b : begins_with q (ahead planned (seq f g)) ≡ true) where
+    (o : ok left_factored (star None (seq f g)) ≡ true) (i : Begins q (seq f g)) (b : begins_with q (ahead left_factored (seq f g)) ≡ true) where
   abbrev set : Query → W → Reader Query
   set left w c = right c >>= λ r. done (a_query.Set (value w).0 left r (value w).1)
 
@@ -80,7 +80,7 @@ module _ {room : ℕ} {here : Cursor} where
   full_too n v = record { still = v.still; full = v.full; next = n; at = v.at; place = v.place; too_deep = v.too_deep }
 
   module _ {levels : ℕ} {g : The (Built Query)} {mid : Cursor} where
-    set_word_read : {f : The SetWord} {q : Kind → Bool} {word : SetWord} → ok planned (seq f g) ≡ true → Takes f levels here.tokens word mid.tokens → Extends here mid → is_next q here.tokens ≡ true → 0 < room → Alike here mid
+    set_word_read : {f : The SetWord} {q : Kind → Bool} {word : SetWord} → ok left_factored (seq f g) ≡ true → Takes f levels here.tokens word mid.tokens → Extends here mid → is_next q here.tokens ≡ true → 0 < room → Alike here mid
         → IsWord entries_too (seq f g) g (λ u. (word, u)) q levels room here mid
     set_word_read s t x n m alike = record { rest = behind_taken whole s t x; next = n; room_left = m; alike = alike }
 
@@ -122,7 +122,7 @@ module _ (levels : ℕ) (deeper : Deeper) (d : DeeperAgrees levels deeper) where
       (λ at q. too_deep_here (all_left (mapped (parenthesized q.next))) (fill_group fill_query) (omega arith) (p.overflows q))
       (λ n. ends_in (block levels deeper c) (first_unless (same kind.Open) (production grammar.operand whole) refl refl n) (λ v. refl) (block_agrees levels deeper d c))
     where
-      parenthesized : is_next (same kind.Open) c.tokens ≡ true → Remains (grammar.parens (ref grammar.query)) levels c (ref grammar.operand) levels c (λ read. read)
+      parenthesized : is_next (same kind.Open) c.tokens ≡ true → Residual (grammar.parens (ref grammar.query)) levels c (ref grammar.operand) levels c (λ read. read)
       parenthesized n = other_where (same kind.Open) (production grammar.operand whole) refl refl n
 
   pub intersects_agrees : (before : Built Query) (start now : Cursor) (left : Query) → Builds before start left now

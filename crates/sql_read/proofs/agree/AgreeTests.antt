@@ -1,4 +1,4 @@
--- The readers of tests of values agree with the plan.
+-- The readers of tests of values agree with the left-factored grammar.
 use Rattle.std.proofs.Common.{Ok, ◌≡◌, ℕ, ◌+◌, false, ◌∷◌, codes, Option, Some, None, refl, ap, inl, arith, [], Bool, List, inr, sym, subst, ◌≤◌, ◌<◌, Err}
 use Rattle.grammar.specs.Form.{ref}
 use Rattle.grammar.specs.Productions.{optional}
@@ -16,8 +16,8 @@ use Rattle.sql_grammar.specs.Kinds.{among, kind_of, same}
 use Rattle.sql_grammar.specs.Numbering.{Built, both, copying, mapped as mapped_built}
 use Rattle.sql_grammar.specs.QueryGrammar as grammar
 use Rattle.sql_grammar.specs.QueryGrammar.{The, parens}
-use Rattle.sql_grammar.specs.QueryPlan.{between_values}
-use Rattle.sql_grammar.specs.QueryPlan as plan
+use Rattle.sql_grammar.specs.FactoredQueries.{between_values}
+use Rattle.sql_grammar.specs.FactoredQueries as factored
 use Rattle.sql_grammar.specs.QueryTrees as t
 use Rattle.sql_grammar.specs.QueryTailTrees as tails
 use Rattle.sql_grammar.proofs.copies.CopySteps.{fill_high, between_too_much}
@@ -25,7 +25,7 @@ use Rattle.sql_grammar.proofs.copies.QueryFillings.{fill_absent, fill_in_inner, 
 use Rattle.sql_read.proofs.steps.AgreeDeeper.{DeeperAgrees}
 use Rattle.sql_read.proofs.steps.AgreeSteps.{Paid, by_copied, closes, extends_copied, first_next, none_here, opens_parens, then_counted, there, tokens_copied, too_many_copies}
 use Rattle.sql_read.proofs.agree.AgreePrimaries.{value_agrees}
-use Rattle.sql_read.proofs.steps.Agreeing.{Agrees, Remains, all_left, behind, built, by_eaten, by_next, by_token, ends_in, makes, mapped, needs, other_unless, production, second, then_part, then_rest, whole}
+use Rattle.sql_read.proofs.steps.Agreeing.{Agrees, Residual, all_left, behind, built, by_eaten, by_next, by_token, ends_in, makes, mapped, needs, other_unless, production, second, then_part, then_rest, whole}
 use Rattle.sql_read.proofs.steps.Extending.{extends_itself}
 use Rattle.sql_read.proofs.steps.ReadPassing.{Alike, ◌then◌, alike_passes, alike_within, built_counted, built_from, built_until}
 use Rattle.sql_read.proofs.steps.ReadSteps as steps
@@ -70,31 +70,31 @@ in_negates sign word (inr (inr p)) left = refl
 abbrev Negates : (Option Lexeme → t.Left → Built Expr) → Lexeme → t.Left → Type 0
 Negates f sign left = f (Some sign) left ≡ mapped_built (t.negated (Some sign)) (f None left)
 
-negates : (room : Option ℕ) (ts : List Lexeme) (f : Option Lexeme → t.Left → Built Expr) (sign : Lexeme) (left : t.Left) → (of_form room plan.by_word).spells ts f → Negates f sign left
+negates : (room : Option ℕ) (ts : List Lexeme) (f : Option Lexeme → t.Left → Built Expr) (sign : Lexeme) (left : t.Left) → (of_form room factored.by_word).spells ts f → Negates f sign left
 negates room ts f sign left (inl (u, s, e)) = subst (λ z. Negates z sign left) (sym e) (in_negates sign u.0 u.1 left)
 negates room ts f sign left (inr (inl (u, s, e))) = subst (λ z. Negates z sign left) (sym e) refl
 negates room ts f sign left (inr (inr (u, s, e))) = subst (λ z. Negates z sign left) (sym e) refl
 
 -- what NOT makes of a test
-built_negated : {d : ℕ} {here rest : List Lexeme} {f : Option Lexeme → t.Left → Built Expr} {x : Expr} {began a : Cursor} (sign : Lexeme) (left : t.Left) → Takes plan.by_word d here f rest
+built_negated : {d : ℕ} {here rest : List Lexeme} {f : Option Lexeme → t.Left → Built Expr} {x : Expr} {began a : Cursor} (sign : Lexeme) (left : t.Left) → Takes factored.by_word d here f rest
     → Builds (f None left) began x a → Builds (f (Some sign) left) began (an_expr.Not x (t.place_of x)) a
 built_negated {d = d} {f = f} sign left s b = built_by (negates (Some d) s.took.taken f sign left s.took.spelled) (built_map (t.negated (Some sign)) b)
 
 -- ---- what is copied
 
 -- a NOT copies nothing
-in_price : (not_word : Option Lexeme) (word : Lexeme) (inside : tails.Inside (List (Built Expr))) (left : t.Left) → (tails.in_inside not_word word inside left).copies ≡ (tails.in_inside None word inside left).copies
-in_price None word inside left = refl
-in_price (Some sign) word inside left = ap (λ z. z.copies) (in_negates sign word inside left)
+in_cost : (not_word : Option Lexeme) (word : Lexeme) (inside : tails.Inside (List (Built Expr))) (left : t.Left) → (tails.in_inside not_word word inside left).copies ≡ (tails.in_inside None word inside left).copies
+in_cost None word inside left = refl
+in_cost (Some sign) word inside left = ap (λ z. z.copies) (in_negates sign word inside left)
 
 -- ---- where the limit on copies is passed
 
 abbrev Over : Option Lexeme → t.Left → Cursor → List Lexeme → List Lexeme → Type 0
-Over not_word left began here rest = Overspends copies_nothing (of_form None plan.by_word) (λ f. (f not_word left).copies) most_copies began.copies here rest
+Over not_word left began here rest = Overspends copies_nothing (of_form None factored.by_word) (λ f. (f not_word left).copies) most_copies began.copies here rest
 
 module _ {at now : Cursor} {sign : Lexeme} (q : Passes (same k.Between) at sign now) where
   between_over : (not_word : Option Lexeme) {before : Built Expr} {value : Expr} {began : Cursor} (count weight : ℕ) {after : Cursor} {fault : ReadFault} → weight ≡ t.weight (before, count)
-      → Builds before began value now → Copies weight now (Err fault) after → CopiesTooMuch plan.by_word (λ read. read not_word (before, count)) began at after
+      → Builds before began value now → Copies weight now (Err fault) after → CopiesTooMuch factored.by_word (λ read. read not_word (before, count)) began at after
   between_over not_word {before = before} {began = began} count weight {after = after} e b c = record {
     token = sign;
     overspends =
@@ -115,7 +115,7 @@ module _ (levels : ℕ) (deeper : Deeper) (d : DeeperAgrees levels deeper) where
   -- behind a NOT or none, a test of what was built from where it began
   module _ (negating : Option Lexeme) (before : Built Expr) (count weight : ℕ) (weighs : weight ≡ t.weight (before, count)) (began : Cursor) where
     abbrev ByWord : Cursor → Reading Expr → Type 0
-    ByWord at r = Agrees plan.by_word levels (λ read. read None (before, count)) (λ read. read negating (before, count)) began at r
+    ByWord at r = Agrees factored.by_word levels (λ read. read None (before, count)) (λ read. read negating (before, count)) began at r
 
     module _ (now : Cursor) (left : Expr) (b : Builds before began left now) where
       abbrev sought : Lexeme → Sought
@@ -125,13 +125,13 @@ module _ (levels : ℕ) (deeper : Deeper) (d : DeeperAgrees levels deeper) where
       in_agrees : (at : Cursor) (word : Lexeme) → Passes (same k.In) at word now → ByWord at (opened levels deeper now >>= λ open_. closed levels deeper (deeper.in_inner (sought word)) (λ x. x))
       in_agrees at word i =
           opens_parens (behind (mapped (by_token (whole {start = at}) refl i (inl (starts i)))) refl i) refl refl fill_in_inner (omega (arith, b.copies))
-          (λ open_ mid j m. closes (deeper.in_inner (sought word) mid) (λ x. x) m refl (λ v. ap (λ z. began.copies + z) (in_price negating word v (before, count))) (λ v x end c. c)
+          (λ open_ mid j m. closes (deeper.in_inner (sought word) mid) (λ x. x) m refl (λ v. ap (λ z. began.copies + z) (in_cost negating word v (before, count))) (λ v x end c. c)
           ((d j.room_left).in_inner (sought word) word before count began mid refl weighs (built_until b (alike_within j))))
 
       -- the higher bound, behind AND
       high_agrees : (at low_at mid last : Cursor) (low : Expr) (paid : Paid weight now low_at) (u : Agrees (ref grammar.value) levels (λ read. read) (λ read. read) low_at low_at (Ok low, mid)) (and_ : Lexeme) → Passes
           (same k.And) mid and_ last
-          → Remains (ref grammar.value) levels last plan.by_word levels at (λ v word left. t.between word u.reads.answers.read v left) → ByWord at (value levels deeper last >>= λ high. done (t.bounds left low high))
+          → Residual (ref grammar.value) levels last factored.by_word levels at (λ v word left. t.between word u.reads.answers.read v left) → ByWord at (value levels deeper last >>= λ high. done (t.bounds left low high))
       high_agrees at low_at mid last low paid u and_ i l = makes (value levels deeper last) (λ high. t.bounds left low high) l
           (λ v. omega (arith, b.copies, weighs, ap (λ z. z.copies) paid, u.reads.answers.builds.copies, ap (λ z. z.copies) i.moved))
           (λ v high end c. built_between count weight weighs b paid u.reads.answers.builds i c) (value_agrees levels deeper d last)
@@ -146,7 +146,7 @@ module _ (levels : ℕ) (deeper : Deeper) (d : DeeperAgrees levels deeper) where
             extends = l.extends;
           })
         where
-          l : Remains between_values levels now plan.by_word levels at (λ v word left. t.between word v.0 v.1 left)
+          l : Residual between_values levels now factored.by_word levels at (λ v word left. t.between word v.0 v.1 left)
           l = behind (mapped (mapped (by_token (other_unless (same k.In) (whole {start = at}) refl refl n) refl i (inl (starts i))))) refl i
 
           copied : (mid : Cursor) → Paid weight now mid → ByWord at (value levels deeper mid >>= λ low c. expected (same k.And) c >>= λ and_ c. value levels deeper c >>= λ high. done (t.bounds left low high))
@@ -205,7 +205,7 @@ module _ (levels : ℕ) (deeper : Deeper) (d : DeeperAgrees levels deeper) where
         (λ n. built (whole {start = now}) None (none_taken levels refl refl (none_here (among test_kinds) now n)) extends_itself b.builds)
 
   -- ( query ) behind EXISTS
-  pub exists_agrees : {N : The (Built Expr)} {start now : Cursor} (word : Lexeme) → Remains (parens (ref grammar.query)) levels now N levels start (λ q. t.exists (word, q)) → Alike start now
+  pub exists_agrees : {N : The (Built Expr)} {start now : Cursor} (word : Lexeme) → Residual (parens (ref grammar.query)) levels now N levels start (λ q. t.exists (word, q)) → Alike start now
       → Agrees N levels (λ read. read) (λ read. read) start start (exists_of levels deeper word now)
   exists_agrees word l alike =
       opens_parens l refl refl fill_query (omega arith)

@@ -15,28 +15,28 @@ pub behind-nothing : (o : Option (List ℕ)) → behind [] o ≡ o
 behind-nothing None = refl
 behind-nothing (Some rest) = refl
 
-pub behind-behind : (front : List ℕ) (byte : ℕ) (o : Option (List ℕ)) → behind front (behind (byte ∷ []) o) ≡ behind (front ++ byte ∷ []) o
-behind-behind front byte None = refl
-behind-behind front byte (Some rest) = ap Some (sym (append_assoc front (byte ∷ []) rest))
+pub behind-behind : (prefix : List ℕ) (byte : ℕ) (o : Option (List ℕ)) → behind prefix (behind (byte ∷ []) o) ≡ behind (prefix ++ byte ∷ []) o
+behind-behind prefix byte None = refl
+behind-behind prefix byte (Some rest) = ap Some (sym (append_assoc prefix (byte ∷ []) rest))
 
 -- ---- byte by byte
-pub unquoted-first : (mark : ℕ) (front bytes : List ℕ) (i : ℕ) → i < length bytes → nat_eq (get_or bytes i 0) mark ≡ true
-    → behind front (unquoted mark false (drop i bytes)) ≡ behind front (unquoted mark true (drop (i + 1) bytes))
-unquoted-first mark front bytes i h e = rw (drop-cons bytes i 0 h, e, add-one) refl
+pub unquoted-first : (mark : ℕ) (prefix bytes : List ℕ) (i : ℕ) → i < length bytes → nat_eq (get_or bytes i 0) mark ≡ true
+    → behind prefix (unquoted mark false (drop i bytes)) ≡ behind prefix (unquoted mark true (drop (i + 1) bytes))
+unquoted-first mark prefix bytes i h e = rw (drop-cons bytes i 0 h, e, add-one) refl
 
-pub unquoted-second : (mark : ℕ) (front bytes : List ℕ) (i : ℕ) → i < length bytes → nat_eq (get_or bytes i 0) mark ≡ true
-    → behind front (unquoted mark true (drop i bytes)) ≡ behind (front ++ get_or bytes i 0 ∷ []) (unquoted mark false (drop (i + 1) bytes))
-unquoted-second mark front bytes i h e =
+pub unquoted-second : (mark : ℕ) (prefix bytes : List ℕ) (i : ℕ) → i < length bytes → nat_eq (get_or bytes i 0) mark ≡ true
+    → behind prefix (unquoted mark true (drop i bytes)) ≡ behind (prefix ++ get_or bytes i 0 ∷ []) (unquoted mark false (drop (i + 1) bytes))
+unquoted-second mark prefix bytes i h e =
     rw (drop-cons bytes i 0 h, e, add-one)
-    (ap (λ m. behind front (behind (m ∷ []) (unquoted mark false (drop (suc i) bytes)))) (sym (eqb-true (get_or bytes i 0) mark e)) ∙ behind-behind front (get_or bytes i 0) _)
+    (ap (λ m. behind prefix (behind (m ∷ []) (unquoted mark false (drop (suc i) bytes)))) (sym (eqb-true (get_or bytes i 0) mark e)) ∙ behind-behind prefix (get_or bytes i 0) _)
 
-pub unquoted-other : (mark : ℕ) (front bytes : List ℕ) (i : ℕ) → i < length bytes → nat_eq (get_or bytes i 0) mark ≡ false
-    → behind front (unquoted mark false (drop i bytes)) ≡ behind (front ++ get_or bytes i 0 ∷ []) (unquoted mark false (drop (i + 1) bytes))
-unquoted-other mark front bytes i h e = rw (drop-cons bytes i 0 h, e, add-one) (behind-behind front (get_or bytes i 0) _)
+pub unquoted-other : (mark : ℕ) (prefix bytes : List ℕ) (i : ℕ) → i < length bytes → nat_eq (get_or bytes i 0) mark ≡ false
+    → behind prefix (unquoted mark false (drop i bytes)) ≡ behind (prefix ++ get_or bytes i 0 ∷ []) (unquoted mark false (drop (i + 1) bytes))
+unquoted-other mark prefix bytes i h e = rw (drop-cons bytes i 0 h, e, add-one) (behind-behind prefix (get_or bytes i 0) _)
 
-pub unquoted-alone : (mark : ℕ) (front bytes : List ℕ) (i : ℕ) → i < length bytes → nat_eq (get_or bytes i 0) mark ≡ false
-    → behind front (unquoted mark true (drop i bytes)) ≡ None
-unquoted-alone mark front bytes i h e = rw (drop-cons bytes i 0 h, e) refl
+pub unquoted-alone : (mark : ℕ) (prefix bytes : List ℕ) (i : ℕ) → i < length bytes → nat_eq (get_or bytes i 0) mark ≡ false
+    → behind prefix (unquoted mark true (drop i bytes)) ≡ None
+unquoted-alone mark prefix bytes i h e = rw (drop-cons bytes i 0 h, e) refl
 
 -- ---- against doubling
 behind-some : (byte : ℕ) (o : Option (List ℕ)) (inside : List ℕ) → behind (byte ∷ []) o ≡ Some inside → (rest : List ℕ) × (o ≡ Some rest) × (inside ≡ byte ∷ rest)

@@ -13,12 +13,12 @@ use Rattle.sql_grammar.specs.declared.kinds.Kind.TheVariants as k
 use Rattle.sql_grammar.specs.declared.kinds.Kind.{Kind}
 use Rattle.sql_grammar.specs.Kinds.{among, every_kind, kind_of, same}
 use Rattle.sql_grammar.specs.QueryGrammar.{Production, The, ands, conj, expr, expr_tail, intersect, intersects, neg, next_and, next_intersect, next_or, next_product, next_sum, next_union, operand, ors, part, primary, products, rest, set_tail, sums, term, test, unary, union_or_except, unions, value}
-use Rattle.sql_grammar.specs.QueryPlan.{plan, plan_of_rest}
+use Rattle.sql_grammar.specs.FactoredQueries.{factored, factored_of_rest}
 use Rattle.sql_grammar.specs.Numbering.{Built}
 use Rattle.sql_grammar.specs.QueryTrees.{Left}
 use Rattle.sql_read.specs.Reads.{of_form}
 use Rattle.sql_grammar.proofs.lists.EveryKind.{every_kind_is_there}
-use Rattle.sql_grammar.proofs.queries.QueryTable.{planned}
+use Rattle.sql_grammar.proofs.queries.QueryTable.{left_factored}
 use Rattle.sql_read.proofs.steps.ReadLoops.{Begins}
 
 -- ---- of forms
@@ -58,23 +58,23 @@ module _ (p : Kind → Bool) where
   begins_star : {A : Type 0} (most : Option ℕ) (f : The A) → Begins p f → Begins p (star most f)
   begins_star most f b t i = inr ([], t ∷ [], [], refl, refl, b t i)
 
-  begins_name : (n : Production) → Begins p (plan n) → Begins p (ref n)
-  begins_name n b t i = (produced planned None n).there.front (t ∷ []) (b t i)
+  begins_name : (n : Production) → Begins p (factored n) → Begins p (ref n)
+  begins_name n b t i = (produced left_factored None n).there.prefix (t ∷ []) (b t i)
 
 -- ---- expressions
 
 module _ (p : Kind → Bool) where
-  by_neg : Begins p (plan neg) → Begins p (ref expr)
+  by_neg : Begins p (factored neg) → Begins p (ref expr)
   by_neg b = begins_name p expr (begins_first p (ref conj) ors (begins_name p conj (begins_first p (ref neg) ands (begins_name p neg b))))
 
-  by_test : Begins p (plan test) → Begins p (ref expr)
+  by_test : Begins p (factored test) → Begins p (ref expr)
   by_test b = by_neg (λ t i. inr (begins_name p test b t i))
 
-  by_unary : Begins p (plan unary) → Begins p (ref expr)
+  by_unary : Begins p (factored unary) → Begins p (ref expr)
   by_unary b =
       by_test (λ t i. inr (inl (begins_name p value (begins_first p (ref term) sums (begins_name p term (begins_first p (ref unary) products (begins_name p unary b)))) t i)))
 
-  by_primary : Begins p (plan primary) → Begins p (ref expr)
+  by_primary : Begins p (factored primary) → Begins p (ref expr)
   by_primary b = by_unary (λ t i. inr (begins_name p primary b t i))
 
 pub expr_begins : Begins (among expr_kinds) (ref expr)
@@ -93,8 +93,8 @@ expr_begins = begins_each (ref expr) expr_kinds
 
 -- ---- tests
 
-plan_begins : Begins (among test_kinds) plan_of_rest
-plan_begins = begins_each plan_of_rest test_kinds
+factored_begins : Begins (among test_kinds) factored_of_rest
+factored_begins = begins_each factored_of_rest test_kinds
     ((among comparisons, λ t i. inl (inl (inr (t, refl, i))))
     ∷ (same k.Not, λ t i. inr (inl (inl (inr (t, refl, i)))))
     ∷ (same k.In, λ t i. inr (inr (inl (inl (inr (t, refl, i))))))
@@ -103,7 +103,7 @@ plan_begins = begins_each plan_of_rest test_kinds
     ∷ []) refl
 
 pub rest_begins : Begins (among test_kinds) (ref rest)
-rest_begins = begins_name (among test_kinds) rest plan_begins
+rest_begins = begins_name (among test_kinds) rest factored_begins
 
 -- ---- what follows the first part of a query
 

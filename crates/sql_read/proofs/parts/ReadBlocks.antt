@@ -15,12 +15,12 @@ use Rattle.sql_grammar.specs.Numbering.{Built, Numbers, each, perhaps, plain}
 use Rattle.sql_grammar.specs.QueryGrammar as grammar
 use Rattle.sql_grammar.specs.QueryEntries.{few_froms, most_further}
 use Rattle.sql_grammar.specs.QueryGrammar.{The, Froms, group_by, listed}
-use Rattle.sql_grammar.specs.QueryPlan.{of_plan}
+use Rattle.sql_grammar.specs.FactoredQueries.{of_factored}
 use Rattle.sql_grammar.specs.QueryTrees.{all_entries, all_of, block_node, block_of, columns_of, is_given}
 use Rattle.sql_read.specs.Reads.{Builds}
-use Rattle.sql_grammar.proofs.entries.FewPlan.{list_planned}
+use Rattle.sql_grammar.proofs.entries.FewFactored.{list_left_factored}
 use Rattle.sql_grammar.proofs.queries.QueryWords.{Below}
-use Rattle.grammar.proofs.plans.Alike.{below_map, below_seq, itself}
+use Rattle.grammar.proofs.factorings.Alike.{below_map, below_seq, itself}
 use Rattle.sql_read.proofs.steps.Extending.{extends_passes, extends_stays}
 use Rattle.sql_read.proofs.steps.ReadPassing.{Alike, ◌then◌}
 
@@ -62,19 +62,19 @@ after_distinct froms = seq (listed (ref grammar.item)) (after_items froms)
 
 -- where the entries are few
 
-pub froms_below : Below of_plan (few_froms most_further) (listed (ref grammar.from))
-froms_below = list_planned most_further (omega arith)
+pub froms_below : Below of_factored (few_froms most_further) (listed (ref grammar.from))
+froms_below = list_left_factored most_further (omega arith)
 
-pub clause_below : Below of_plan (from_clause fewer_froms) (from_clause any_froms)
+pub clause_below : Below of_factored (from_clause fewer_froms) (from_clause any_froms)
 clause_below = below_map (λ p. p.1) (below_seq (itself (grammar.a k.From)) froms_below)
 
-pub items_below : Below of_plan (after_items fewer_froms) (after_items any_froms)
+pub items_below : Below of_factored (after_items fewer_froms) (after_items any_froms)
 items_below = below_seq clause_below (itself after_from)
 
-pub distinct_below : Below of_plan (after_distinct fewer_froms) (after_distinct any_froms)
+pub distinct_below : Below of_factored (after_distinct fewer_froms) (after_distinct any_froms)
 distinct_below = below_seq (itself (listed (ref grammar.item))) items_below
 
-pub optional_below : Below of_plan (seq (optional (grammar.a k.Distinct)) (after_distinct fewer_froms)) (seq (optional (grammar.a k.Distinct)) (after_distinct any_froms))
+pub optional_below : Below of_factored (seq (optional (grammar.a k.Distinct)) (after_distinct fewer_froms)) (seq (optional (grammar.a k.Distinct)) (after_distinct any_froms))
 optional_below = below_seq (itself (optional (grammar.a k.Distinct))) distinct_below
 
 -- ---- what is built

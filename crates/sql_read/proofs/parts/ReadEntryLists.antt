@@ -4,15 +4,15 @@ use Rattle.std.proofs.Common.{◌≡◌, ℕ, zero, suc, ◌+◌, ◌-◌, ◌�
 use Rattle.std.proofs.lemmas.List.{append-nil}
 use Rattle.grammar.specs.Form.{ref, seq, star, alt, map, only, empty}
 use Rattle.grammar.proofs.languages.Forms.{includes_through}
-use Rattle.grammar.proofs.languages.Heights.{name_fronts}
+use Rattle.grammar.proofs.languages.Heights.{name_prefixes}
 use Rattle.std.proofs.lemmas.Bool.{ltb-true, ltb-false}
 use Rattle.grammar.specs.Language.{Language, seq_language}
 use Rattle.grammar.specs.Productions.{optional, skip_then}
-use Rattle.grammar.specs.Reading.{Took, Began, Remains}
+use Rattle.grammar.specs.Reading.{Took, Began, Residual}
 use Rattle.grammar.proofs.readers.Begun.{nothing_began}
 use Rattle.grammar.proofs.readers.Choices.{is_absent}
 use Rattle.grammar.proofs.readers.Predictions.{ahead, known}
-use Rattle.grammar.proofs.readers.Remaining as r
+use Rattle.grammar.proofs.readers.Residuals as r
 use Rattle.grammar.proofs.readers.Repetitions.{IsOneMore}
 use Rattle.grammar.proofs.readers.Steps.{IsWithin}
 use Rattle.sql_lex.specs.Lexemes.{Lexeme}
@@ -23,16 +23,16 @@ use Rattle.sql_grammar.specs.Kinds.{kind_of, same, among}
 use Rattle.sql_grammar.specs.Numbering.{Built}
 use Rattle.sql_grammar.specs.QueryEntries.{Further, before_entry, further_entries, most_entries, most_further, next_entry}
 use Rattle.sql_grammar.specs.QueryGrammar.{The, a, entry, expr}
-use Rattle.sql_grammar.specs.QueryPlan.{of_plan, plan}
+use Rattle.sql_grammar.specs.FactoredQueries.{of_factored, factored}
 use Rattle.sql_grammar.specs.QueryTrees as t
 use Rattle.sql_grammar.specs.declared.listed.Listed.{Listed}
 use Rattle.sql_read.specs.Cursor.{Cursor}
 use Rattle.sql_read.specs.Eating.{Passes}
 use Rattle.sql_read.specs.Reads.{TakesWithin, entries_too, few_form, of_form}
 use Rattle.sql_grammar.proofs.copies.QueryFillings.{word}
-use Rattle.sql_grammar.proofs.queries.QueryTable.{planned}
+use Rattle.sql_grammar.proofs.queries.QueryTable.{left_factored}
 use Rattle.sql_grammar.proofs.queries.QueryWords.{Below}
-use Rattle.grammar.proofs.plans.Alike.{below_alt, below_map, below_seq, itself}
+use Rattle.grammar.proofs.factorings.Alike.{below_alt, below_map, below_seq, itself}
 use Rattle.sql_read.proofs.steps.ReadSteps as steps
 use Rattle.sql_read.proofs.steps.ReadSteps.{Halts, LeftWithin, entries_within, fewer_within, halts_of, halts_through, starts, took_token, whole_within}
 use Rattle.sql_read.proofs.parts.ReadBegins.{begins_each}
@@ -111,25 +111,25 @@ join_begins = begins_each joins (k.Cross ∷ k.Inner ∷ k.Join ∷ [])
 
 -- ---- less is read of these where no entry fits
 
-pub entry_below : (fits : Bool) → Below of_plan (fitting fits) (ref entry)
+pub entry_below : (fits : Bool) → Below of_factored (fitting fits) (ref entry)
 entry_below true = itself (ref entry)
 entry_below false = record {
   holds = λ room. record {
     spells = λ ts v s. let none : false ≡ true = s.1.1 in cc;
-    front = λ ts f. subst (of_plan room entry).front (sym f) (name_fronts kind_of plan room entry).empty;
+    prefix = λ ts f. subst (of_factored room entry).prefix (sym f) (name_prefixes kind_of factored room entry).empty;
   };
 }
 
-comma_below : (fits : Bool) → Below of_plan (comma_of (fitting fits)) (comma_of (ref entry))
+comma_below : (fits : Bool) → Below of_factored (comma_of (fitting fits)) (comma_of (ref entry))
 comma_below fits = below_map (λ listed. inl listed) (below_map (λ p. p.1) (below_seq (itself (a k.Comma)) (entry_below fits)))
 
-pub on_below : (fits : Bool) → Below of_plan (on_of (fitting fits)) (on_of (ref entry))
+pub on_below : (fits : Bool) → Below of_factored (on_of (fitting fits)) (on_of (ref entry))
 on_below fits = below_map (λ p. t.joined_on p.0 p.1) (below_map (λ p. p.1) (below_seq (itself on_words) (below_seq (entry_below fits) (itself condition))))
 
-pub cross_below : (fits : Bool) → Below of_plan (cross_of (fitting fits)) (cross_of (ref entry))
+pub cross_below : (fits : Bool) → Below of_factored (cross_of (fitting fits)) (cross_of (ref entry))
 cross_below fits = below_map t.cross_joined (below_map (λ p. p.1) (below_seq (itself cross_words) (entry_below fits)))
 
-joins_below : (fits : Bool) → Below of_plan (join_of (fitting fits)) (join_of (ref entry))
+joins_below : (fits : Bool) → Below of_factored (join_of (fitting fits)) (join_of (ref entry))
 joins_below fits = below_map (λ joined. inr joined) (below_alt (on_below fits) (cross_below fits))
 
 next_within : (fits : Bool) → IsWithin (of_form None next_entry) (few_form (next_of (fitting fits)))
@@ -140,12 +140,12 @@ next_within fits = fewer_within (below_alt (comma_below fits) (joins_below fits)
 abbrev all_next : Language Lexeme (List Further)
 all_next = of_form None (star None next_entry)
 
-before_begins : (ts : List Lexeme) → (of_form None before_entry).front ts → (of_form None next_entry).front ts
+before_begins : (ts : List Lexeme) → (of_form None before_entry).prefix ts → (of_form None next_entry).prefix ts
 before_begins ts (inl c) = inl (inl c)
 before_begins ts (inr (inl j)) = inr (inl (inl j))
 before_begins ts (inr (inr c)) = inr (inr (inl c))
 
-one_begins_all : (ts : List Lexeme) → (of_form None next_entry).front ts → all_next.front ts
+one_begins_all : (ts : List Lexeme) → (of_form None next_entry).prefix ts → all_next.prefix ts
 one_begins_all ts f = inr ([], ts, [], refl, refl, f)
 
 further_spells : (n : ℕ) (ts : List Lexeme) (v : List Further) → (of_form None (further_entries n)).spells ts v → all_next.spells ts v
@@ -154,11 +154,11 @@ further_spells zero ts v (inr (u, (s, n), i)) = cc
 further_spells (suc n) ts v (inl (u, e, i)) = subst (λ z. all_next.spells ts z) (sym i) e
 further_spells (suc n) ts v (inr (u, (x, y, e, s, q), i)) = subst (λ z. all_next.spells ts z) (sym i) (x, y, e, s, further_spells n y u.1 q)
 
-after_one : (ts x y : List Lexeme) (v : Further) → ts ≡ x ++ y → (of_form None next_entry).spells x v → all_next.front y → all_next.front ts
-after_one ts x y v e s (inl i) = inr (x, y, v ∷ [], e, (x, [], sym (append-nil x), s, refl), subst (of_form None next_entry).front (sym i) (known planned next_entry refl).fronts.empty)
+after_one : (ts x y : List Lexeme) (v : Further) → ts ≡ x ++ y → (of_form None next_entry).spells x v → all_next.prefix y → all_next.prefix ts
+after_one ts x y v e s (inl i) = inr (x, y, v ∷ [], e, (x, [], sym (append-nil x), s, refl), subst (of_form None next_entry).prefix (sym i) (known left_factored next_entry refl).prefixes.empty)
 after_one ts x y v e s (inr (p, q, vs, i, c, f)) = inr (x ++ p, q, v ∷ vs, e ∙ (ap (λ z. x ++ z) i ∙ sym (append_assoc x p q)), (x, p, refl, s, c), f)
 
-further_begins : (n : ℕ) (ts : List Lexeme) → (of_form None (further_entries n)).front ts → all_next.front ts
+further_begins : (n : ℕ) (ts : List Lexeme) → (of_form None (further_entries n)).prefix ts → all_next.prefix ts
 further_begins zero ts (inl e) = inl e
 further_begins zero ts (inr b) = one_begins_all ts (before_begins ts b)
 further_begins (suc n) ts (inl e) = inl e
@@ -168,7 +168,7 @@ further_begins (suc n) ts (inr (inr (x, y, v, e, s, f))) = after_one ts x y v e 
 pub further_within : (n : ℕ) → IsWithin all_next (few_form (further_entries n))
 further_within n =
     let w = entries_within (further_entries n) in
-    record { includes = includes_through _ _ _ w.includes (record { spells = further_spells n; front = further_begins n }); fronts = w.fronts }
+    record { includes = includes_through _ _ _ w.includes (record { spells = further_spells n; prefix = further_begins n }); prefixes = w.prefixes }
 
 -- ---- one more of them
 
@@ -177,7 +177,7 @@ room_for_one : (n : ℕ) → IsOneMore (few_form next_entry) (few_form (further_
 unfolding few_form
 room_for_one n = record { spells = λ x y v vs s q. inr ((v, vs), (x, y, refl, s, q), refl); there = λ x f. inr f; back = back }
   where
-    back : (x : List Lexeme) → (x ≡ [] → ⊥) → (few_form (further_entries (suc n))).front x → (seq_language (few_form next_entry) (few_form (further_entries n))).front x
+    back : (x : List Lexeme) → (x ≡ [] → ⊥) → (few_form (further_entries (suc n))).prefix x → (seq_language (few_form next_entry) (few_form (further_entries n))).prefix x
     back x m (inl e) = absurd (m e)
     back x m (inr f) = f
 
@@ -200,17 +200,17 @@ joining = skip_then (optional (a k.Inner)) (a k.Join)
 abbrev crossing : The Lexeme
 crossing = skip_then (a k.Cross) (a k.Join)
 
-to_before : (ts : List Lexeme) → (few_form no_next).front ts → (few_form before_entry).front ts
+to_before : (ts : List Lexeme) → (few_form no_next).prefix ts → (few_form before_entry).prefix ts
 unfolding few_form
 to_before ts (inl (inl c)) = inl c
-to_before ts (inl (inr (x, y, v, e, c, i))) = inl (subst (few_form (a k.Comma)).front (whole_of ts x y e i) ((entries_within (a k.Comma)).fronts.spelled x v c))
+to_before ts (inl (inr (x, y, v, e, c, i))) = inl (subst (few_form (a k.Comma)).prefix (whole_of ts x y e i) ((entries_within (a k.Comma)).prefixes.spelled x v c))
 to_before ts (inr (inl (inl j))) = inr (inl j)
-to_before ts (inr (inl (inr (x, y, v, e, j, inl i)))) = inr (inl (subst (few_form joining).front (whole_of ts x y e i) ((entries_within joining).fronts.spelled x v.1 (v, j, refl))))
+to_before ts (inr (inl (inr (x, y, v, e, j, inl i)))) = inr (inl (subst (few_form joining).prefix (whole_of ts x y e i) ((entries_within joining).prefixes.spelled x v.1 (v, j, refl))))
 to_before ts (inr (inl (inr (x, y, v, e, j, inr (x1, y1, w, e1, s, f))))) = let none : false ≡ true = s.1.1 in cc
 to_before ts (inr (inr (inl c))) = inr (inr c)
-to_before ts (inr (inr (inr (x, y, v, e, c, i)))) = inr (inr (subst (few_form crossing).front (whole_of ts x y e i) ((entries_within crossing).fronts.spelled x v.1 (v, c, refl))))
+to_before ts (inr (inr (inr (x, y, v, e, c, i)))) = inr (inr (subst (few_form crossing).prefix (whole_of ts x y e i) ((entries_within crossing).prefixes.spelled x v.1 (v, c, refl))))
 
-from_before : (ts : List Lexeme) → (few_form before_entry).front ts → (few_form no_next).front ts
+from_before : (ts : List Lexeme) → (few_form before_entry).prefix ts → (few_form no_next).prefix ts
 unfolding few_form
 from_before ts (inl c) = inl (inl c)
 from_before ts (inr (inl j)) = inr (inl (inl j))
@@ -220,11 +220,11 @@ no_room : IsOneMore (few_form no_next) (few_form (further_entries zero)) (few_fo
 unfolding few_form
 no_room = record { spells = λ x y v vs s q. absurd (no_entry x v s); there = there; back = back }
   where
-    there : (x : List Lexeme) → (seq_language (few_form no_next) (few_form (further_entries zero))).front x → (few_form (further_entries zero)).front x
+    there : (x : List Lexeme) → (seq_language (few_form no_next) (few_form (further_entries zero))).prefix x → (few_form (further_entries zero)).prefix x
     there x (inl f) = inr (to_before x f)
     there x (inr (y, z, v, e, s, f)) = absurd (no_entry y v s)
 
-    back : (x : List Lexeme) → (x ≡ [] → ⊥) → (few_form (further_entries zero)).front x → (seq_language (few_form no_next) (few_form (further_entries zero))).front x
+    back : (x : List Lexeme) → (x ≡ [] → ⊥) → (few_form (further_entries zero)).prefix x → (seq_language (few_form no_next) (few_form (further_entries zero))).prefix x
     back x m (inl e) = absurd (m e)
     back x m (inr f) = inl (from_before x f)
 
@@ -249,7 +249,7 @@ one_more_behind count = go (fits count) refl
 -- further entries may follow here, behind so many of a list that began at the start
 pub record FurtherLeft (count : ℕ) (start here : List Lexeme) : Type 0 where
   pub join : List Further → Built Listed × List Further
-  pub remains : Remains (of_form None (star None next_entry)) (few_form (further_entries (most_entries - count))) here (of_form None one_list) (few_form few_list) start join
+  pub residual : Residual (of_form None (star None next_entry)) (few_form (further_entries (most_entries - count))) here (of_form None one_list) (few_form few_list) start join
 
 -- an entry is to stand here: the first of the list, or one behind a comma
 pub data EntryAwaited (count : ℕ) (start : List Lexeme) (here : Cursor) : Type 0 where
@@ -268,28 +268,28 @@ module _ {count : ℕ} {start here : List Lexeme} (l : FurtherLeft count start h
   next_taken : (v : Further) (mid : List Lexeme) → Took (of_form None next_entry) next here v mid → FurtherLeft (count + 1) start mid
   next_taken v mid s = record {
     join = λ vs. l.join (v ∷ vs);
-    remains = r.left_more planned _ _ start None next_entry next (next_within (fits count)) refl _ _ (further_within (most_entries - (count + 1))) (one_more_behind count) here l.join l.remains v mid s;
+    residual = r.left_more left_factored _ _ start None next_entry next (next_within (fits count)) refl _ _ (further_within (most_entries - (count + 1))) (one_more_behind count) here l.join l.residual v mid s;
   }
 
-  next_halts : (token : Lexeme) (more : List Lexeme) → here ≡ token ∷ more → (of_form None next_entry).front (token ∷ []) → Halts (of_form None next_entry) next here (of_form None one_list) (few_form few_list) start
+  next_halts : (token : Lexeme) (more : List Lexeme) → here ≡ token ∷ more → (of_form None next_entry).prefix (token ∷ []) → Halts (of_form None next_entry) next here (of_form None one_list) (few_form few_list) start
   next_halts token more e b = record {
-    failed = r.left_more_failed planned _ _ start None next_entry next (next_within (fits count)) refl _ _ (further_within (most_entries - (count + 1))) (one_more_behind count) here l.join l.remains token more e b;
-    exceeded = r.left_more_exceeded planned _ _ start None next_entry next (next_within (fits count)) refl _ _ (further_within (most_entries - (count + 1))) (one_more_behind count) here l.join l.remains;
-    began = r.left_more_began planned _ _ start None next_entry next (next_within (fits count)) refl _ _ (further_within (most_entries - (count + 1))) (one_more_behind count) here l.join l.remains;
+    failed = r.left_more_failed left_factored _ _ start None next_entry next (next_within (fits count)) refl _ _ (further_within (most_entries - (count + 1))) (one_more_behind count) here l.join l.residual token more e b;
+    exceeded = r.left_more_exceeded left_factored _ _ start None next_entry next (next_within (fits count)) refl _ _ (further_within (most_entries - (count + 1))) (one_more_behind count) here l.join l.residual;
+    began = r.left_more_began left_factored _ _ start None next_entry next (next_within (fits count)) refl _ _ (further_within (most_entries - (count + 1))) (one_more_behind count) here l.join l.residual;
   }
 
   -- what was taken up to here begins the list
   pub list_begins : Began (few_form few_list) start here
-  list_begins = l.remains.began here (nothing_began (few_form (further_entries (most_entries - count))) (entries_within (further_entries (most_entries - count))).fronts here)
+  list_begins = l.residual.began here (nothing_began (few_form (further_entries (most_entries - count))) (entries_within (further_entries (most_entries - count))).prefixes here)
 
   -- no further entry
-  pub list_ended : is_absent kind_of (ahead planned next_entry) here ≡ true → Took (of_form None one_list) (few_form few_list) start (l.join []) here
-  list_ended n = r.left_last planned _ _ start None next_entry next (next_within (fits count)) refl (few_form (further_entries (most_entries - count))) (none_further (most_entries - count)) here l.join l.remains n
+  pub list_ended : is_absent kind_of (ahead left_factored next_entry) here ≡ true → Took (of_form None one_list) (few_form few_list) start (l.join []) here
+  list_ended n = r.left_last left_factored _ _ start None next_entry next (next_within (fits count)) refl (few_form (further_entries (most_entries - count))) (none_further (most_entries - count)) here l.join l.residual n
 
 -- ---- the entry that is to stand here
 
 comma_left : (fits : Bool) {before here : Cursor} {comma : Lexeme} → Passes (same k.Comma) before comma here
-    → Remains (of_form None (ref entry)) (few_form (fitting fits)) here.tokens (of_form None next_entry) (few_form (next_of (fitting fits))) before.tokens (λ listed. inl listed)
+    → Residual (of_form None (ref entry)) (few_form (fitting fits)) here.tokens (of_form None next_entry) (few_form (next_of (fitting fits))) before.tokens (λ listed. inl listed)
 comma_left fits {before = before} {here = here} {comma = comma} q =
     let choice = steps.next_to (comma_of (fitting fits)) (whole_within {told = entries_too} {N = next_entry} {NB = few_form (next_of (fitting fits))} {e = 0} {start = before.tokens})
     (joins_below fits) refl comma here.tokens q.stood (inl (starts q)) in
@@ -308,7 +308,7 @@ module _ {count : ℕ} {start : List Lexeme} {here : Cursor} where
   entry_read {levels = levels} (at_start z e) v mid s =
       subst (λ n. FurtherLeft (n + 1) start mid) (sym z) (record {
         join = λ vs. (v, vs);
-        remains = (steps.second_in {f = ref entry} {g = star None next_entry} (few_form (ref entry)) (few_form (further_entries most_further)) (entries_within (ref entry)) (further_within most_further)
+        residual = (steps.second_in {f = ref entry} {g = star None next_entry} (few_form (ref entry)) (few_form (further_entries most_further)) (entries_within (ref entry)) (further_within most_further)
             (whole_list levels start) refl (subst (λ u. TakesWithin entries_too (ref entry) (few_form (ref entry)) levels u v mid) e
             (subst (λ n. TakesWithin entries_too (ref entry) (few_form (entry_behind n)) levels here.tokens v mid) z s))).few tt;
       })
@@ -324,14 +324,14 @@ module _ {count : ℕ} {start : List Lexeme} {here : Cursor} where
 
 -- ---- an entry behind JOIN
 
-module _ {count : ℕ} {start here : List Lexeme} (l : FurtherLeft count start here) (n : is_absent kind_of (ahead planned comma_entry) here ≡ true) where
-  joins_left : Remains (of_form None joins) (few_form (joins_behind count)) here (of_form None next_entry) (few_form (next_of (entry_behind count))) here (λ j. inr j)
+module _ {count : ℕ} {start here : List Lexeme} (l : FurtherLeft count start here) (n : is_absent kind_of (ahead left_factored comma_entry) here ≡ true) where
+  joins_left : Residual (of_form None joins) (few_form (joins_behind count)) here (of_form None next_entry) (few_form (next_of (entry_behind count))) here (λ j. inr j)
   joins_left = (steps.mapped_to (joins_behind count)
       (steps.other_to (join_of (entry_behind count)) (whole_within {told = entries_too} {N = next_entry} {NB = few_form (next_of (entry_behind count))} {e = 0} {start = here}) (comma_below (fits count)) refl n)).few tt
 
   pub join_read : (j : Built Entry) (mid : List Lexeme) → Took (of_form None joins) (few_form (joins_behind count)) here j mid → FurtherLeft (count + 1) start mid
   join_read j mid s = next_taken l (inr j) mid (joins_left.took j mid s)
 
-  pub join_halts : (token : Lexeme) (more : List Lexeme) → here ≡ token ∷ more → (of_form None joins).front (token ∷ [])
+  pub join_halts : (token : Lexeme) (more : List Lexeme) → here ≡ token ∷ more → (of_form None joins).prefix (token ∷ [])
       → Halts (of_form None joins) (few_form (joins_behind count)) here (of_form None one_list) (few_form few_list) start
   join_halts token more e b = halts_through (next_halts l token more e (inr b)) (halts_of joins_left)

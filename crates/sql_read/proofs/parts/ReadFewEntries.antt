@@ -21,13 +21,13 @@ use Rattle.sql_grammar.specs.Kinds.{among, kind_of, name_kinds, same, every_kind
 use Rattle.sql_grammar.specs.Numbering.{Built}
 use Rattle.sql_grammar.specs.QueryEntries.{Further, few_froms, items_of, most_further, next_entry}
 use Rattle.sql_grammar.specs.QueryGrammar.{The, Froms, entry, from, listed}
-use Rattle.sql_grammar.specs.QueryPlan.{plan}
+use Rattle.sql_grammar.specs.FactoredQueries.{factored}
 use Rattle.sql_grammar.specs.declared.listed.Listed.{Listed}
 use Rattle.sql_grammar.specs.QueryTrees.{all_entries}
 use Rattle.sql_read.specs.Reads.{depth_alone, entries_too, few_form, of_form, Crowds, GivesWithin, RefusesWithin, TakesWithin}
 use Rattle.sql_grammar.proofs.lists.EveryKind.{every_kind_is_there}
-use Rattle.sql_grammar.proofs.entries.FewPlan.{list_planned}
-use Rattle.sql_grammar.proofs.queries.QueryTable.{planned}
+use Rattle.sql_grammar.proofs.entries.FewFactored.{list_left_factored}
+use Rattle.sql_grammar.proofs.queries.QueryTable.{left_factored}
 use Rattle.sql_read.proofs.code.Loops.{fine, too_many}
 use Rattle.sql_read.proofs.parts.ReadEntryLists.{FurtherLeft, comma_entry, entry_behind, few_list, fits, fitting, join_begins, join_halts, join_kinds, join_read, joins, joins_behind, one_list}
 use Rattle.sql_read.proofs.steps.ReadLoops.{IsFirst, first_there}
@@ -49,18 +49,18 @@ abbrev deep : ℕ → Language Lexeme (Built Listed)
 deep levels = of_form (Some levels) (ref entry)
 
 -- a parenthesis or a name begins one, where a level is left for the parenthesis
-entry_begins : (levels : ℕ) (t : Lexeme) → begins_entry (kind_of t) ≡ true → ((levels == 0) && same k.Open (kind_of t)) ≡ false → (deep levels).front (t ∷ [])
+entry_begins : (levels : ℕ) (t : Lexeme) → begins_entry (kind_of t) ≡ true → ((levels == 0) && same k.Open (kind_of t)) ≡ false → (deep levels).prefix (t ∷ [])
 entry_begins levels t e f = go levels f (or_cases (same k.Open (kind_of t)) (among name_kinds (kind_of t)) e)
   where
-    go : (levels : ℕ) → ((levels == 0) && same k.Open (kind_of t)) ≡ false → (same k.Open (kind_of t) ≡ true) ⊎ (among name_kinds (kind_of t) ≡ true) → (deep levels).front (t ∷ [])
-    go levels f (inr n) = (from_rule kind_of plan (Some levels) entry).front (t ∷ []) (inl (inl (inr (t, refl, n))))
+    go : (levels : ℕ) → ((levels == 0) && same k.Open (kind_of t)) ≡ false → (same k.Open (kind_of t) ≡ true) ⊎ (among name_kinds (kind_of t) ≡ true) → (deep levels).prefix (t ∷ [])
+    go levels f (inr n) = (from_rule kind_of factored (Some levels) entry).prefix (t ∷ []) (inl (inl (inr (t, refl, n))))
     go zero f (inl o) = cc
-    go (suc levels) f (inl o) = (from_rule kind_of plan (Some (suc levels)) entry).front (t ∷ []) (inr (inl (inl (inr (t, refl, o)))))
+    go (suc levels) f (inl o) = (from_rule kind_of factored (Some (suc levels)) entry).prefix (t ∷ []) (inr (inl (inl (inr (t, refl, o)))))
 
 -- what a form begins with is of these kinds
-first_is : {A : Type 0} (f : The A) (p : Kind → Bool) → ok planned f ≡ true → list_all (λ kind. not ((ahead planned f).first kind) || p kind) every_kind ≡ true → (t : Lexeme) (x : List Lexeme) → (of_form None f).front
+first_is : {A : Type 0} (f : The A) (p : Kind → Bool) → ok left_factored f ≡ true → list_all (λ kind. not ((ahead left_factored f).first kind) || p kind) every_kind ≡ true → (t : Lexeme) (x : List Lexeme) → (of_form None f).prefix
     (t ∷ x) → p (kind_of t) ≡ true
-first_is f p o e t x s = implied ((ahead planned f).first (kind_of t)) (p (kind_of t)) (every_kind_is_there (λ kind. not ((ahead planned f).first kind) || p kind) e (kind_of t)) ((known planned f o).ahead.first t x s)
+first_is f p o e t x s = implied ((ahead left_factored f).first (kind_of t)) (p (kind_of t)) (every_kind_is_there (λ kind. not ((ahead left_factored f).first kind) || p kind) e (kind_of t)) ((known left_factored f o).ahead.first t x s)
 
 -- ---- whether one more entry is allowed
 
@@ -81,7 +81,7 @@ pub all_fits : (count : ℕ) → fits count ≡ true → few_form (ref entry) �
 all_fits count e = sym (ap (λ (b : Bool). few_form (fitting b)) e)
 
 -- one begins, and none fits
-beyond_all : (t : Lexeme) (rest : List Lexeme) → (of_form None (ref entry)).front (t ∷ []) → Exceeded (of_form None (ref entry)) (few_form (fitting false)) (t ∷ rest) (t ∷ rest)
+beyond_all : (t : Lexeme) (rest : List Lexeme) → (of_form None (ref entry)).prefix (t ∷ []) → Exceeded (of_form None (ref entry)) (few_form (fitting false)) (t ∷ rest) (t ∷ rest)
 unfolding few_form
 beyond_all t rest f = record { taken = []; whole = refl; begun = refl; passes = (f, λ e. cc) }
 
@@ -96,7 +96,7 @@ not_allowed levels count {a = a} {fault = fault} e =
         goes_on = record { taken = f.first ∷ []; whole = f.stood; begun = begins };
         few = λ n. subst (λ b. Exceeded (of_form None (ref entry)) (few_form (fitting b)) a.tokens a.tokens) (sym none)
             (subst (λ ts. Exceeded (of_form None (ref entry)) (few_form (fitting false)) ts ts) (sym f.stood)
-            (beyond_all f.first f.others ((deep_within levels (ref entry)).includes.front (f.first ∷ []) begins)));
+            (beyond_all f.first f.others ((deep_within levels (ref entry)).includes.prefix (f.first ∷ []) begins)));
       };
     })
   where
@@ -112,7 +112,7 @@ not_allowed levels count {a = a} {fault = fault} e =
     level : ((levels == 0) && same k.Open (kind_of f.first)) ≡ false
     level = subst (λ ts. ((levels == 0) && is_next (same k.Open) ts) ≡ false) f.stood (or_parts (fits count) ((levels == 0) && is_next (same k.Open) a.tokens) o.first).1
 
-    begins : (deep levels).front (f.first ∷ [])
+    begins : (deep levels).prefix (f.first ∷ [])
     begins = entry_begins levels f.first f.of_kind level
 
 -- ---- what stops the list
@@ -152,17 +152,17 @@ as_froms : (ts : List Lexeme) (v : Built Listed × List Further) → (few_form f
 unfolding few_form
 as_froms ts v s = (v, s, refl)
 
-begun_froms : (ts : List Lexeme) → (few_form few_list).front ts → few.front ts
+begun_froms : (ts : List Lexeme) → (few_form few_list).prefix ts → few.prefix ts
 unfolding few_form
 begun_froms ts f = f
 
-froms_begun : (ts : List Lexeme) → few.front ts → (few_form few_list).front ts
+froms_begun : (ts : List Lexeme) → few.prefix ts → (few_form few_list).prefix ts
 unfolding few_form
 froms_begun ts f = f
 
 -- one value is read
 same_read : (ts : List Lexeme) (v : Froms) (w : Built Listed × List Further) → (of_form None froms).spells ts v → (few_form few_list).spells ts w → v ≡ items_of w
-same_read ts v w s q = (known planned froms refl).unique ts v (items_of w) s ((fewer_within (list_planned most_further (omega arith))).includes.spells ts (items_of w) (as_froms ts w q))
+same_read ts v w s q = (known left_factored froms refl).unique ts v (items_of w) s ((fewer_within (list_left_factored most_further (omega arith))).includes.spells ts (items_of w) (as_froms ts w q))
 
 pub list_given : {levels : ℕ} {a b : Cursor} {es : List Entry} {C : Language Lexeme Froms} (w : Built Listed × List Further) → GivesWithin depth_alone froms C levels all_entries a a es b
     → Took (of_form None one_list) (few_form few_list) a.tokens w b.tokens → GivesWithin entries_too froms few levels all_entries a a es b
@@ -190,7 +190,7 @@ module _ (levels : ℕ) (a b : Cursor) where
   list_failed d t = record {
     taken = d.taken;
     whole = d.whole;
-    begun = subst few.front (same_taken a.tokens b.tokens t.taken d.taken t.whole d.whole) (begun_froms t.taken t.begun);
+    begun = subst few.prefix (same_taken a.tokens b.tokens t.taken d.taken t.whole d.whole) (begun_froms t.taken t.begun);
     unspelled = d.unspelled;
     stops = d.stops;
   }
@@ -201,17 +201,17 @@ module _ (levels : ℕ) (a b : Cursor) where
   list_crowded : Crowds depth_alone froms few levels a b → Exceeded (of_form None one_list) (few_form few_list) a.tokens b.tokens → Exceeded (of_form None froms) few a.tokens b.tokens
   list_crowded d t = record { taken = t.taken; whole = t.whole; begun = begun_froms t.taken t.begun; passes = go b.tokens d.next t.whole t.passes }
     where
-      goes_on : a.tokens ≡ t.taken ++ d.token ∷ d.more → (of_form None froms).front (t.taken ++ d.token ∷ [])
+      goes_on : a.tokens ≡ t.taken ++ d.token ∷ d.more → (of_form None froms).prefix (t.taken ++ d.token ∷ [])
       goes_on e =
-          (deep_within levels froms).includes.front _
-          (subst (of_form (Some levels) froms).front (same_taken a.tokens d.more d.goes_on.taken (t.taken ++ d.token ∷ []) d.goes_on.whole (e ∙ sym (append_assoc t.taken (d.token ∷ []) d.more))) d.goes_on.begun)
+          (deep_within levels froms).includes.prefix _
+          (subst (of_form (Some levels) froms).prefix (same_taken a.tokens d.more d.goes_on.taken (t.taken ++ d.token ∷ []) d.goes_on.whole (e ∙ sym (append_assoc t.taken (d.token ∷ []) d.more))) d.goes_on.begun)
 
       go : (rest : List Lexeme) → rest ≡ d.token ∷ d.more → a.tokens ≡ t.taken ++ rest → reading.Passes (of_form None one_list) (few_form few_list) t.taken rest → reading.Passes (of_form None froms) few t.taken rest
       go [] i e p = p
       go (u ∷ rest) i e p =
           let h : d.token ≡ u = cc in
           let m : d.more ≡ rest = cc in
-          (subst (λ z. (of_form None froms).front (t.taken ++ z ∷ [])) h (goes_on (e ∙ ap (λ z. t.taken ++ z) i)), λ f. p.1 (froms_begun _ f))
+          (subst (λ z. (of_form None froms).prefix (t.taken ++ z ∷ [])) h (goes_on (e ∙ ap (λ z. t.taken ++ z) i)), λ f. p.1 (froms_begun _ f))
 
 pub list_refused : {levels : ℕ} {a b : Cursor} {C : Language Lexeme Froms} (fault : ReadFault) → RefusesWithin depth_alone froms C levels a fault b → ListRefused a.tokens fault b.tokens
     → RefusesWithin entries_too froms few levels a fault b
@@ -239,18 +239,18 @@ pub record ReadsList (start : List Lexeme) (result : Result (List Entry) ReadFau
   pub answers : ListAnswers start result rest
 
 -- no comma and no JOIN follows
-pub no_further : (here : List Lexeme) → is_next (same k.Comma) here ≡ false → is_next join_kinds here ≡ false → is_absent kind_of (ahead planned next_entry) here ≡ true
-no_further here n m = absent_unless (λ x. same k.Comma x || join_kinds x) (ahead planned next_entry) refl here (neither_next (same k.Comma) join_kinds here n m)
+pub no_further : (here : List Lexeme) → is_next (same k.Comma) here ≡ false → is_next join_kinds here ≡ false → is_absent kind_of (ahead left_factored next_entry) here ≡ true
+no_further here n m = absent_unless (λ x. same k.Comma x || join_kinds x) (ahead left_factored next_entry) refl here (neither_next (same k.Comma) join_kinds here n m)
 
 -- ---- what stands before a JOIN
 
 -- no comma stands there
-no_comma : (ts : List Lexeme) → is_next join_kinds ts ≡ true → is_absent kind_of (ahead planned comma_entry) ts ≡ true
-no_comma ts n = absent_where join_kinds (ahead planned comma_entry) refl ts n
+no_comma : (ts : List Lexeme) → is_next join_kinds ts ≡ true → is_absent kind_of (ahead left_factored comma_entry) ts ≡ true
+no_comma ts n = absent_where join_kinds (ahead left_factored comma_entry) refl ts n
 
 joins_next : (start rest : List Lexeme) (v : Built Entry) (taken : List Lexeme) → start ≡ taken ++ rest → (of_form None joins).spells taken v → is_next join_kinds start ≡ true
-joins_next start rest v [] e s = let i : false ≡ true = (known planned joins refl).ahead.nullable v s in cc
-joins_next start rest v (t ∷ x) e s = subst (λ ts. is_next join_kinds ts ≡ true) (sym e) (first_is joins join_kinds refl refl t x ((known planned joins refl).fronts.spelled (t ∷ x) v s))
+joins_next start rest v [] e s = let i : false ≡ true = (known left_factored joins refl).ahead.nullable v s in cc
+joins_next start rest v (t ∷ x) e s = subst (λ ts. is_next join_kinds ts ≡ true) (sym e) (first_is joins join_kinds refl refl t x ((known left_factored joins refl).prefixes.spelled (t ∷ x) v s))
 
 -- ---- so many as the list is long
 

@@ -25,7 +25,7 @@ use Rattle.sql_grammar.specs.Numbering.{Built, mapped}
 use Rattle.sql_grammar.specs.QueryCopies.{copies_nothing, most_copies}
 use Rattle.sql_grammar.specs.QueryGrammar.{The, expr_tail, in_parentheses, inner, set_tail}
 use Rattle.sql_grammar.specs.QueryTails.{commas}
-use Rattle.sql_grammar.specs.QueryPlan.{sort}
+use Rattle.sql_grammar.specs.FactoredQueries.{sort}
 use Rattle.sql_grammar.specs.QueryTrees as t
 use Rattle.sql_grammar.specs.QueryTailTrees as tails
 use Rattle.sql_grammar.specs.QueryTrees.{Left as Part}
@@ -40,10 +40,10 @@ use Rattle.sql_read.proofs.steps.ReadSteps.{Blocks, Left, halts_as, built_as, bu
 -- ---- what has a token
 
 -- where a token begins it, some is taken
-pub cannot_stay : {A : Type 0} (U : Language Lexeme A) (here : List Lexeme) (first : Lexeme) (others taken rest : List Lexeme) → here ≡ first ∷ others → U.front (first ∷ [])
+pub cannot_stay : {A : Type 0} (U : Language Lexeme A) (here : List Lexeme) (first : Lexeme) (others taken rest : List Lexeme) → here ≡ first ∷ others → U.prefix (first ∷ [])
     → here ≡ taken ++ rest → Stops U taken rest → here ≡ rest → ⊥
 cannot_stay U here first others [] [] e f i s j = cc
-cannot_stay U here first others [] (c ∷ rest) e f i s j = let k : first ≡ c = cc in s (subst (λ z. U.front (z ∷ [])) k f)
+cannot_stay U here first others [] (c ∷ rest) e f i s j = let k : first ≡ c = cc in s (subst (λ z. U.prefix (z ∷ [])) k f)
 cannot_stay U here first others (c ∷ taken) rest e f i s j =
     let n : length here ≡ (length taken + 1) + length rest = ap length i ∙ omega (arith, length-append taken rest) in
     let m : length here ≡ length rest = ap length j in
@@ -62,7 +62,7 @@ module _ {A : Type 0} {N : The A} {e : ℕ} {start : List Lexeme} {C : Type 0} {
   pub some_part : Left (nonempty f) d here N e start h → Blocks f d here N e start
   unfolding few_form
   some_part l = record {
-    halts = halts_as (nonempty_failed (of_form None f) (of_form (Some d) f) here) (nonempty_exceeded (of_form None f) (of_form (Some d) f) here) (λ ts b. b) l.remains;
+    halts = halts_as (nonempty_failed (of_form None f) (of_form (Some d) f) here) (nonempty_exceeded (of_form None f) (of_form (Some d) f) here) (λ ts b. b) l.residual;
     few = λ n. halts_as (nonempty_failed (of_form None f) (few_form f) here) (nonempty_exceeded (of_form None f) (few_form f) here) (λ ts b. b) (l.few n);
   }
 
@@ -72,7 +72,7 @@ module _ {C Y : Type 0} {f : The C} {part : C → Built Y} {start before after :
     → Overspends copies_nothing (of_form None (nonempty f)) (λ v. (part v).copies) most_copies start.copies before.tokens rest) where
   copied_some : {fault : ReadFault} → CopiedToFault f part start before fault after → CopiedToFault (nonempty f) part start before fault after
   copied_some = copied_by
-      (λ r. let some = reaches r.value after.tokens r.up_to in record { value = some.value; up_to = some.reaches; count = omega (arith, r.count, some.same_price) })
+      (λ r. let some = reaches r.value after.tokens r.up_to in record { value = some.value; up_to = some.reaches; count = omega (arith, r.count, some.same_cost) })
       (λ r. record { token = r.token; overspends = over (r.token ∷ after.tokens) r.overspends })
 
 module _ {start before after : Cursor} {fault : ReadFault} where
@@ -93,10 +93,10 @@ built_enclosed (open_, inl q) u = record { numbers = ap (λ z. (enclosed_of z.0,
 built_enclosed (open_, inr (inl p)) u = record { numbers = ap (λ z. (enclosed_of z.0, z.1)) u.numbers; copies = u.copies }
 built_enclosed (open_, inr (inr p)) u = record { numbers = ap (λ z. (enclosed_of z.0, z.1)) u.numbers; copies = u.copies }
 
-pub enclosed_price : (read : Lexeme × Inside (Unit {0})) → (tails.enclosed read).copies ≡ (built_grouped read).copies
-enclosed_price (open_, inl q) = refl
-enclosed_price (open_, inr (inl p)) = refl
-enclosed_price (open_, inr (inr p)) = refl
+pub enclosed_cost : (read : Lexeme × Inside (Unit {0})) → (tails.enclosed read).copies ≡ (built_grouped read).copies
+enclosed_cost (open_, inl q) = refl
+enclosed_cost (open_, inr (inl p)) = refl
+enclosed_cost (open_, inr (inr p)) = refl
 
 -- nothing follows it
 abbrev pub closed : {M : Type 0} → M → Lexeme × Inside (Unit {0}) → Inside M
@@ -104,26 +104,26 @@ closed m (open_, inl q) = inr (inl ((open_, q), m))
 closed m (open_, inr (inl p)) = inr (inl ((open_, p.0.1), m))
 closed m (open_, inr (inr p)) = inr (inr (p.0, m))
 
-pub closed_price : (read : Lexeme × Inside (Unit {0})) → (built_inside (closed tt read)).copies ≡ (built_grouped read).copies
-closed_price (open_, inl q) = refl
-closed_price (open_, inr (inl p)) = refl
-closed_price (open_, inr (inr p)) = refl
+pub closed_cost : (read : Lexeme × Inside (Unit {0})) → (built_inside (closed tt read)).copies ≡ (built_grouped read).copies
+closed_cost (open_, inl q) = refl
+closed_cost (open_, inr (inl p)) = refl
+closed_cost (open_, inr (inr p)) = refl
 
-pub in_closed_price : (word : Lexeme) (left : t.Left) (read : Lexeme × Inside (Unit {0})) → (tails.in_inside None word (closed [] read) left).copies ≡ left.0.copies + (built_grouped read).copies
-in_closed_price word left (open_, inl q) = refl
-in_closed_price word left (open_, inr (inl p)) = refl
-in_closed_price word left (open_, inr (inr p)) = alone left.0.copies p.0.copies (t.weight left)
+pub in_closed_cost : (word : Lexeme) (left : t.Left) (read : Lexeme × Inside (Unit {0})) → (tails.in_inside None word (closed [] read) left).copies ≡ left.0.copies + (built_grouped read).copies
+in_closed_cost word left (open_, inl q) = refl
+in_closed_cost word left (open_, inr (inl p)) = refl
+in_closed_cost word left (open_, inr (inr p)) = alone left.0.copies p.0.copies (t.weight left)
   where
     alone : (a b w : ℕ) → (a + (b + 0)) + 0 * w ≡ a + b
     alone a b w = omega arith
 
 -- a list whose first member is a query
-pub listed_price : (word : Lexeme) (left : t.Left) (p : Enclosed) (others : List (Built Expr)) → (tails.in_inside None word (inr (inl (p, others))) left).copies ≡ (t.in_list None (t.sub p, others) left).copies
-listed_price word left p [] = alone left.0.copies p.1.copies (t.weight left)
+pub listed_cost : (word : Lexeme) (left : t.Left) (p : Enclosed) (others : List (Built Expr)) → (tails.in_inside None word (inr (inl (p, others))) left).copies ≡ (t.in_list None (t.sub p, others) left).copies
+listed_cost word left p [] = alone left.0.copies p.1.copies (t.weight left)
   where
     alone : (a b w : ℕ) → a + b ≡ (a + (b + 0)) + 0 * w
     alone a b w = omega arith
-listed_price word left p (next ∷ others) = refl
+listed_cost word left p (next ∷ others) = refl
 
 -- ---- what is read of it where it may go on
 

@@ -1,4 +1,4 @@
--- Chains of operators, chains of AND and OR, and lists with commas: where the readers of their parts agree with the plan, so do theirs.
+-- Chains of operators, chains of AND and OR, and lists with commas: where the readers of their parts agree with the left-factored grammar, so do theirs.
 use Rattle.std.proofs.Common.{◌≡◌, ℕ, ◌+◌, Bool, true, false, List, [], ◌∷◌, ◌++◌, Some, None, refl, sym, ◌∙◌, ap, arith}
 use Rattle.grammar.specs.Form.{seq, star, token}
 use Rattle.grammar.specs.Productions.{skip_then}
@@ -16,7 +16,7 @@ use Rattle.sql_grammar.specs.Kinds.{among, kind_of, same}
 use Rattle.sql_grammar.specs.Numbering.{Built, both, each, mapped}
 use Rattle.sql_grammar.specs.QueryGrammar.{The, a, listed}
 use Rattle.sql_grammar.specs.QueryTrees.{chained, operated, operator, place_of, all_of}
-use Rattle.sql_grammar.proofs.queries.QueryTable.{planned}
+use Rattle.sql_grammar.proofs.queries.QueryTable.{left_factored}
 use Rattle.sql_read.proofs.steps.AgreeLoops.{parts_repeat, skipped_word, token_word, each_more_same, same_by}
 use Rattle.sql_read.proofs.steps.AgreeSteps.{by_eaten_alone, none_here}
 use Rattle.sql_read.proofs.steps.Agreeing.{Agrees, by_eaten_within, by_next, whole, built, second, then_rest}
@@ -36,7 +36,7 @@ operated_more first [] t x = refl
 operated_more first (p ∷ done) t x = operated_more (mapped (λ q. an_expr.Fun (operator (kind_of p.0)) (q.0 ∷ q.1 ∷ []) (place_of q.0)) (both first p.1)) done t x
 
 module _ (q : Kind → Bool) (g : The (Built Expr)) (levels : ℕ) (reader : Reader Expr) (agrees : (c : Cursor) → Agrees g levels (λ read. read) (λ read. read) c c (reader c))
-    (o : ok planned (star None (seq (token q) g)) ≡ true) (s : ok planned (seq (token q) g) ≡ true) (w : begins_with q (ahead planned (seq (token q) g)) ≡ true) (before : Built Expr) (start begun : Cursor) where
+    (o : ok left_factored (star None (seq (token q) g)) ≡ true) (s : ok left_factored (seq (token q) g) ≡ true) (w : begins_with q (ahead left_factored (seq (token q) g)) ≡ true) (before : Built Expr) (start begun : Cursor) where
   abbrev Chain : Reading Expr → Type 0
   Chain r = Agrees (star (Some 63) (seq (token q) g)) levels (λ more. operated before more) (λ more. operated before more) start begun r
 
@@ -48,9 +48,9 @@ module _ (q : Kind → Bool) (g : The (Built Expr)) (levels : ℕ) (reader : Rea
 
 -- ---- AND and OR
 
-chain_price : (node : List Expr → ℕ → Expr) (first : Built Expr) (xs : List (Built Expr)) → (chained node (first, xs)).copies ≡ first.copies + (each xs).copies
-chain_price node first [] = omega arith
-chain_price node first (x ∷ xs) = refl
+chain_cost : (node : List Expr → ℕ → Expr) (first : Built Expr) (xs : List (Built Expr)) → (chained node (first, xs)).copies ≡ first.copies + (each xs).copies
+chain_cost node first [] = omega arith
+chain_cost node first (x ∷ xs) = refl
 
 chained_built : (node : List Expr → ℕ → Expr) {first : Built Expr} {start begun now : Cursor} {x : Expr} {parts : List Expr} (done : List (Built Expr)) → (done ≡ [] → ⊥)
     → Builds first start x begun → Builds (each (first ∷ done)) start parts now → Builds (chained node (first, done)) start (node parts (place_of x)) now
@@ -63,7 +63,7 @@ chained_built node {first = first} {start = start} {now = now} {parts = parts} (
     }
 
 module _ (kind : Kind) (g : The (Built Expr)) (levels : ℕ) (reader : Reader Expr) (agrees : (c : Cursor) → Agrees g levels (λ read. read) (λ read. read) c c (reader c)) (node : List Expr → ℕ → Expr)
-    (o : ok planned (star None (skip_then (a kind) g)) ≡ true) (s : ok planned (seq (a kind) g) ≡ true) (w : begins_with (same kind) (ahead planned (skip_then (a kind) g)) ≡ true)
+    (o : ok left_factored (star None (skip_then (a kind) g)) ≡ true) (s : ok left_factored (seq (a kind) g) ≡ true) (w : begins_with (same kind) (ahead left_factored (skip_then (a kind) g)) ≡ true)
     (before : Built Expr) (start begun : Cursor) (first : Expr) (built : Builds before start first begun) where
   abbrev Parts : Reading Expr → Type 0
   Parts r = Agrees (star (Some 255) (skip_then (a kind) g)) levels (λ more. chained node (before, more)) (λ more. chained node (before, more)) start begun r
@@ -79,7 +79,7 @@ module _ (kind : Kind) (g : The (Built Expr)) (levels : ℕ) (reader : Reader Ex
   parts next = parts_repeat begun g (λ t x. x) (same kind) (λ more. more) (λ r. Parts (r >>= of_parts)) (eaten_within (among (kind ∷ [])))
       (λ room now t mid. PassesWithin (same kind) room now t mid) (λ room now t mid i. skipped_word s i) (λ room now go. by_eaten_alone (λ r. Parts (r >>= of_parts)) kind now room go) o
       (begins_skip (same kind) g) w reader agrees (λ xs t x. xs ++ x ∷ [])
-      (λ done. each (before ∷ done)) (λ done t x. each_more_same (before ∷ done) x) (chain_price node before) (λ fault end t. t)
+      (λ done. each (before ∷ done)) (λ done t x. each_more_same (before ∷ done) x) (chain_cost node before) (λ fault end t. t)
       (λ done xs now r none n t e. agreeing.built whole done t e (chained_built node done (λ i. let both : true ≡ false = sym next ∙ none i in cc) built r)) 255 (first ∷ []) (built_map (λ y. y.0 ∷ y.1) (built_both built plain_here)) whole
 
   pub parts_agree : Parts (seen (same kind) (λ c. further 255 (first ∷ []) c >>= of_parts) (done first) begun)
@@ -91,8 +91,8 @@ abbrev commas : Kind → Bool
 commas = same kinds.Comma
 
 module _ {X : Type 0} (f : The (Built X)) (levels : ℕ) (reader : Reader X) (agrees : (c : Cursor) → Agrees f levels (λ read. read) (λ read. read) c c (reader c))
-    (o : ok planned (listed f) ≡ true) (m : ok planned (star None (skip_then (token commas) f)) ≡ true) (w : begins_with commas (ahead planned (skip_then (token commas) f)) ≡ true)
-    (s : ok planned (seq (token commas) f) ≡ true) (c : Cursor) where
+    (o : ok left_factored (listed f) ≡ true) (m : ok left_factored (star None (skip_then (token commas) f)) ≡ true) (w : begins_with commas (ahead left_factored (skip_then (token commas) f)) ≡ true)
+    (s : ok left_factored (seq (token commas) f) ≡ true) (c : Cursor) where
   abbrev Members : Reading (List X) → Type 0
   Members r = Agrees (listed f) levels (λ read. each (all_of read)) (λ read. each (all_of read)) c c r
 

@@ -1,4 +1,4 @@
--- The readers of one level deeper agree with the plan: what the readers of a level are proved from.
+-- The readers of one level deeper agree with the left-factored grammar: what the readers of a level are proved from.
 use Rattle.std.proofs.Common.{◌≡◌, ℕ, ◌-◌, ◌<◌, None}
 use Rattle.grammar.specs.Form.{ref}
 use Rattle.grammar.specs.Productions.{optional}
@@ -12,7 +12,7 @@ use Rattle.sql_read.specs.Reading.{Deeper}
 use Rattle.sql_grammar.specs.Numbering.{Built, each}
 use Rattle.sql_grammar.specs.QueryGrammar as grammar
 use Rattle.sql_grammar.specs.QueryGrammar.{listed}
-use Rattle.sql_grammar.specs.QueryPlan.{one_argument}
+use Rattle.sql_grammar.specs.FactoredQueries.{one_argument}
 use Rattle.sql_grammar.specs.QueryTrees as trees
 use Rattle.sql_grammar.specs.QueryTailTrees as tails
 use Rattle.sql_grammar.specs.QueryTrees.{listed_or_none}

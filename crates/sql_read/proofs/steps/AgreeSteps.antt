@@ -22,13 +22,13 @@ use Rattle.sql_grammar.specs.Numbering.{Built, literal_number, plain, symbol_num
 use Rattle.sql_grammar.specs.QueryCopies.{copies_nothing, most_copies}
 use Rattle.sql_grammar.specs.QueryGrammar.{The, a, in_parentheses, parens}
 use Rattle.sql_grammar.proofs.copies.QueryFillings.{Filled, fill_first, fill_nest, fill_seq, fill_token, symbol}
-use Rattle.sql_grammar.proofs.queries.QueryTable.{planned}
+use Rattle.sql_grammar.proofs.queries.QueryTable.{left_factored}
 use Rattle.sql_model.specs.declared.symbols.Lit.{Lit}
 use Rattle.sql_model.specs.Syntax.{Name}
-use Rattle.sql_read.proofs.steps.Agreeing.{Agrees, Remains, StopsIn, all_left, behind, behind_taken, built, by_eaten, by_eaten_within, ends_by, first_of, mapped, missing, needs_last, nested, other_unless, refused_here, then_part, then_rest, second, through, too_deep_here, whole}
+use Rattle.sql_read.proofs.steps.Agreeing.{Agrees, Residual, StopsIn, all_left, behind, behind_taken, built, by_eaten, by_eaten_within, ends_by, first_of, mapped, missing, needs_last, nested, other_unless, refused_here, then_part, then_rest, second, through, too_deep_here, whole}
 use Rattle.sql_read.proofs.steps.Extending.{◌⨟◌, extends_by, extends_passes, goes_nowhere}
 use Rattle.sql_read.proofs.steps.ReadCopies as c
-use Rattle.sql_read.proofs.steps.ReadCopies.{Going, SamePrice}
+use Rattle.sql_read.proofs.steps.ReadCopies.{Going, SameCost}
 use Rattle.sql_read.proofs.steps.ReadCopiedSteps.{on_behind_first, on_behind_other, on_counted, on_either}
 use Rattle.sql_read.proofs.steps.ReadForks.{forks, of_first, of_other}
 use Rattle.sql_read.proofs.steps.ReadLoops.{Begins, counted_part}
@@ -47,24 +47,24 @@ one_by_one (Err fault, c) f g = refl
 -- ---- by what stands next
 
 module _ {A : Type 0} {N : The A} {e : ℕ} {start : Cursor} {C : Type 0} {d : ℕ} where
-  module _ {here : Cursor} {f g : The C} {h : C → A} (q : Kind → Bool) (l : Remains (alt f g) d here N e start h) where
-    pub first_next : ok planned (alt f g) ≡ true → Begins q f → is_next q here.tokens ≡ true → Remains f d here N e start h
+  module _ {here : Cursor} {f g : The C} {h : C → A} (q : Kind → Bool) (l : Residual (alt f g) d here N e start h) where
+    pub first_next : ok left_factored (alt f g) ≡ true → Begins q f → is_next q here.tokens ≡ true → Residual f d here N e start h
     first_next o i n = record { left = p.first_next q l.left o i n; going = c.on_one l.going; extends = l.extends }
 
-    pub other_next : ok planned (alt g f) ≡ true → Begins q g → is_next q here.tokens ≡ true → Remains g d here N e start h
+    pub other_next : ok left_factored (alt g f) ≡ true → Begins q g → is_next q here.tokens ≡ true → Residual g d here N e start h
     other_next o i n = record { left = p.other_next q l.left o i n; going = c.on_other l.going; extends = l.extends }
 
-    pub first_unless : ok planned g ≡ true → begins_with q (ahead planned g) ≡ true → is_next q here.tokens ≡ false → Remains f d here N e start h
+    pub first_unless : ok left_factored g ≡ true → begins_with q (ahead left_factored g) ≡ true → is_next q here.tokens ≡ false → Residual f d here N e start h
     first_unless o w n = record { left = p.first_unless q l.left o w n; going = c.on_one l.going; extends = l.extends }
 
-    pub first_where : ok planned g ≡ true → begins_otherwise q (ahead planned g) ≡ true → is_next q here.tokens ≡ true → Remains f d here N e start h
+    pub first_where : ok left_factored g ≡ true → begins_otherwise q (ahead left_factored g) ≡ true → is_next q here.tokens ≡ true → Residual f d here N e start h
     first_where o w n = record { left = p.first_where q l.left o w n; going = c.on_one l.going; extends = l.extends }
 
-    pub other_where : ok planned f ≡ true → begins_otherwise q (ahead planned f) ≡ true → is_next q here.tokens ≡ true → Remains g d here N e start h
+    pub other_where : ok left_factored f ≡ true → begins_otherwise q (ahead left_factored f) ≡ true → is_next q here.tokens ≡ true → Residual g d here N e start h
     other_where o w n = record { left = p.other_where q l.left o w n; going = c.on_other l.going; extends = l.extends }
 
   -- where the same tokens stand
-  pub there : {f : The C} {h : C → A} {m n : Cursor} → Remains f d m N e start h → n.tokens ≡ m.tokens → Extends m n → Remains f d n N e start h
+  pub there : {f : The C} {h : C → A} {m n : Cursor} → Residual f d m N e start h → n.tokens ≡ m.tokens → Extends m n → Residual f d n N e start h
   there {f = f} {h = h} l i x = record {
     left = subst (λ z. LeftWithin entries_too f (few_form f) d z N (few_form N) e start.tokens h) (sym i) l.left;
     going = subst (λ z. Going f z N start.tokens h) (sym i) l.going;
@@ -117,8 +117,8 @@ too_many_copies {N = N} {e = e} weight a b q =
     subst (λ z. Refuses N e a z b) (sym q.1)
     (record {
       says = record {
-        goes_on = record { taken = []; whole = still; begun = (deep_within e N).fronts.empty };
-        few = λ n. record { taken = []; whole = still; begun = (entries_within N).fronts.empty };
+        goes_on = record { taken = []; whole = still; begun = (deep_within e N).prefixes.empty };
+        few = λ n. record { taken = []; whole = still; begun = (entries_within N).prefixes.empty };
       };
     })
   where
@@ -165,76 +165,76 @@ counted_of {f = f} {d = d} {here = here} l uncounted = record { blocks = through
 module _ {A X : Type 0} {N : The A} {e : ℕ} {whole_of whole_copied : A → Built X} {built_at s : Cursor} where
   module _ {C : Type 0} {d : ℕ} {f : The C} {h : C → A} where
     -- nothing was numbered and nothing copied before it
-    pub ends_alike : {began here : Cursor} (r : Reading X) → Remains f d here N e s h → Alike built_at began → Agrees f d (λ v. whole_of (h v)) (λ v. whole_copied (h v)) began here r
+    pub ends_alike : {began here : Cursor} (r : Reading X) → Residual f d here N e s h → Alike built_at began → Agrees f d (λ v. whole_of (h v)) (λ v. whole_copied (h v)) began here r
         → Agrees N e whole_of whole_copied built_at s r
     ends_alike r l alike t = ends_by r l (λ v. ap (λ z. z + (whole_copied (h v)).copies) (sym alike.copies)) (λ v x end u. built_from alike u) t
 
     -- a node is made of what was read, and a parenthesis closes behind it
-    pub closes : {Y : Type 0} {part : C → Built Y} {began here : Cursor} (r : Reading Y) (of : Y → X) → Remains (then_skip f (a k.Close)) d here N e s h → ok planned (seq f (a k.Close)) ≡ true
-        → SamePrice built_at (λ v. whole_copied (h v)) began part → ((v : C) (y : Y) (end : Cursor) → Builds (part v) began y end → Builds (whole_of (h v)) built_at (of y) end) → Agrees f d part part began here r
+    pub closes : {Y : Type 0} {part : C → Built Y} {began here : Cursor} (r : Reading Y) (of : Y → X) → Residual (then_skip f (a k.Close)) d here N e s h → ok left_factored (seq f (a k.Close)) ≡ true
+        → SameCost built_at (λ v. whole_copied (h v)) began part → ((v : C) (y : Y) (end : Cursor) → Builds (part v) began y end → Builds (whole_of (h v)) built_at (of y) end) → Agrees f d part part began here r
         → Agrees N e whole_of whole_copied built_at s (r >>= λ y c. expected (same k.Close) c >>= λ close. done (of y))
-    closes r of l o price made t = then_rest r t
+    closes r of l o cost made t = then_rest r t
         (λ y mid u. let read = u.reads.answers in let left = second (mapped l) o u in
-        needs_last left (fill_token k.Close (symbol 41) refl refl) (read.builds.copies ∙ sym (price read.read))
+        needs_last left (fill_token k.Close (symbol 41) refl refl) (read.builds.copies ∙ sym (cost read.read))
         (λ close end i. built left close (took_token d i) (extends_passes i) (before (made read.read y mid read.builds) i)))
-        (mapped l) o (fill_token k.Close (symbol 41) refl refl) price
+        (mapped l) o (fill_token k.Close (symbol 41) refl refl) cost
 
   -- the tokens of what is read are counted, and then the rest is read
-  pub then_counted : {C D Y : Type 0} {d : ℕ} {f : The C} {g : The D} {h : (C × ℕ) × D → A} {v : D} {part cost : C → Built Y} {began here : Cursor} {next : Y → Reader X} (r : Reading Y) (of : C → A)
-      → Agrees f d part cost began here r → Remains (seq (counted f) g) d here N e s h → ok planned (seq (counted f) g) ≡ true → Filled g v → ((u : C) (count : ℕ) → h ((u, count), v) ≡ of u)
-      → SamePrice built_at (λ u. whole_copied (of u)) began cost
-      → ((y : Y) (mid : Cursor) (t : Agrees f d part cost began here (Ok y, mid)) → Remains g d mid N e s (λ w. h ((t.reads.answers.read, mid.passed - here.passed), w)) → Agrees N e whole_of whole_copied built_at s (next y mid))
+  pub then_counted : {C D Y : Type 0} {d : ℕ} {f : The C} {g : The D} {h : (C × ℕ) × D → A} {v : D} {part own_cost : C → Built Y} {began here : Cursor} {next : Y → Reader X} (r : Reading Y) (of : C → A)
+      → Agrees f d part own_cost began here r → Residual (seq (counted f) g) d here N e s h → ok left_factored (seq (counted f) g) ≡ true → Filled g v → ((u : C) (count : ℕ) → h ((u, count), v) ≡ of u)
+      → SameCost built_at (λ u. whole_copied (of u)) began own_cost
+      → ((y : Y) (mid : Cursor) (t : Agrees f d part own_cost began here (Ok y, mid)) → Residual g d mid N e s (λ w. h ((t.reads.answers.read, mid.passed - here.passed), w)) → Agrees N e whole_of whole_copied built_at s (next y mid))
       → Agrees N e whole_of whole_copied built_at s (r >>= next)
-  then_counted r of t l o filled uncounted price more =
-      then_part r _ t (counted_of (first_of l o filled) uncounted) price (λ y mid u. more y mid u (behind_taken l o (p.took_counted u.extends u.reads.answers.takes) u.extends))
+  then_counted r of t l o filled uncounted cost more =
+      then_part r _ t (counted_of (first_of l o filled) uncounted) cost (λ y mid u. more y mid u (behind_taken l o (p.took_counted u.extends u.reads.answers.takes) u.extends))
 
   -- ---- levels
 
   module _ {D : Type 0} {g : The D} (kind : Kind) {d : ℕ} {here : Cursor} where
     -- a token of one kind opens a level
-    pub opens_alone : {h : Lexeme × D → A} {v : Lexeme × D} {next : Lexeme → Reader X} → Remains (nest (seq (token (same kind)) g)) d here N e s h → ok planned (seq (token (same kind)) g) ≡ true
-        → begins_with (same kind) (ahead planned (nest (seq (token (same kind)) g))) ≡ true → Filled (nest (seq (token (same kind)) g)) v → here.copies ≡ built_at.copies + (whole_copied (h v)).copies
-        → ((t : Lexeme) (mid : Cursor) → PassesWithin (same kind) d here t mid → Remains g (d - 1) mid N e s (λ w. h (t, w)) → Agrees N e whole_of whole_copied built_at s (next t mid))
+    pub opens_alone : {h : Lexeme × D → A} {v : Lexeme × D} {next : Lexeme → Reader X} → Residual (nest (seq (token (same kind)) g)) d here N e s h → ok left_factored (seq (token (same kind)) g) ≡ true
+        → begins_with (same kind) (ahead left_factored (nest (seq (token (same kind)) g))) ≡ true → Filled (nest (seq (token (same kind)) g)) v → here.copies ≡ built_at.copies + (whole_copied (h v)).copies
+        → ((t : Lexeme) (mid : Cursor) → PassesWithin (same kind) d here t mid → Residual g (d - 1) mid N e s (λ w. h (t, w)) → Agrees N e whole_of whole_copied built_at s (next t mid))
         → Agrees N e whole_of whole_copied built_at s (expected_within (among (kind ∷ [])) d here >>= next)
     unfolding expected_within
-    opens_alone {next = next} l o w filled price goes =
+    opens_alone {next = next} l o w filled cost goes =
         by_eaten_alone (λ r. Agrees N e whole_of whole_copied built_at s (r >>= next)) kind here d demanded (λ t mid i. goes t mid i (behind (nested l i.room_left) o i.passes))
-        (λ at full. too_deep_here (all_left l) filled price (p.overflows full)) (λ n. refused_here (all_left l) filled price (p.misses {p = same kind} o w (missing n)))
+        (λ at full. too_deep_here (all_left l) filled cost (p.overflows full)) (λ n. refused_here (all_left l) filled cost (p.misses {p = same kind} o w (missing n)))
 
     -- it opens a level where it stands next
-    pub may_open : {C : Type 0} {made : Lexeme × D → C} {other : The C} {h : C → A} {v : C} (next : Option Lexeme → Reader X) → Remains (alt (opening kind made g) other) d here N e s h
-        → ok planned (opening kind made g) ≡ true → ok planned (alt (opening kind made g) other) ≡ true → ok planned (seq (a kind) g) ≡ true → begins_with (same kind) (ahead planned (opening kind made g)) ≡ true
+    pub may_open : {C : Type 0} {made : Lexeme × D → C} {other : The C} {h : C → A} {v : C} (next : Option Lexeme → Reader X) → Residual (alt (opening kind made g) other) d here N e s h
+        → ok left_factored (opening kind made g) ≡ true → ok left_factored (alt (opening kind made g) other) ≡ true → ok left_factored (seq (a kind) g) ≡ true → begins_with (same kind) (ahead left_factored (opening kind made g)) ≡ true
         → Filled (alt (opening kind made g) other) v → here.copies ≡ built_at.copies + (whole_copied (h v)).copies
-        → ((t : Lexeme) (mid : Cursor) → PassesWithin (same kind) d here t mid → Remains g (d - 1) mid N e s (λ w. h (made (t, w))) → Agrees N e whole_of whole_copied built_at s (next (Some t) mid))
-        → (is_next (same kind) here.tokens ≡ false → Remains other d here N e s h → Agrees N e whole_of whole_copied built_at s (next None here))
+        → ((t : Lexeme) (mid : Cursor) → PassesWithin (same kind) d here t mid → Residual g (d - 1) mid N e s (λ w. h (made (t, w))) → Agrees N e whole_of whole_copied built_at s (next (Some t) mid))
+        → (is_next (same kind) here.tokens ≡ false → Residual other d here N e s h → Agrees N e whole_of whole_copied built_at s (next None here))
         → Agrees N e whole_of whole_copied built_at s (eaten_within (among (kind ∷ [])) d here >>= next)
-    may_open {made = made} {other = other} next l one o i w filled price goes absent =
+    may_open {made = made} {other = other} next l one o i w filled cost goes absent =
         by_eaten_alone (λ r. Agrees N e whole_of whole_copied built_at s r) kind here d next
         (λ t mid q. goes t mid q (behind (nested (mapped (first_next (same kind) l o begins (steps.next_there (same kind) here mid t q.passes))) q.room_left) i q.passes))
-        (λ at full. too_deep_here (all_left l) filled price (steps.refuses {s = here} (steps.blocks (mapped (first_next (same kind) (whole {start = here}) o begins full.next)).left) (p.overflows full)))
+        (λ at full. too_deep_here (all_left l) filled cost (steps.refuses {s = here} (steps.blocks (mapped (first_next (same kind) (whole {start = here}) o begins full.next)).left) (p.overflows full)))
         (λ n. absent n (other_unless (same kind) l one w n))
       where
         begins : Begins (same kind) (opening kind made g)
         begins t j = inl (inr (t, refl, j))
 
   -- a parenthesis opens one
-  pub opens_parens : {C : Type 0} {f : The C} {d : ℕ} {here : Cursor} {h : C → A} {v : C} {next : Lexeme → Reader X} → Remains (parens f) d here N e s h → ok planned (seq (a k.Open) (then_skip f (a k.Close))) ≡ true
-      → begins_with (same k.Open) (ahead planned (in_parentheses f)) ≡ true → Filled f v → here.copies ≡ built_at.copies + (whole_copied (h v)).copies
-      → ((t : Lexeme) (mid : Cursor) → PassesWithin (same k.Open) d here t mid → Remains (then_skip f (a k.Close)) (d - 1) mid N e s h → Agrees N e whole_of whole_copied built_at s (next t mid))
+  pub opens_parens : {C : Type 0} {f : The C} {d : ℕ} {here : Cursor} {h : C → A} {v : C} {next : Lexeme → Reader X} → Residual (parens f) d here N e s h → ok left_factored (seq (a k.Open) (then_skip f (a k.Close))) ≡ true
+      → begins_with (same k.Open) (ahead left_factored (in_parentheses f)) ≡ true → Filled f v → here.copies ≡ built_at.copies + (whole_copied (h v)).copies
+      → ((t : Lexeme) (mid : Cursor) → PassesWithin (same k.Open) d here t mid → Residual (then_skip f (a k.Close)) (d - 1) mid N e s h → Agrees N e whole_of whole_copied built_at s (next t mid))
       → Agrees N e whole_of whole_copied built_at s (expected_within (among (k.Open ∷ [])) d here >>= next)
-  opens_parens l o w filled price goes = opens_alone k.Open (mapped l) o w (fill_group filled) price goes
+  opens_parens l o w filled cost goes = opens_alone k.Open (mapped l) o w (fill_group filled) cost goes
 
 -- ---- what goes by the value of a first part
 
-module _ {A : Type 0} {N : The A} {e : ℕ} {start : Cursor} {C D E : Type 0} {f : The (C ⊎ D)} {g : The (C → E)} {i : The (D → E)} {d : ℕ} {here : Cursor} {h : E → A} (l : Remains (fork f g i) d here N e start h)
-    (o : ok planned (fork f g i) ≡ true) where
+module _ {A : Type 0} {N : The A} {e : ℕ} {start : Cursor} {C D E : Type 0} {f : The (C ⊎ D)} {g : The (C → E)} {i : The (D → E)} {d : ℕ} {here : Cursor} {h : E → A} (l : Residual (fork f g i) d here N e start h)
+    (o : ok left_factored (fork f g i) ≡ true) where
   -- the first part, with something behind it of either kind
-  pub fork_of : {k : C → E} {j : D → E} → Filled g k → Filled i j → StopsIn entries_too f (few_form f) d here N (few_form N) e start (λ v. h (either_of planned 0 copies_nothing (of_form None N) start.tokens k j v))
+  pub fork_of : {k : C → E} {j : D → E} → Filled g k → Filled i j → StopsIn entries_too f (few_form f) d here N (few_form N) e start (λ v. h (either_of left_factored 0 copies_nothing (of_form None N) start.tokens k j v))
   fork_of x y = record { blocks = forks l.left o; going = on_either l.going x y; extends = l.extends }
 
   module _ {mid : Cursor} where
-    pub behind_first : {v : C} → Takes f d here.tokens (inl v) mid.tokens → Extends here mid → Remains g d mid N e start (λ k. h (k v))
+    pub behind_first : {v : C} → Takes f d here.tokens (inl v) mid.tokens → Extends here mid → Residual g d mid N e start (λ k. h (k v))
     behind_first t x = record { left = of_first l.left o t; going = on_behind_first l.going t; extends = l.extends ⨟ x }
 
-    pub behind_other : {v : D} → Takes f d here.tokens (inr v) mid.tokens → Extends here mid → Remains i d mid N e start (λ k. h (k v))
+    pub behind_other : {v : D} → Takes f d here.tokens (inr v) mid.tokens → Extends here mid → Residual i d mid N e start (λ k. h (k v))
     behind_other t x = record { left = of_other l.left o t; going = on_behind_other l.going t; extends = l.extends ⨟ x }

@@ -15,12 +15,12 @@ use Rattle.sql_read.specs.Eating.{Passes}
 use Rattle.sql_grammar.specs.declared.kinds.Kind.{Kind}
 use Rattle.sql_grammar.specs.Numbering.{Built}
 use Rattle.sql_grammar.specs.QueryGrammar.{Production, Read, The}
-use Rattle.sql_grammar.specs.QueryPlan.{plan}
+use Rattle.sql_grammar.specs.FactoredQueries.{factored}
 use Rattle.sql_read.specs.Reads.{of_form, Takes}
 use Rattle.sql_read.specs.Refusals.{refusal}
 use Rattle.sql_grammar.proofs.copies.QueryFillings.{Filled}
-use Rattle.sql_grammar.proofs.copies.CopySteps.{plan_filled}
-use Rattle.sql_grammar.proofs.queries.QueryTable.{planned}
+use Rattle.sql_grammar.proofs.copies.CopySteps.{factored_filled}
+use Rattle.sql_grammar.proofs.queries.QueryTable.{left_factored}
 use Rattle.sql_read.proofs.steps.ReadSteps.{took_token}
 use Rattle.sql_read.proofs.steps.RefusedNext.{by_refusal}
 
@@ -32,43 +32,43 @@ pub at_start : {A : Type 0} {N : The A} {start : List Lexeme} → Going N start 
 at_start {N = N} {start = start} = record { goes = c.continues_whole copies_nothing (of_form None N) start }
 
 module _ {A : Type 0} {N : The A} {start : List Lexeme} where
-  pub on_production : (n : Production) {here : List Lexeme} {h : Read n → A} → Going (ref n) here N start h → Going (plan n) here N start h
-  on_production n {here = here} l = record { goes = record { reaches = λ v rest r. l.goes.reaches v rest ((c.continues_production planned 0 copies_nothing n here).reaches v rest r) } }
+  pub on_production : (n : Production) {here : List Lexeme} {h : Read n → A} → Going (ref n) here N start h → Going (factored n) here N start h
+  on_production n {here = here} l = record { goes = record { reaches = λ v rest r. l.goes.reaches v rest ((c.continues_production left_factored 0 copies_nothing n here).reaches v rest r) } }
 
   module _ {C D : Type 0} {here : List Lexeme} where
     pub on_mapped : {k : C → D} {f : The C} {h : D → A} → Going (map k f) here N start h → Going f here N start (λ v. h (k v))
-    on_mapped {k = k} {f = f} {h = h} l = record { goes = c.left_map planned 0 copies_nothing (of_form None N) start k f here h l.goes }
+    on_mapped {k = k} {f = f} {h = h} l = record { goes = c.left_map left_factored 0 copies_nothing (of_form None N) start k f here h l.goes }
 
     -- the second part, behind the first
     pub on_taken : {f : The C} {g : The D} {h : C × D → A} {v : C} (d : ℕ) {mid : List Lexeme} → Going (seq f g) here N start h → Took (of_form None f) (of_form (Some d) f) here v mid → Going g mid N start (λ w. h (v, w))
-    on_taken {f = f} {g = g} {h = h} {v = v} d {mid = mid} l t = record { goes = c.left_second planned d copies_nothing (of_form None N) start f g here h l.goes v mid t }
+    on_taken {f = f} {g = g} {h = h} {v = v} d {mid = mid} l t = record { goes = c.left_second left_factored d copies_nothing (of_form None N) start f g here h l.goes v mid t }
 
     pub on_second : {f : The C} {g : The D} {h : C × D → A} {v : C} {d : ℕ} {mid : List Lexeme} → Going (seq f g) here N start h → Takes f d here v mid → Going g mid N start (λ w. h (v, w))
     on_second {d = d} l t = on_taken d l t.took
 
     -- the first part, with something behind it
     pub on_first : {f : The C} {g : The D} {h : C × D → A} {w : D} → Going (seq f g) here N start h → Filled g w → Going f here N start (λ v. h (v, w))
-    on_first {f = f} {g = g} {h = h} {w = w} l b = record { goes = c.left_first planned 0 copies_nothing (of_form None N) start f g here h l.goes w (plan_filled g w b) }
+    on_first {f = f} {g = g} {h = h} {w = w} l b = record { goes = c.left_first left_factored 0 copies_nothing (of_form None N) start f g here h l.goes w (factored_filled g w b) }
 
   module _ {C : Type 0} {here : List Lexeme} {f g : The C} {h : C → A} where
     pub on_one : Going (alt f g) here N start h → Going f here N start h
-    on_one l = record { goes = c.left_one planned 0 copies_nothing (of_form None N) start f g here h l.goes }
+    on_one l = record { goes = c.left_one left_factored 0 copies_nothing (of_form None N) start f g here h l.goes }
 
     pub on_other : Going (alt f g) here N start h → Going g here N start h
-    on_other l = record { goes = c.left_other planned 0 copies_nothing (of_form None N) start f g here h l.goes }
+    on_other l = record { goes = c.left_other left_factored 0 copies_nothing (of_form None N) start f g here h l.goes }
 
   -- behind a token
   pub on_passed : {C : Type 0} {p : Kind → Bool} {a b : Cursor} {t : Lexeme} {g : The C} {h : Lexeme × C → A} → Going (seq (token p) g) a.tokens N start h → Passes p a t b → Going g b.tokens N start (λ w. h (t, w))
   on_passed l q = on_second l (took_token 0 q)
 
   pub on_nested : {C : Type 0} {here : List Lexeme} {f : The C} {h : C → A} → Going (nest f) here N start h → Going f here N start h
-  on_nested {here = here} {f = f} {h = h} l = record { goes = c.left_nest planned 0 copies_nothing (of_form None N) start f here h l.goes }
+  on_nested {here = here} {f = f} {h = h} l = record { goes = c.left_nest left_factored 0 copies_nothing (of_form None N) start f here h l.goes }
 
 -- ---- refusals
 
--- the price of a part is that of the whole
-abbrev pub SamePrice : {C X Y : Type 0} → Cursor → (C → Built Y) → Cursor → (C → Built X) → Type 0
-SamePrice {C = C} start whole began part = (v : C) → start.copies + (whole v).copies ≡ began.copies + (part v).copies
+-- the cost of a part is that of the whole
+abbrev pub SameCost : {C X Y : Type 0} → Cursor → (C → Built Y) → Cursor → (C → Built X) → Type 0
+SameCost {C = C} start whole began part = (v : C) → start.copies + (whole v).copies ≡ began.copies + (part v).copies
 
 -- what is said of a part, said of the whole
 module _ {C A X Y : Type 0} {f : The C} {N : The A} {part : C → Built X} {whole : A → Built Y} {began before start first after : Cursor} (so_far : CopiesSoFar f part began before after → CopiesSoFar N whole start first after)
@@ -85,7 +85,7 @@ module _ {C A X Y : Type 0} {f : The C} {N : The A} {part : C → Built X} {whol
 
 module _ {C A X Y : Type 0} {f : The C} {N : The A} {part : C → Built X} {whole : A → Built Y} {h : C → A} {began before start first after : Cursor} where
   -- the whole has copied what its part has
-  copied_to : {fault : ReadFault} → Going f before.tokens N first.tokens h → SamePrice start (λ v. whole (h v)) began part
+  copied_to : {fault : ReadFault} → Going f before.tokens N first.tokens h → SameCost start (λ v. whole (h v)) began part
       → CopiedToFault f part began before fault after → CopiedToFault N whole start first fault after
   copied_to l e = copied_by
       (λ r. record { value = h r.value; up_to = l.goes.reaches r.value after.tokens r.up_to; count = r.count ∙ sym (e r.value) })
@@ -95,13 +95,13 @@ module _ {C A X Y : Type 0} {f : The C} {N : The A} {part : C → Built X} {whol
             (r.token ∷ after.tokens) r.overspends;
       })
 
-  pub copied_in : {B : Type 0} {result : Result B ReadFault} → Going f before.tokens N first.tokens h → SamePrice start (λ v. whole (h v)) began part
+  pub copied_in : {B : Type 0} {result : Result B ReadFault} → Going f before.tokens N first.tokens h → SameCost start (λ v. whole (h v)) began part
       → Copied f part began before result after → Copied N whole start first result after
   copied_in {result = Ok value} l e q = record { answers = tt }
   copied_in {result = Err fault} l e q = record { answers = copied_to l e q.answers }
 
   -- the same where it is refused
-  pub copied_exit : {D : Type 0} {fault : ReadFault} → Going f before.tokens N first.tokens h → SamePrice start (λ v. whole (h v)) began part
+  pub copied_exit : {D : Type 0} {fault : ReadFault} → Going f before.tokens N first.tokens h → SameCost start (λ v. whole (h v)) began part
       → CopiedToFault f part began before fault after → Copied {B = D} N whole start first (Err fault) after
   copied_exit l e q = record { answers = copied_to l e q }
 
@@ -109,7 +109,7 @@ module _ {C A X Y : Type 0} {f : The C} {N : The A} {part : C → Built X} {whol
 pub copied_before : {C A Y : Type 0} {f : The C} {N : The A} {whole : A → Built Y} {h : C → A} {start first after : Cursor} {v : C} → Going f after.tokens N first.tokens h → Filled f v
     → after.copies ≡ start.copies + (whole (h v)).copies → CopiesSoFar N whole start first after
 copied_before {f = f} {N = N} {h = h} {first = first} {after = after} {v = v} l b e =
-    record { value = h v; up_to = c.left_filled planned 0 copies_nothing (of_form None N) first.tokens f after.tokens h l.goes v (plan_filled f v b); count = e }
+    record { value = h v; up_to = c.left_filled left_factored 0 copies_nothing (of_form None N) first.tokens f after.tokens h l.goes v (factored_filled f v b); count = e }
 
 -- what stands next is refused
 pub copied_next : {A Y : Type 0} {N : The A} {whole : A → Built Y} {start first : Cursor} (after : Cursor) → CopiesSoFar N whole start first after → CopiedToFault N whole start first (refusal after) after

@@ -3,7 +3,7 @@ use Rattle.std.proofs.Common.{◌≡◌, true, ℕ, List, ◌⊎◌, inl, inr, N
 use Rattle.grammar.specs.Form.{map, fork}
 use Rattle.grammar.specs.Language.{Language}
 use Rattle.grammar.proofs.readers.Predictions.{ok}
-use Rattle.grammar.proofs.readers.Remaining as r
+use Rattle.grammar.proofs.readers.Residuals as r
 use Rattle.grammar.proofs.readers.Steps.{map_took}
 use Rattle.sql_lex.specs.Lexemes.{Lexeme}
 use Rattle.sql_model.specs.declared.tree.Expr.{Expr}
@@ -13,44 +13,44 @@ use Rattle.sql_read.specs.Cursor.{Cursor}
 use Rattle.sql_grammar.specs.Numbering.{Built, mapped}
 use Rattle.sql_read.specs.Parts.{built_starred}
 use Rattle.sql_grammar.specs.QueryGrammar.{The}
-use Rattle.sql_grammar.specs.QueryPlan.{Starred}
+use Rattle.sql_grammar.specs.FactoredQueries.{Starred}
 use Rattle.sql_grammar.specs.QueryTrees as t
 use Rattle.sql_read.specs.Reads.{Told, of_form, few_form, Builds, Takes, TakesWithin}
-use Rattle.sql_grammar.proofs.queries.QueryTable.{planned}
+use Rattle.sql_grammar.proofs.queries.QueryTable.{left_factored}
 use Rattle.sql_read.proofs.steps.ReadSteps.{BlocksOf, LeftOf, deep_within, entries_within}
 
 -- ---- what goes by the first's value
 
 module _ {A : Type 0} {told : Told} {N : The A} {NB : Language Lexeme A} {m : ℕ} {start : List Lexeme} {C D E : Type 0} {f : The (C ⊎ D)} {e : The (C → E)} {i : The (D → E)} {d : ℕ} {here : List Lexeme} {h : E → A} where
-  pub forks : LeftOf told (fork f e i) d here N NB m start h → ok planned (fork f e i) ≡ true → BlocksOf told f (few_form f) d here N NB m start
+  pub forks : LeftOf told (fork f e i) d here N NB m start h → ok left_factored (fork f e i) ≡ true → BlocksOf told f (few_form f) d here N NB m start
   unfolding few_form
   forks l o = record {
     halts = record {
-      failed = r.left_fork_failed planned _ _ start f e i _ _ _ (deep_within d f) (deep_within d e) (deep_within d i) o here h l.remains;
-      exceeded = r.left_fork_exceeded planned _ _ start f e i _ _ _ (deep_within d f) (deep_within d e) (deep_within d i) o here h l.remains;
-      began = r.left_fork_began planned _ _ start f e i _ _ _ (deep_within d f) (deep_within d e) (deep_within d i) o here h l.remains;
+      failed = r.left_fork_failed left_factored _ _ start f e i _ _ _ (deep_within d f) (deep_within d e) (deep_within d i) o here h l.residual;
+      exceeded = r.left_fork_exceeded left_factored _ _ start f e i _ _ _ (deep_within d f) (deep_within d e) (deep_within d i) o here h l.residual;
+      began = r.left_fork_began left_factored _ _ start f e i _ _ _ (deep_within d f) (deep_within d e) (deep_within d i) o here h l.residual;
     };
     few = λ n. record {
-      failed = r.left_fork_failed planned _ _ start f e i (few_form f) (few_form e) (few_form i) (entries_within f) (entries_within e) (entries_within i) o here h (l.few n);
-      exceeded = r.left_fork_exceeded planned _ _ start f e i (few_form f) (few_form e) (few_form i) (entries_within f) (entries_within e) (entries_within i) o here h (l.few n);
-      began = r.left_fork_began planned _ _ start f e i (few_form f) (few_form e) (few_form i) (entries_within f) (entries_within e) (entries_within i) o here h (l.few n);
+      failed = r.left_fork_failed left_factored _ _ start f e i (few_form f) (few_form e) (few_form i) (entries_within f) (entries_within e) (entries_within i) o here h (l.few n);
+      exceeded = r.left_fork_exceeded left_factored _ _ start f e i (few_form f) (few_form e) (few_form i) (entries_within f) (entries_within e) (entries_within i) o here h (l.few n);
+      began = r.left_fork_began left_factored _ _ start f e i (few_form f) (few_form e) (few_form i) (entries_within f) (entries_within e) (entries_within i) o here h (l.few n);
     };
   }
 
-  pub of_first : {v : C} {mid : List Lexeme} → LeftOf told (fork f e i) d here N NB m start h → ok planned (fork f e i) ≡ true → TakesWithin told f (few_form f) d here (inl v) mid
+  pub of_first : {v : C} {mid : List Lexeme} → LeftOf told (fork f e i) d here N NB m start h → ok left_factored (fork f e i) ≡ true → TakesWithin told f (few_form f) d here (inl v) mid
       → LeftOf told e d mid N NB m start (λ k. h (k v))
   unfolding few_form
   of_first {v = v} {mid = mid} l o s = record {
-    remains = r.left_of_first planned _ _ start f e i _ _ _ (deep_within d f) (deep_within d e) (deep_within d i) o here h l.remains v mid s.took;
-    few = λ n. r.left_of_first planned _ _ start f e i (few_form f) (few_form e) (few_form i) (entries_within f) (entries_within e) (entries_within i) o here h (l.few n) v mid (s.few n);
+    residual = r.left_of_first left_factored _ _ start f e i _ _ _ (deep_within d f) (deep_within d e) (deep_within d i) o here h l.residual v mid s.took;
+    few = λ n. r.left_of_first left_factored _ _ start f e i (few_form f) (few_form e) (few_form i) (entries_within f) (entries_within e) (entries_within i) o here h (l.few n) v mid (s.few n);
   }
 
-  pub of_other : {v : D} {mid : List Lexeme} → LeftOf told (fork f e i) d here N NB m start h → ok planned (fork f e i) ≡ true → TakesWithin told f (few_form f) d here (inr v) mid
+  pub of_other : {v : D} {mid : List Lexeme} → LeftOf told (fork f e i) d here N NB m start h → ok left_factored (fork f e i) ≡ true → TakesWithin told f (few_form f) d here (inr v) mid
       → LeftOf told i d mid N NB m start (λ k. h (k v))
   unfolding few_form
   of_other {v = v} {mid = mid} l o s = record {
-    remains = r.left_of_other planned _ _ start f e i _ _ _ (deep_within d f) (deep_within d e) (deep_within d i) o here h l.remains v mid s.took;
-    few = λ n. r.left_of_other planned _ _ start f e i (few_form f) (few_form e) (few_form i) (entries_within f) (entries_within e) (entries_within i) o here h (l.few n) v mid (s.few n);
+    residual = r.left_of_other left_factored _ _ start f e i _ _ _ (deep_within d f) (deep_within d e) (deep_within d i) o here h l.residual v mid s.took;
+    few = λ n. r.left_of_other left_factored _ _ start f e i (few_form f) (few_form e) (few_form i) (entries_within f) (entries_within e) (entries_within i) o here h (l.few n) v mid (s.few n);
   }
 
 pub takes_mapped : {C D : Type 0} {told : Told} {f : The C} {d : ℕ} {here rest : List Lexeme} {v : C} (k : C → D) → TakesWithin told f (few_form f) d here v rest

@@ -7,7 +7,7 @@ use Rattle.grammar.specs.Reading.{Exceeded, Began}
 use Rattle.grammar.proofs.readers.Begun.{nothing_began}
 use Rattle.grammar.proofs.readers.Choices.{is_absent}
 use Rattle.grammar.proofs.readers.Predictions.{ok, ahead}
-use Rattle.grammar.proofs.readers.Remaining as r
+use Rattle.grammar.proofs.readers.Residuals as r
 use Rattle.grammar.proofs.readers.Repetitions.{once_more}
 use Rattle.grammar.proofs.readers.Steps.{counted_failed, counted_exceeded}
 use Rattle.sql_lex.specs.Lexemes.{Lexeme}
@@ -19,7 +19,7 @@ use Rattle.sql_grammar.specs.declared.kinds.Kind.{Kind}
 use Rattle.sql_grammar.specs.Kinds.{kind_of}
 use Rattle.sql_grammar.specs.QueryGrammar.{The}
 use Rattle.sql_read.specs.Reads.{Told, TellsEntries, of_form, few_form, TakesWithin, RefusesWithin}
-use Rattle.sql_grammar.proofs.queries.QueryTable.{planned}
+use Rattle.sql_grammar.proofs.queries.QueryTable.{left_factored}
 pub use Rattle.sql_read.proofs.steps.ReadSteps.{takes}
 use Rattle.sql_read.proofs.steps.Extending.{extends_misses, extends_overflows}
 use Rattle.sql_read.proofs.steps.ReadSteps.{halts_as, LeftOf, BlocksOf, absent_unless, begins_with, deep_within, entries_within}
@@ -39,7 +39,7 @@ first_there p (t ∷ ts) e = record { first = t; others = ts; stood = refl; of_k
 
 -- each token of these kinds begins the form
 abbrev pub Begins : {C : Type 0} → (Kind → Bool) → The C → Type 0
-Begins p f = (t : Lexeme) → p (kind_of t) ≡ true → (of_form None f).front (t ∷ [])
+Begins p f = (t : Lexeme) → p (kind_of t) ≡ true → (of_form None f).prefix (t ∷ [])
 
 pub begins_seq : {C : Type 0} (p : Kind → Bool) (g : The C) → Begins p (seq (token p) g)
 begins_seq p g t i = inl (inr (t, refl, i))
@@ -52,53 +52,53 @@ begins_skip p g t i = inl (inr (t, refl, i))
 module _ {A C : Type 0} {told : Told} {N : The A} {NB : Language Lexeme A} {e : ℕ} {start : List Lexeme} {f : The C} {d : ℕ} where
   -- no more of them
   pub repeated_end : {most : Option ℕ} {here : List Lexeme} {h : List C → A} → LeftOf told (star most f) d here N NB e start h
-      → ok planned (star most f) ≡ true → is_absent kind_of (ahead planned f) here ≡ true → TakesWithin told N NB e start (h []) here
+      → ok left_factored (star most f) ≡ true → is_absent kind_of (ahead left_factored f) here ≡ true → TakesWithin told N NB e start (h []) here
   unfolding few_form
   repeated_end {most = most} {here = here} {h = h} l o n = record {
-    took = r.left_end planned _ _ start (Some d) most f _ (deep_within d f) here h o l.remains n;
-    few = λ t. r.left_end planned _ _ start None most f (few_form f) (entries_within f) here h o (l.few t) n;
+    took = r.left_end left_factored _ _ start (Some d) most f _ (deep_within d f) here h o l.residual n;
+    few = λ t. r.left_end left_factored _ _ start None most f (few_form f) (entries_within f) here h o (l.few t) n;
   }
 
   -- one more of them
   pub repeated_next : {most : Option ℕ} {v : C} {here mid : List Lexeme} {h : List C → A} → LeftOf told (star (once_more most) f) d here N NB e start h
-      → ok planned (star (once_more most) f) ≡ true → TakesWithin told f (few_form f) d here v mid → LeftOf told (star most f) d mid N NB e start (λ vs. h (v ∷ vs))
+      → ok left_factored (star (once_more most) f) ≡ true → TakesWithin told f (few_form f) d here v mid → LeftOf told (star most f) d mid N NB e start (λ vs. h (v ∷ vs))
   unfolding few_form
   repeated_next {most = most} {v = v} {here = here} {mid = mid} {h = h} l o t = record {
-    remains = r.left_next planned _ _ start (Some d) most f _ (deep_within d f) here h o l.remains v mid t.took;
-    few = λ n. r.left_next planned _ _ start None most f (few_form f) (entries_within f) here h o (l.few n) v mid (t.few n);
+    residual = r.left_next left_factored _ _ start (Some d) most f _ (deep_within d f) here h o l.residual v mid t.took;
+    few = λ n. r.left_next left_factored _ _ start None most f (few_form f) (entries_within f) here h o (l.few n) v mid (t.few n);
   }
 
   -- one more begins
   pub repeated_begins : (most : Option ℕ) {here : List Lexeme} {h : List C → A} → LeftOf told (star (once_more most) f) d here N NB e start h
-      → ok planned (star (once_more most) f) ≡ true → (t : Lexeme) (more : List Lexeme) → here ≡ t ∷ more → (of_form None f).front (t ∷ []) → BlocksOf told f (few_form f) d here N NB e start
+      → ok left_factored (star (once_more most) f) ≡ true → (t : Lexeme) (more : List Lexeme) → here ≡ t ∷ more → (of_form None f).prefix (t ∷ []) → BlocksOf told f (few_form f) d here N NB e start
   unfolding few_form
   repeated_begins most {here = here} {h = h} l o t more s b = record {
     halts = record {
-      failed = r.left_next_failed planned _ _ start (Some d) most f _ (deep_within d f) here h o l.remains t more s b;
-      exceeded = r.left_next_exceeded planned _ _ start (Some d) most f _ (deep_within d f) here h o l.remains;
-      began = r.left_next_began planned _ _ start (Some d) most f _ (deep_within d f) here h o l.remains;
+      failed = r.left_next_failed left_factored _ _ start (Some d) most f _ (deep_within d f) here h o l.residual t more s b;
+      exceeded = r.left_next_exceeded left_factored _ _ start (Some d) most f _ (deep_within d f) here h o l.residual;
+      began = r.left_next_began left_factored _ _ start (Some d) most f _ (deep_within d f) here h o l.residual;
     };
     few = λ n. record {
-      failed = r.left_next_failed planned _ _ start None most f (few_form f) (entries_within f) here h o (l.few n) t more s b;
-      exceeded = r.left_next_exceeded planned _ _ start None most f (few_form f) (entries_within f) here h o (l.few n);
-      began = r.left_next_began planned _ _ start None most f (few_form f) (entries_within f) here h o (l.few n);
+      failed = r.left_next_failed left_factored _ _ start None most f (few_form f) (entries_within f) here h o (l.few n) t more s b;
+      exceeded = r.left_next_exceeded left_factored _ _ start None most f (few_form f) (entries_within f) here h o (l.few n);
+      began = r.left_next_began left_factored _ _ start None most f (few_form f) (entries_within f) here h o (l.few n);
     };
   }
 
   pub none_more : {room : ℕ} {p : Kind → Bool} {a b : Cursor} {h : List C → A} → LeftOf told (star (Some room) f) d a.tokens N NB e start h
-      → ok planned (star (Some room) f) ≡ true → begins_with p (ahead planned f) ≡ true → Stays p a b → TakesWithin told N NB e start (h []) b.tokens
+      → ok left_factored (star (Some room) f) ≡ true → begins_with p (ahead left_factored f) ≡ true → Stays p a b → TakesWithin told N NB e start (h []) b.tokens
   none_more {p = p} {a = a} {b = b} {h = h} l o w q =
-      subst (λ z. TakesWithin told N NB e start (h []) z.tokens) (sym q.still) (repeated_end l o (absent_unless p (ahead planned f) w a.tokens q.not_next))
+      subst (λ z. TakesWithin told N NB e start (h []) z.tokens) (sym q.still) (repeated_end l o (absent_unless p (ahead left_factored f) w a.tokens q.not_next))
 
   pub one_taken : {room : ℕ} {v : C} {here mid : List Lexeme} {h : List C → A} → LeftOf told (star (Some room) f) d here N NB e start h
-      → ok planned (star (Some room) f) ≡ true → 0 < room → TakesWithin told f (few_form f) d here v mid → LeftOf told (star (Some (room - 1)) f) d mid N NB e start (λ vs. h (v ∷ vs))
+      → ok left_factored (star (Some room) f) ≡ true → 0 < room → TakesWithin told f (few_form f) d here v mid → LeftOf told (star (Some (room - 1)) f) d mid N NB e start (λ vs. h (v ∷ vs))
   one_taken {room = zero} l o n t = absurd (omega arith)
   one_taken {room = suc m} {v = v} {here = here} {mid = mid} {h = h} l o n t =
       let fewer : suc m - 1 ≡ m = omega arith in
       subst (λ z. LeftOf told (star (Some z) f) d mid N NB e start (λ vs. h (v ∷ vs))) (sym fewer) (repeated_next {most = Some m} l o t)
 
   pub one_begins : {room : ℕ} {p : Kind → Bool} {a b : Cursor} {t : Lexeme} {h : List C → A} → LeftOf told (star (Some room) f) d a.tokens N NB e start h
-      → ok planned (star (Some room) f) ≡ true → Begins p f → PassesWithin p room a t b → BlocksOf told f (few_form f) d a.tokens N NB e start
+      → ok left_factored (star (Some room) f) ≡ true → Begins p f → PassesWithin p room a t b → BlocksOf told f (few_form f) d a.tokens N NB e start
   one_begins {room = zero} l o i q = let n : 0 < 0 = q.room_left in absurd (omega arith)
   one_begins {room = suc m} {b = b} {t = t} l o i q = repeated_begins (Some m) l o t b.tokens q.passes.stood (i t q.passes.of_kind)
 
@@ -106,16 +106,16 @@ module _ {A C : Type 0} {told : Told} {N : The A} {NB : Language Lexeme A} {e : 
       → Begins p f → is_next p here ≡ true → Exceeded (of_form None N) (of_form (Some e) N) start here
   full p {here = here} {h = h} zero z l i n =
       let first = first_there p here n in
-      r.left_full planned _ _ start d f _ here h l.remains first.first first.others first.stood (i first.first first.of_kind)
+      r.left_full left_factored _ _ start d f _ here h l.residual first.first first.others first.stood (i first.first first.of_kind)
   full p (suc room) z l i n = absurd (omega arith)
 
 -- what was taken up to here begins the whole
 pub begins_here : {A C : Type 0} {told : Told} {N : The A} {NB : Language Lexeme A} {e : ℕ} {start : List Lexeme} {f : The C} {d : ℕ} {here : List Lexeme} {h : C → A}
     → LeftOf told f d here N NB e start h → TellsEntries told → Began NB start here
-begins_here {f = f} {here = here} l n = (l.few n).began here (nothing_began (few_form f) (entries_within f).fronts here)
+begins_here {f = f} {here = here} l n = (l.few n).began here (nothing_began (few_form f) (entries_within f).prefixes here)
 
 pub one_too_many : {A C : Type 0} {told : Told} {N : The A} {NB : Language Lexeme A} {e d room : ℕ} {f : The C} {p : Kind → Bool} {s a b : Cursor} {fault : ReadFault} {h : List C → A}
-    → LeftOf told (star (Some room) f) d a.tokens N NB e s.tokens h → ok planned (star (Some room) f) ≡ true → Begins p f → Overflows p room a fault b → RefusesWithin told N NB e s fault b
+    → LeftOf told (star (Some room) f) d a.tokens N NB e s.tokens h → ok left_factored (star (Some room) f) ≡ true → Begins p f → Overflows p room a fault b → RefusesWithin told N NB e s fault b
 one_too_many {told = told} {N = N} {NB = NB} {e = e} {room = room} {p = p} {s = s} {b = b} l o i q =
     subst (λ z. RefusesWithin told N NB e s z b) (sym q.too_deep)
     (subst (λ z. RefusesWithin told N NB e s (TooDeep q.at) z) (sym q.still) (record { says = record { exceeded = full p room q.full l i q.next; few = begins_here l; place = q.place } }))
@@ -127,7 +127,7 @@ pub counted_part : {A C : Type 0} {told : Told} {N : The A} {NB : Language Lexem
     → LeftOf told (counted f) d here N NB e start h → BlocksOf told f (few_form f) d here N NB e start
 unfolding few_form
 counted_part {f = f} {d = d} {here = here} l = record {
-  halts = halts_as (counted_failed (of_form None f) (of_form (Some d) f) here) (counted_exceeded (of_form None f) (of_form (Some d) f) here) (λ ts b. b) l.remains;
+  halts = halts_as (counted_failed (of_form None f) (of_form (Some d) f) here) (counted_exceeded (of_form None f) (of_form (Some d) f) here) (λ ts b. b) l.residual;
   few = λ n. halts_as (counted_failed (of_form None f) (few_form f) here) (counted_exceeded (of_form None f) (few_form f) here) (λ ts b. b) (l.few n);
 }
 

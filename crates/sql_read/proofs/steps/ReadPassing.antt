@@ -7,7 +7,7 @@ use Rattle.grammar.specs.Language.{Language, Includes, alt_language}
 use Rattle.grammar.proofs.readers.Choices.{absent_failed}
 use Rattle.grammar.proofs.readers.Begun.{nothing_began}
 use Rattle.grammar.proofs.readers.Predictions.{ok, ahead, known}
-use Rattle.grammar.proofs.readers.Remaining as r
+use Rattle.grammar.proofs.readers.Residuals as r
 use Rattle.grammar.proofs.readers.Steps.{IsWithin, Same}
 use Rattle.grammar.specs.Reading.{Failed}
 use Rattle.sql_lex.specs.Lexemes.{Lexeme}
@@ -20,7 +20,7 @@ use Rattle.sql_grammar.specs.Kinds.{among, kind_of, same}
 use Rattle.sql_grammar.specs.Numbering.{Built}
 use Rattle.sql_grammar.specs.QueryGrammar.{The}
 use Rattle.sql_read.specs.Reads.{Told, of_form, few_form, Builds, IsBuilt, ReadsWithin, RefusesWithin, Takes}
-use Rattle.sql_grammar.proofs.queries.QueryTable.{planned}
+use Rattle.sql_grammar.proofs.queries.QueryTable.{left_factored}
 use Rattle.sql_read.proofs.steps.ReadSteps.{absent_unless, absent_where, begins_otherwise, begins_with, blocks, by_next, deep_within, entries_within, ExceededForm, fails, first, gives, LeftOf, LeftWithin, other, refuses}
 
 -- ---- sets of one kind
@@ -95,44 +95,44 @@ module _ {C A X : Type 0} {told : Told} {f : The C} {B : Language Lexeme C} {d :
 -- ---- a form that cannot begin here
 
 module _ {C : Type 0} {told : Told} {f : The C} {p : Kind → Bool} {d : ℕ} {a b : Cursor} {fault : ReadFault} where
-  pub misses_in : (B : Language Lexeme C) → IsWithin (of_form None f) B → ok planned f ≡ true → begins_with p (ahead planned f) ≡ true → Misses p a fault b → RefusesWithin told f B d a fault b
+  pub misses_in : (B : Language Lexeme C) → IsWithin (of_form None f) B → ok left_factored f ≡ true → begins_with p (ahead left_factored f) ≡ true → Misses p a fault b → RefusesWithin told f B d a fault b
   misses_in B i o w m = record { says = fails told f B d a b fault (failed (of_form (Some d) f) (deep_within d f)) (λ n. failed B i) m.refusing }
     where
       failed : (B : Language Lexeme C) → IsWithin (of_form None f) B → Failed (of_form None f) B a.tokens b.tokens
       failed B i = subst (λ z. Failed (of_form None f) B a.tokens z.tokens) (sym m.stays.still)
-          (absent_failed kind_of (of_form None f) (ahead planned f) (known planned f o) B i a.tokens (absent_unless p (ahead planned f) w a.tokens m.stays.not_next))
+          (absent_failed kind_of (of_form None f) (ahead left_factored f) (known left_factored f o) B i a.tokens (absent_unless p (ahead left_factored f) w a.tokens m.stays.not_next))
 
-  pub misses : ok planned f ≡ true → begins_with p (ahead planned f) ≡ true → Misses p a fault b → RefusesWithin told f (few_form f) d a fault b
+  pub misses : ok left_factored f ≡ true → begins_with p (ahead left_factored f) ≡ true → Misses p a fault b → RefusesWithin told f (few_form f) d a fault b
   misses o w m = misses_in (few_form f) (entries_within f) o w m
 
 module _ {A : Type 0} {told : Told} {N : The A} {NB : Language Lexeme A} {e : ℕ} {start : List Lexeme} {C : Type 0} {d : ℕ} {f g : The C} {h : C → A} where
-  pub other_unless : (p : Kind → Bool) {here : List Lexeme} → LeftOf told (alt f g) d here N NB e start h → ok planned f ≡ true → begins_with p (ahead planned f) ≡ true
+  pub other_unless : (p : Kind → Bool) {here : List Lexeme} → LeftOf told (alt f g) d here N NB e start h → ok left_factored f ≡ true → begins_with p (ahead left_factored f) ≡ true
       → is_next p here ≡ false → LeftOf told g d here N NB e start h
-  other_unless p {here = here} l o w n = other l o (absent_unless p (ahead planned f) w here n)
+  other_unless p {here = here} l o w n = other l o (absent_unless p (ahead left_factored f) w here n)
 
-  pub first_unless : (p : Kind → Bool) {here : List Lexeme} → LeftOf told (alt f g) d here N NB e start h → ok planned g ≡ true → begins_with p (ahead planned g) ≡ true
+  pub first_unless : (p : Kind → Bool) {here : List Lexeme} → LeftOf told (alt f g) d here N NB e start h → ok left_factored g ≡ true → begins_with p (ahead left_factored g) ≡ true
       → is_next p here ≡ false → LeftOf told f d here N NB e start h
-  first_unless p {here = here} l o w n = first l o (absent_unless p (ahead planned g) w here n)
+  first_unless p {here = here} l o w n = first l o (absent_unless p (ahead left_factored g) w here n)
 
   -- what stands next begins the one, so not the other
-  pub first_where : (p : Kind → Bool) {here : List Lexeme} → LeftOf told (alt f g) d here N NB e start h → ok planned g ≡ true → begins_otherwise p (ahead planned g) ≡ true
+  pub first_where : (p : Kind → Bool) {here : List Lexeme} → LeftOf told (alt f g) d here N NB e start h → ok left_factored g ≡ true → begins_otherwise p (ahead left_factored g) ≡ true
       → is_next p here ≡ true → LeftOf told f d here N NB e start h
-  first_where p {here = here} l o w n = first l o (absent_where p (ahead planned g) w here n)
+  first_where p {here = here} l o w n = first l o (absent_where p (ahead left_factored g) w here n)
 
-  pub other_where : (p : Kind → Bool) {here : List Lexeme} → LeftOf told (alt f g) d here N NB e start h → ok planned f ≡ true → begins_otherwise p (ahead planned f) ≡ true
+  pub other_where : (p : Kind → Bool) {here : List Lexeme} → LeftOf told (alt f g) d here N NB e start h → ok left_factored f ≡ true → begins_otherwise p (ahead left_factored f) ≡ true
       → is_next p here ≡ true → LeftOf told g d here N NB e start h
-  other_where p {here = here} l o w n = other l o (absent_where p (ahead planned f) w here n)
+  other_where p {here = here} l o w n = other l o (absent_where p (ahead left_factored f) w here n)
 
   -- what stands next begins the first
-  pub first_next : (p : Kind → Bool) {here : List Lexeme} → LeftOf told (alt f g) d here N NB e start h → ok planned (alt f g) ≡ true
-      → ((t : Lexeme) → p (kind_of t) ≡ true → (of_form None f).front (t ∷ [])) → is_next p here ≡ true → LeftOf told f d here N NB e start h
+  pub first_next : (p : Kind → Bool) {here : List Lexeme} → LeftOf told (alt f g) d here N NB e start h → ok left_factored (alt f g) ≡ true
+      → ((t : Lexeme) → p (kind_of t) ≡ true → (of_form None f).prefix (t ∷ [])) → is_next p here ≡ true → LeftOf told f d here N NB e start h
   first_next p {here = []} l o i n = cc
   first_next p {here = t ∷ ts} l o i n =
       by_next l o t ts refl (i t n)
 
 -- the two exchanged
 exchanged : {A : Type 0} (L M : Language Lexeme A) → Includes (alt_language M L) (alt_language L M)
-exchanged L M = record { spells = λ ts v s. elim s [ inl a ↦ inr a | inr b ↦ inl b ]; front = λ ts f. elim f [ inl a ↦ inr a | inr b ↦ inl b ] }
+exchanged L M = record { spells = λ ts v s. elim s [ inl a ↦ inr a | inr b ↦ inl b ]; prefix = λ ts f. elim f [ inl a ↦ inr a | inr b ↦ inl b ] }
 
 same_exchanged : {A : Type 0} (L M : Language Lexeme A) → Same (alt_language L M) (alt_language M L)
 same_exchanged L M = record { there = exchanged L M; back = exchanged M L }
@@ -143,13 +143,13 @@ module _ {A : Type 0} {told : Told} {N : The A} {NB : Language Lexeme A} {e : �
   exchange {here = here} l =
       let free = same_exchanged (of_form None g) (of_form None f) in
       record {
-        remains = r.remains_same _ _ _ _ free (same_exchanged (of_form (Some d) g) (of_form (Some d) f)) here _ _ start h l.remains;
-        few = λ n. r.remains_same _ _ _ _ free (same_exchanged (few_form g) (few_form f)) here _ _ start h (l.few n);
+        residual = r.residual_same _ _ _ _ free (same_exchanged (of_form (Some d) g) (of_form (Some d) f)) here _ _ start h l.residual;
+        few = λ n. r.residual_same _ _ _ _ free (same_exchanged (few_form g) (few_form f)) here _ _ start h (l.few n);
       }
 
   -- what stands next begins the second
-  pub other_next : (p : Kind → Bool) {here : List Lexeme} → LeftOf told (alt f g) d here N NB e start h → ok planned (alt g f) ≡ true
-      → ((t : Lexeme) → p (kind_of t) ≡ true → (of_form None g).front (t ∷ [])) → is_next p here ≡ true → LeftOf told g d here N NB e start h
+  pub other_next : (p : Kind → Bool) {here : List Lexeme} → LeftOf told (alt f g) d here N NB e start h → ok left_factored (alt g f) ≡ true
+      → ((t : Lexeme) → p (kind_of t) ≡ true → (of_form None g).prefix (t ∷ [])) → is_next p here ≡ true → LeftOf told g d here N NB e start h
   other_next p l o i n = first_next p (exchange l) o i n
 
 -- ---- levels
@@ -157,7 +157,7 @@ module _ {A : Type 0} {told : Told} {N : The A} {NB : Language Lexeme A} {e : �
 module _ {C : Type 0} (g : The C) (p : Kind → Bool) where
   full : (ts : List Lexeme) → is_next p ts ≡ true → ExceededForm (nest (seq (token p) g)) zero ts ts
   full [] n = cc
-  full (t ∷ ts) n = r.too_deep planned (seq (token p) g) (t ∷ ts) t ts refl (inl (inr (t, refl, n)))
+  full (t ∷ ts) n = r.too_deep left_factored (seq (token p) g) (t ∷ ts) t ts refl (inl (inr (t, refl, n)))
 
 module _ {C : Type 0} {g : The C} {p : Kind → Bool} {d : ℕ} where
   -- one token more would open a level, and none is left
@@ -170,7 +170,7 @@ module _ {C : Type 0} {g : The C} {p : Kind → Bool} {d : ℕ} where
       (record {
         says = record {
           exceeded = full g p a.tokens q.next;
-          few = λ n. nothing_began (few_form (nest (seq (token p) g))) (entries_within (nest (seq (token p) g))).fronts a.tokens;
+          few = λ n. nothing_began (few_form (nest (seq (token p) g))) (entries_within (nest (seq (token p) g))).prefixes a.tokens;
           place = q.place;
         };
       })))
@@ -200,8 +200,8 @@ module _ {C : Type 0} {f : The C} {d : ℕ} {a b : Cursor} {v : C} where
   took_counted x t =
       let tokens = counted_tokens a.passed b.passed a.tokens b.tokens x.passed x.counted in
       record {
-        took = r.took_counted planned f _ a.tokens v b.tokens (b.passed - a.passed) tokens t.took;
-        few = λ n. r.took_counted planned f (few_form f) a.tokens v b.tokens (b.passed - a.passed) tokens (t.few n);
+        took = r.took_counted left_factored f _ a.tokens v b.tokens (b.passed - a.passed) tokens t.took;
+        few = λ n. r.took_counted left_factored f (few_form f) a.tokens v b.tokens (b.passed - a.passed) tokens (t.few n);
       }
 
 pub built_counted : {X : Type 0} {built : Built X} {value : X} {a b : Cursor} → Extends a b → Builds built a value b → IsBuilt built (b.passed - a.passed) a value b

@@ -8,12 +8,12 @@ use Rattle.grammar.specs.Form.{empty, language, token, seq, alt, nest, map, ref}
 use Rattle.grammar.specs.Language.{Language, seq_language, token_language}
 use Rattle.grammar.specs.Lookahead.{Lookahead}
 use Rattle.grammar.specs.Productions.{optional}
-use Rattle.grammar.specs.Reading.{Took, Failed, Exceeded, Began, Remains}
+use Rattle.grammar.specs.Reading.{Took, Failed, Exceeded, Began, Residual}
 use Rattle.grammar.proofs.readers.Choices.{is_absent}
 use Rattle.grammar.proofs.languages.Forms.{includes_through}
 use Rattle.grammar.proofs.languages.Heights.{from_rule, to_rule}
 use Rattle.grammar.proofs.readers.Predictions.{ok, ahead, bounded_within, produced, within}
-use Rattle.grammar.proofs.readers.Remaining as r
+use Rattle.grammar.proofs.readers.Residuals as r
 use Rattle.grammar.proofs.languages.Sets.{and_left, and_right, and_both, implied}
 use Rattle.grammar.proofs.readers.Steps.{IsWithin, Same, empty_took, token_took, token_ended, token_failed}
 use Rattle.sql_lex.specs.Lexemes.{Lexeme}
@@ -28,14 +28,14 @@ use Rattle.sql_grammar.specs.Kinds.{kind_of, every_kind}
 use Rattle.sql_grammar.specs.Numbering.{Built, both, plain, mapped as mapped_built}
 use Rattle.sql_grammar.specs.QueryGrammar.{Production, Read, The}
 use Rattle.sql_grammar.specs.QueryEntries.{most_further}
-use Rattle.sql_grammar.specs.QueryPlan.{few_plan, of_plan, plan}
+use Rattle.sql_grammar.specs.FactoredQueries.{few_factored, of_factored, factored}
 use Rattle.sql_read.specs.Reads.{Told, entries_too, TellsColumns, TellsEntries, TellsRelations, of_form, few_form, Builds, TakesWithin, GivesWithin, Fills, Says, SaysLimit, RefusesWithin, ReadsWithin}
 use Rattle.sql_read.specs.Refusals.{refusal}
 use Rattle.sql_grammar.proofs.lists.EveryKind.{every_kind_is_there}
-use Rattle.sql_grammar.proofs.entries.FewPlan.{few_within}
-use Rattle.sql_grammar.proofs.queries.QueryTable.{planned}
+use Rattle.sql_grammar.proofs.entries.FewFactored.{few_within}
+use Rattle.sql_grammar.proofs.queries.QueryTable.{left_factored}
 use Rattle.sql_grammar.proofs.queries.QueryWords.{Below}
-use Rattle.grammar.proofs.plans.Alike.{itself}
+use Rattle.grammar.proofs.factorings.Alike.{itself}
 use Rattle.sql_read.proofs.steps.RefusedNext.{no_limit, not_too_deep}
 
 abbrev pub FailedForm : {C : Type 0} → The C → ℕ → List Lexeme → List Lexeme → Type 0
@@ -51,13 +51,13 @@ pub record Halts {C A : Type 0} (M M' : Language Lexeme C) (here : List Lexeme) 
   pub began : (rest : List Lexeme) → Began M' here rest → Began N' start rest
 
 -- what remains
-pub halts_of : {C A : Type 0} {M M' : Language Lexeme C} {here : List Lexeme} {N N' : Language Lexeme A} {start : List Lexeme} {h : C → A} → Remains M M' here N N' start h → Halts M M' here N N' start
+pub halts_of : {C A : Type 0} {M M' : Language Lexeme C} {here : List Lexeme} {N N' : Language Lexeme A} {start : List Lexeme} {h : C → A} → Residual M M' here N N' start h → Halts M M' here N N' start
 halts_of l = record { failed = l.failed; exceeded = l.exceeded; began = l.began }
 
 -- what begins with the same tokens
 pub halts_as : {C D A : Type 0} {L L' : Language Lexeme C} {M M' : Language Lexeme D} {here : List Lexeme} {N N' : Language Lexeme A} {start : List Lexeme} {h : D → A}
     → ((rest : List Lexeme) → Failed L L' here rest → Failed M M' here rest)
-    → ((rest : List Lexeme) → Exceeded L L' here rest → Exceeded M M' here rest) → ((ts : List Lexeme) → L'.front ts → M'.front ts) → Remains M M' here N N' start h → Halts L L' here N N' start
+    → ((rest : List Lexeme) → Exceeded L L' here rest → Exceeded M M' here rest) → ((ts : List Lexeme) → L'.prefix ts → M'.prefix ts) → Residual M M' here N N' start h → Halts L L' here N N' start
 halts_as f e b l = record {
   failed = λ rest t. l.failed rest (f rest t);
   exceeded = λ rest t. l.exceeded rest (e rest t);
@@ -72,8 +72,8 @@ halts_through m l = record { failed = λ rest t. m.failed rest (l.failed rest t)
 -- f remains here of the reading of N that began at the start: the value of N is h of that of f. B and NB are what may be read of f and N where no
 -- block has too many entries.
 pub record LeftWithin {C A : Type 0} (told : Told) (f : The C) (B : Language Lexeme C) (d : ℕ) (here : List Lexeme) (N : The A) (NB : Language Lexeme A) (e : ℕ) (start : List Lexeme) (h : C → A) : Type 0 where
-  pub remains : Remains (of_form None f) (of_form (Some d) f) here (of_form None N) (of_form (Some e) N) start h
-  pub few : TellsEntries told → Remains (of_form None f) B here (of_form None N) NB start h
+  pub residual : Residual (of_form None f) (of_form (Some d) f) here (of_form None N) (of_form (Some e) N) start h
+  pub few : TellsEntries told → Residual (of_form None f) B here (of_form None N) NB start h
 
 abbrev pub LeftOf : {C A : Type 0} → Told → The C → ℕ → List Lexeme → (N : The A) → Language Lexeme A → ℕ → List Lexeme → (C → A) → Type 0
 LeftOf told f d here N NB e start h = LeftWithin told f (few_form f) d here N NB e start h
@@ -93,18 +93,18 @@ Blocks f d here N e start = BlocksOf entries_too f (few_form f) d here N (few_fo
 pub same_taken : (start rest x y : List Lexeme) → start ≡ x ++ rest → start ≡ y ++ rest → x ≡ y
 same_taken start rest x y e i = append_cancel_right x y rest (sym e ∙ i)
 
--- ---- languages within the plan's
+-- ---- languages within the left-factored grammar's
 
 pub deep_within : {A : Type 0} (d : ℕ) (f : The A) → IsWithin (of_form None f) (of_form (Some d) f)
-deep_within d f = bounded_within planned d f
+deep_within d f = bounded_within left_factored d f
 
 pub entries_within : {A : Type 0} (f : The A) → IsWithin (of_form None f) (few_form f)
 unfolding few_form
-entries_within f = within planned (language kind_of (few_plan most_further)) (few_within most_further (omega arith)) None f
+entries_within f = within left_factored (language kind_of (few_factored most_further)) (few_within most_further (omega arith)) None f
 
 -- what is read of a form that spells less
-pub fewer_within : {A : Type 0} {f f' : The A} → Below of_plan f' f → IsWithin (of_form None f) (few_form f')
-fewer_within {f' = f'} b = let w = entries_within f' in record { includes = includes_through _ _ _ w.includes (b.holds None); fronts = w.fronts }
+pub fewer_within : {A : Type 0} {f f' : The A} → Below of_factored f' f → IsWithin (of_form None f) (few_form f')
+fewer_within {f' = f'} b = let w = entries_within f' in record { includes = includes_through _ _ _ w.includes (b.holds None); prefixes = w.prefixes }
 
 -- ---- what stands next
 
@@ -143,56 +143,56 @@ took_token {p = p} d {b = b} {t = t} q =
 -- ---- from a form to its parts
 
 pub whole_within : {A : Type 0} {told : Told} {N : The A} {NB : Language Lexeme A} {e : ℕ} {start : List Lexeme} → LeftWithin told N NB e start N NB e start (λ v. v)
-whole_within {N = N} {NB = NB} {e = e} {start = start} = record { remains = r.remains_whole (of_form None N) (of_form (Some e) N) start; few = λ n. r.remains_whole (of_form None N) NB start }
+whole_within {N = N} {NB = NB} {e = e} {start = start} = record { residual = r.residual_whole (of_form None N) (of_form (Some e) N) start; few = λ n. r.residual_whole (of_form None N) NB start }
 
 pub whole : {A : Type 0} {told : Told} {N : The A} {e : ℕ} {start : List Lexeme} → LeftOf told N e start N (few_form N) e start (λ v. v)
 whole = whole_within
 
-few_production : (n : Production) → Same (few_form (few_plan most_further n)) (few_form (ref n))
+few_production : (n : Production) → Same (few_form (few_factored most_further n)) (few_form (ref n))
 unfolding few_form
-few_production n = record { there = from_rule kind_of (few_plan most_further) None n; back = to_rule kind_of (few_plan most_further) None n }
+few_production n = record { there = from_rule kind_of (few_factored most_further) None n; back = to_rule kind_of (few_factored most_further) None n }
 
 module _ {A : Type 0} {told : Told} {N : The A} {NB : Language Lexeme A} {e : ℕ} {start : List Lexeme} where
   -- of a name its production remains
   pub production : (n : Production) {d : ℕ} {here : List Lexeme} {h : Read n → A} → LeftOf told (ref n) d here N NB e start h
-      → LeftWithin told (plan n) (few_form (few_plan most_further n)) d here N NB e start h
+      → LeftWithin told (factored n) (few_form (few_factored most_further n)) d here N NB e start h
   production n {d = d} {here = here} {h = h} l = record {
-    remains = r.remains_production planned n _ _ (produced planned (Some d) n) here _ _ start h l.remains;
-    few = λ t. r.remains_production planned n _ _ (few_production n) here _ _ start h (l.few t);
+    residual = r.residual_production left_factored n _ _ (produced left_factored (Some d) n) here _ _ start h l.residual;
+    few = λ t. r.residual_production left_factored n _ _ (few_production n) here _ _ start h (l.few t);
   }
 
   module _ {C D : Type 0} {d : ℕ} {here : List Lexeme} where
     pub mapped_to : (f' : The C) {k : C → D} {f : The C} {h : D → A} → LeftWithin told (map k f) (few_form (map k f')) d here N NB e start h → LeftWithin told f (few_form f') d here N NB e start (λ v. h (k v))
     unfolding few_form
-    mapped_to f' {k = k} {f = f} {h = h} l = record { remains = r.left_map planned _ _ start k f _ here h l.remains; few = λ t. r.left_map planned _ _ start k f (few_form f') here h (l.few t) }
+    mapped_to f' {k = k} {f = f} {h = h} l = record { residual = r.left_map left_factored _ _ start k f _ here h l.residual; few = λ t. r.left_map left_factored _ _ start k f (few_form f') here h (l.few t) }
 
     pub mapped : {k : C → D} {f : The C} {h : D → A} → LeftOf told (map k f) d here N NB e start h → LeftOf told f d here N NB e start (λ v. h (k v))
     mapped {f = f} l = mapped_to f l
 
     module _ {f : The C} {g : The D} (F : Language Lexeme C) (G : Language Lexeme D) (m : IsWithin (of_form None f) F) (n : IsWithin (of_form None g) G) {h : C × D → A}
-        (l : LeftWithin told (seq f g) (seq_language F G) d here N NB e start h) (o : ok planned (seq f g) ≡ true) where
+        (l : LeftWithin told (seq f g) (seq_language F G) d here N NB e start h) (o : ok left_factored (seq f g) ≡ true) where
       pub second_in : {v : C} {mid : List Lexeme} → TakesWithin told f F d here v mid → LeftWithin told g G d mid N NB e start (λ w. h (v, w))
       second_in {v = v} {mid = mid} t = record {
-        remains = r.left_second planned _ _ start f g _ _ (deep_within d f) (deep_within d g) o here h l.remains v mid t.took;
-        few = λ i. r.left_second planned _ _ start f g F G m n o here h (l.few i) v mid (t.few i);
+        residual = r.left_second left_factored _ _ start f g _ _ (deep_within d f) (deep_within d g) o here h l.residual v mid t.took;
+        few = λ i. r.left_second left_factored _ _ start f g F G m n o here h (l.few i) v mid (t.few i);
       }
 
       pub first_in : BlocksOf told f F d here N NB e start
       first_in = record {
         halts = record {
-          failed = r.left_first_failed planned _ _ start f g _ _ (deep_within d f) (deep_within d g) o here h l.remains;
-          exceeded = r.left_first_exceeded planned _ _ start f g _ _ (deep_within d f) (deep_within d g) o here h l.remains;
-          began = r.left_first_began planned _ _ start f g _ _ (deep_within d f) (deep_within d g) o here h l.remains;
+          failed = r.left_first_failed left_factored _ _ start f g _ _ (deep_within d f) (deep_within d g) o here h l.residual;
+          exceeded = r.left_first_exceeded left_factored _ _ start f g _ _ (deep_within d f) (deep_within d g) o here h l.residual;
+          began = r.left_first_began left_factored _ _ start f g _ _ (deep_within d f) (deep_within d g) o here h l.residual;
         };
         few = λ i. record {
-          failed = r.left_first_failed planned _ _ start f g F G m n o here h (l.few i);
-          exceeded = r.left_first_exceeded planned _ _ start f g F G m n o here h (l.few i);
-          began = r.left_first_began planned _ _ start f g F G m n o here h (l.few i);
+          failed = r.left_first_failed left_factored _ _ start f g F G m n o here h (l.few i);
+          exceeded = r.left_first_exceeded left_factored _ _ start f g F G m n o here h (l.few i);
+          began = r.left_first_began left_factored _ _ start f g F G m n o here h (l.few i);
         };
       }
 
-    module _ {f f' : The C} {g g' : The D} (m : Below of_plan f' f) (n : Below of_plan g' g) {h : C × D → A}
-        (l : LeftWithin told (seq f g) (few_form (seq f' g')) d here N NB e start h) (o : ok planned (seq f g) ≡ true) where
+    module _ {f f' : The C} {g g' : The D} (m : Below of_factored f' f) (n : Below of_factored g' g) {h : C × D → A}
+        (l : LeftWithin told (seq f g) (few_form (seq f' g')) d here N NB e start h) (o : ok left_factored (seq f g) ≡ true) where
       pub second_to : {v : C} {mid : List Lexeme} → TakesWithin told f (few_form f') d here v mid → LeftWithin told g (few_form g') d mid N NB e start (λ w. h (v, w))
       unfolding few_form
       second_to t = second_in (few_form f') (few_form g') (fewer_within m) (fewer_within n) l o t
@@ -201,56 +201,56 @@ module _ {A : Type 0} {told : Told} {N : The A} {NB : Language Lexeme A} {e : �
       unfolding few_form
       first_to = first_in (few_form f') (few_form g') (fewer_within m) (fewer_within n) l o
 
-    pub second : {f : The C} {g : The D} {h : C × D → A} {v : C} {mid : List Lexeme} → LeftOf told (seq f g) d here N NB e start h → ok planned (seq f g) ≡ true
+    pub second : {f : The C} {g : The D} {h : C × D → A} {v : C} {mid : List Lexeme} → LeftOf told (seq f g) d here N NB e start h → ok left_factored (seq f g) ≡ true
         → TakesWithin told f (few_form f) d here v mid → LeftOf told g d mid N NB e start (λ w. h (v, w))
     second {f = f} {g = g} l o t = second_to (itself f) (itself g) l o t
 
-    pub first_part : {f : The C} {g : The D} {h : C × D → A} → LeftOf told (seq f g) d here N NB e start h → ok planned (seq f g) ≡ true → BlocksOf told f (few_form f) d here N NB e start
+    pub first_part : {f : The C} {g : The D} {h : C × D → A} → LeftOf told (seq f g) d here N NB e start h → ok left_factored (seq f g) ≡ true → BlocksOf told f (few_form f) d here N NB e start
     first_part {f = f} {g = g} l o = first_to (itself f) (itself g) l o
 
   module _ {C : Type 0} {d : ℕ} where
     -- where less is read of either
     module _ {here : List Lexeme} {f g : The C} {h : C → A} where
-      pub one_to : (f' : The C) {g' : The C} → LeftWithin told (alt f g) (few_form (alt f' g')) d here N NB e start h → Below of_plan g' g → ok planned g ≡ true → is_absent kind_of (ahead planned g) here ≡ true
+      pub one_to : (f' : The C) {g' : The C} → LeftWithin told (alt f g) (few_form (alt f' g')) d here N NB e start h → Below of_factored g' g → ok left_factored g ≡ true → is_absent kind_of (ahead left_factored g) here ≡ true
           → LeftWithin told f (few_form f') d here N NB e start h
       unfolding few_form
       one_to f' {g' = g'} l b o n = record {
-        remains = r.left_first planned _ _ start f g _ _ here h l.remains (deep_within d g) o n;
-        few = λ t. r.left_first planned _ _ start f g (few_form f') (few_form g') here h (l.few t) (fewer_within b) o n;
+        residual = r.left_first left_factored _ _ start f g _ _ here h l.residual (deep_within d g) o n;
+        few = λ t. r.left_first left_factored _ _ start f g (few_form f') (few_form g') here h (l.few t) (fewer_within b) o n;
       }
 
-      pub other_to : (g' : The C) {f' : The C} → LeftWithin told (alt f g) (few_form (alt f' g')) d here N NB e start h → Below of_plan f' f → ok planned f ≡ true → is_absent kind_of (ahead planned f) here ≡ true
+      pub other_to : (g' : The C) {f' : The C} → LeftWithin told (alt f g) (few_form (alt f' g')) d here N NB e start h → Below of_factored f' f → ok left_factored f ≡ true → is_absent kind_of (ahead left_factored f) here ≡ true
           → LeftWithin told g (few_form g') d here N NB e start h
       unfolding few_form
       other_to g' {f' = f'} l b o n = record {
-        remains = r.left_other planned _ _ start f g _ _ here h l.remains (deep_within d f) o n;
-        few = λ t. r.left_other planned _ _ start f g (few_form f') (few_form g') here h (l.few t) (fewer_within b) o n;
+        residual = r.left_other left_factored _ _ start f g _ _ here h l.residual (deep_within d f) o n;
+        few = λ t. r.left_other left_factored _ _ start f g (few_form f') (few_form g') here h (l.few t) (fewer_within b) o n;
       }
 
       -- the next token begins the first
-      pub next_to : (f' : The C) {g' : The C} → LeftWithin told (alt f g) (few_form (alt f' g')) d here N NB e start h → Below of_plan g' g → ok planned (alt f g) ≡ true → (t : Lexeme) (more : List Lexeme) → here ≡ t ∷ more
-          → (of_form None f).front (t ∷ []) → LeftWithin told f (few_form f') d here N NB e start h
+      pub next_to : (f' : The C) {g' : The C} → LeftWithin told (alt f g) (few_form (alt f' g')) d here N NB e start h → Below of_factored g' g → ok left_factored (alt f g) ≡ true → (t : Lexeme) (more : List Lexeme) → here ≡ t ∷ more
+          → (of_form None f).prefix (t ∷ []) → LeftWithin told f (few_form f') d here N NB e start h
       unfolding few_form
       next_to f' {g' = g'} l b o t more s i = record {
-        remains = r.left_by_token planned _ _ start f g _ _ here h l.remains (deep_within d g) o t more s i;
-        few = λ n. r.left_by_token planned _ _ start f g (few_form f') (few_form g') here h (l.few n) (fewer_within b) o t more s i;
+        residual = r.left_by_token left_factored _ _ start f g _ _ here h l.residual (deep_within d g) o t more s i;
+        few = λ n. r.left_by_token left_factored _ _ start f g (few_form f') (few_form g') here h (l.few n) (fewer_within b) o t more s i;
       }
 
-      pub first : LeftOf told (alt f g) d here N NB e start h → ok planned g ≡ true → is_absent kind_of (ahead planned g) here ≡ true → LeftOf told f d here N NB e start h
+      pub first : LeftOf told (alt f g) d here N NB e start h → ok left_factored g ≡ true → is_absent kind_of (ahead left_factored g) here ≡ true → LeftOf told f d here N NB e start h
       first l o n = one_to f l (itself g) o n
 
-      pub other : LeftOf told (alt f g) d here N NB e start h → ok planned f ≡ true → is_absent kind_of (ahead planned f) here ≡ true → LeftOf told g d here N NB e start h
+      pub other : LeftOf told (alt f g) d here N NB e start h → ok left_factored f ≡ true → is_absent kind_of (ahead left_factored f) here ≡ true → LeftOf told g d here N NB e start h
       other l o n = other_to g l (itself f) o n
 
-      pub by_next : LeftOf told (alt f g) d here N NB e start h → ok planned (alt f g) ≡ true → (t : Lexeme) (more : List Lexeme) → here ≡ t ∷ more → (of_form None f).front (t ∷ []) → LeftOf told f d here N NB e start h
+      pub by_next : LeftOf told (alt f g) d here N NB e start h → ok left_factored (alt f g) ≡ true → (t : Lexeme) (more : List Lexeme) → here ≡ t ∷ more → (of_form None f).prefix (t ∷ []) → LeftOf told f d here N NB e start h
       by_next l o t more s i = next_to f l (itself g) o t more s i
 
-    pub by_token : {p : Kind → Bool} {a b : Cursor} {t : Lexeme} {f g : The C} {h : C → A} → LeftOf told (alt f g) d a.tokens N NB e start h → ok planned (alt f g) ≡ true
-        → Passes p a t b → (of_form None f).front (t ∷ []) → LeftOf told f d a.tokens N NB e start h
+    pub by_token : {p : Kind → Bool} {a b : Cursor} {t : Lexeme} {f g : The C} {h : C → A} → LeftOf told (alt f g) d a.tokens N NB e start h → ok left_factored (alt f g) ≡ true
+        → Passes p a t b → (of_form None f).prefix (t ∷ []) → LeftOf told f d a.tokens N NB e start h
     by_token {b = b} {t = t} l o q i = by_next l o t b.tokens q.stood i
 
     pub blocks : {here : List Lexeme} {f : The C} {B : Language Lexeme C} {h : C → A} → LeftWithin told f B d here N NB e start h → BlocksOf told f B d here N NB e start
-    blocks l = record { halts = halts_of l.remains; few = λ n. halts_of (l.few n) }
+    blocks l = record { halts = halts_of l.residual; few = λ n. halts_of (l.few n) }
 
   -- ---- levels
 
@@ -259,39 +259,39 @@ module _ {A : Type 0} {told : Told} {N : The A} {NB : Language Lexeme A} {e : �
   nested {d = zero} l n = absurd (omega arith)
   nested {d = suc d} {here = here} {f = f} {h = h} l n =
       let same : suc d - 1 ≡ d = omega arith in
-      subst (λ z. LeftOf told f z here N NB e start h) (sym same) (record { remains = l.remains; few = l.few })
+      subst (λ z. LeftOf told f z here N NB e start h) (sym same) (record { residual = l.residual; few = l.few })
 
   -- ---- single tokens
 
   module _ {C : Type 0} {d : ℕ} {p : Kind → Bool} {a b : Cursor} {t : Lexeme} where
-    pub eaten : {g : The C} {h : Lexeme × C → A} → LeftOf told (seq (token p) g) d a.tokens N NB e start h → ok planned (seq (token p) g) ≡ true → Passes p a t b
+    pub eaten : {g : The C} {h : Lexeme × C → A} → LeftOf told (seq (token p) g) d a.tokens N NB e start h → ok left_factored (seq (token p) g) ≡ true → Passes p a t b
         → LeftOf told g d b.tokens N NB e start (λ w. h (t, w))
     eaten l o q = second l o (took_token d q)
 
 -- the token begins what begins with it
-pub starts : {p : Kind → Bool} {a b : Cursor} {t : Lexeme} → Passes p a t b → (of_form None (token p)).front (t ∷ [])
+pub starts : {p : Kind → Bool} {a b : Cursor} {t : Lexeme} → Passes p a t b → (of_form None (token p)).prefix (t ∷ [])
 starts {t = t} q = inr (t, refl, q.of_kind)
 
 -- ---- what may be left out
 
 pub takes : {A C : Type 0} {told : Told} {N : The A} {NB : Language Lexeme A} {e : ℕ} {start : List Lexeme} {f : The C} {B : Language Lexeme C} {d : ℕ} {here : List Lexeme} {h : C → A} {v : C} {rest : List Lexeme}
     → LeftWithin told f B d here N NB e start h → TakesWithin told f B d here v rest → TakesWithin told N NB e start (h v) rest
-takes {v = v} {rest = rest} l t = record { took = l.remains.took v rest t.took; few = λ n. (l.few n).took v rest (t.few n) }
+takes {v = v} {rest = rest} l t = record { took = l.residual.took v rest t.took; few = λ n. (l.few n).took v rest (t.few n) }
 
 -- no tokens
 pub took_nothing : {told : Told} (d : ℕ) (ts : List Lexeme) → TakesWithin told empty (few_form empty) d ts tt ts
 unfolding few_form
 took_nothing d ts = record { took = empty_took ts; few = λ n. empty_took ts }
 
-pub none_taken : {C : Type 0} {told : Told} {f : The C} {p : Kind → Bool} (d : ℕ) {a b : Cursor} → ok planned f ≡ true → begins_with p (ahead planned f) ≡ true → Stays p a b
+pub none_taken : {C : Type 0} {told : Told} {f : The C} {p : Kind → Bool} (d : ℕ) {a b : Cursor} → ok left_factored f ≡ true → begins_with p (ahead left_factored f) ≡ true → Stays p a b
     → TakesWithin told (optional f) (few_form (optional f)) d a.tokens None b.tokens
 none_taken {told = told} {f = f} {p = p} d {a = a} {b = b} o w q =
-    let l = mapped (other (whole {told = told} {N = optional f} {e = d} {start = a.tokens}) o (absent_unless p (ahead planned f) w a.tokens q.not_next)) in
+    let l = mapped (other (whole {told = told} {N = optional f} {e = d} {start = a.tokens}) o (absent_unless p (ahead left_factored f) w a.tokens q.not_next)) in
     subst (λ z. TakesWithin told (optional f) (few_form (optional f)) d a.tokens None z.tokens) (sym q.still) (takes l (took_nothing d a.tokens))
 
 module _ {A : Type 0} {told : Told} {N : The A} {NB : Language Lexeme A} {e : ℕ} {start : List Lexeme} {C : Type 0} {d : ℕ} {p : Kind → Bool} {a b : Cursor} {t : Lexeme} where
-  pub some_left : {f : The C} {h : Option C → A} → LeftOf told (optional f) d a.tokens N NB e start h → ok planned (optional f) ≡ true → Passes p a t b
-      → (of_form None f).front (t ∷ []) → LeftOf told f d a.tokens N NB e start (λ v. h (Some v))
+  pub some_left : {f : The C} {h : Option C → A} → LeftOf told (optional f) d a.tokens N NB e start h → ok left_factored (optional f) ≡ true → Passes p a t b
+      → (of_form None f).prefix (t ∷ []) → LeftOf told f d a.tokens N NB e start (λ v. h (Some v))
   some_left l o q i = mapped (by_token l o q i)
 
 -- ---- refusals

@@ -1,4 +1,4 @@
-use Rattle.case_core.proofs.CaseFronts.{case_known, one_case}
+use Rattle.case_core.proofs.CasePrefixes.{case_known, one_case}
 use Rattle.case_core.proofs.laws.one_case.Goals as goal
 
 pub returns : goal.returns

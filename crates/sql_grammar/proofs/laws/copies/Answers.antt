@@ -3,7 +3,7 @@ use Rattle.sql_grammar.proofs.copies.CopyOnce.{query_costs}
 use Rattle.sql_grammar.proofs.laws.copies.Goals as goal
 
 pub returns-clause-begins : goal.returns-clause-begins
-returns-clause-begins c = completed_begins query_costs.fronts
+returns-clause-begins c = completed_begins query_costs.prefixes
 
 pub returns-clause-completed : goal.returns-clause-completed
 returns-clause-completed c = query_costs.completed

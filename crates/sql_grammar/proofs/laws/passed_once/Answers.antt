@@ -1,4 +1,4 @@
-use Rattle.sql_grammar.proofs.queries.QueryFronts.{too_deep_once}
+use Rattle.sql_grammar.proofs.queries.QueryPrefixes.{too_deep_once}
 use Rattle.sql_grammar.proofs.laws.passed_once.Goals as goal
 
 pub returns : goal.returns

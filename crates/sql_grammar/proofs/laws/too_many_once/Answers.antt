@@ -1,4 +1,4 @@
-use Rattle.sql_grammar.proofs.queries.QueryFronts.{too_many_once}
+use Rattle.sql_grammar.proofs.queries.QueryPrefixes.{too_many_once}
 use Rattle.sql_grammar.proofs.laws.too_many_once.Goals as goal
 
 pub returns : goal.returns

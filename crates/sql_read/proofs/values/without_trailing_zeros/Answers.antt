@@ -17,17 +17,17 @@ snoc_other [] z n = elim (cases_Bool (z == 48)) [
 snoc_other (y ∷ []) z n = rw (snoc_other [] z n) refl
 snoc_other (y ∷ x ∷ ys) z n = rw (snoc_other (x ∷ ys) z n) refl
 
-in_front : (xs : List ℕ) → 1 ≤ length xs → xs ≡ take (length xs - 1) xs ++ get_or xs (length xs - 1) 0 ∷ []
-in_front xs h =
+in_prefix : (xs : List ℕ) → 1 ≤ length xs → xs ≡ take (length xs - 1) xs ++ get_or xs (length xs - 1) 0 ∷ []
+in_prefix xs h =
     let all : take (length xs - 1 + 1) xs ≡ xs = take_all (length xs - 1 + 1) xs (omega arith) in
     sym all ∙ take_more xs (length xs - 1) 0 (omega arith)
 
 last_zero : (xs : List ℕ) → 1 ≤ length xs → get_or xs (length xs - 1) 0 ≡ 48 → without_trailing_zeros (take (length xs - 1) xs) ≡ without_trailing_zeros xs
 last_zero xs h e =
-    sym (snoc_zero (take (length xs - 1) xs)) ∙ ap without_trailing_zeros (ap (λ z. take (length xs - 1) xs ++ z ∷ []) (sym e) ∙ sym (in_front xs h))
+    sym (snoc_zero (take (length xs - 1) xs)) ∙ ap without_trailing_zeros (ap (λ z. take (length xs - 1) xs ++ z ∷ []) (sym e) ∙ sym (in_prefix xs h))
 
 last_other : (xs : List ℕ) → 1 ≤ length xs → get_or xs (length xs - 1) 0 ≢ 48 → xs ≡ without_trailing_zeros xs
-last_other xs h n = in_front xs h ∙ sym (snoc_other (take (length xs - 1) xs) (get_or xs (length xs - 1) 0) n) ∙ ap without_trailing_zeros (sym (in_front xs h))
+last_other xs h n = in_prefix xs h ∙ sym (snoc_other (take (length xs - 1) xs) (get_or xs (length xs - 1) 0) n) ∙ ap without_trailing_zeros (sym (in_prefix xs h))
 
 pub zeros-preserved : goal.zeros-preserved
 zeros-preserved c = last_zero c.zeros.rest.now c.in-len1-up.len_at_least c.if-last-ne48.false ∙ c.zeros.invariant
