@@ -9,6 +9,7 @@ use Rattle.plain_data.specs.contracts.list.List as list
 abbrev pub LendsInner : (R : RattleType) → MutBor R.Denot → MutBor R.Denot → Fml
 LendsInner R lender lent = Lends (boxed.the_row R) R lender lent (λ written. written)
 
+-- what is kept is what was written
 abbrev pub LendsKept : (R : RattleType) → MutBor R.Denot → MutBor R.Denot → Fml
 LendsKept R lender lent = Lends (kept.the_row R) R lender lent (λ written. written)
 

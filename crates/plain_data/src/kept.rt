@@ -6,7 +6,8 @@ ghost use Rattle.plain_data.specs.Lending.{LendsKept};
 use std::marker::Model;
 
 /// A value, which contracts see as itself. To let it go is one call, where a bare enum is taken apart by its variants in each function that
-/// may let it go. So functions that hold a tree while something may fail are proved in a fraction of the time. It takes no memory.
+/// may let it go. So functions that hold a tree while something may fail are proved in a fraction of the time. It takes no memory beside
+/// the value's.
 pub struct Kept<T> {
     value: T,
 }

@@ -33,7 +33,7 @@ pub enum Often {
     Once,
     /// Once, over a store and a sink that never fail.
     Surely,
-    /// Once for each front of the text of this name, of no byte first and of all at last.
+    /// Once for each prefix of the text of this name, of no byte first and of all at last.
     Cuts(String),
     /// Once for each of these calls of the store, which fails.
     FailingStore(Calls),

@@ -38,7 +38,7 @@ fn run_once(alloc: Global, row: &Row) -> Result<Outcome, AllocError> {
 
 // The second run of a row, which has what the first one wrote as a text.
 fn run_then(alloc: Global, row: &Row, written: &[u8]) -> Result<Outcome, AllocError> {
-    let mut texts = fronts(alloc, &row.texts, "", 0)?;
+    let mut texts = shortened(alloc, &row.texts, "", 0)?;
     texts.push(Text {
         name: String::from_str(alloc, WRITTEN)?,
         bytes: Vec::from_slice(alloc, written)?,
@@ -47,13 +47,13 @@ fn run_then(alloc: Global, row: &Row, written: &[u8]) -> Result<Outcome, AllocEr
 }
 
 // The texts, of which the one of this name has so many bytes.
-fn fronts(
+fn shortened(
     alloc: Global,
     texts: &[Text],
     name: &str,
     count: usize,
 ) -> Result<Vec<Text>, AllocError> {
-    let mut fronts = Vec::new(alloc);
+    let mut shortened = Vec::new(alloc);
     for text in texts {
         let whole = text.bytes.as_slice();
         let bytes = if text.name.as_str() == name {
@@ -61,12 +61,12 @@ fn fronts(
         } else {
             whole
         };
-        fronts.push(Text {
+        shortened.push(Text {
             name: String::from_str(alloc, text.name.as_str())?,
             bytes: Vec::from_slice(alloc, bytes)?,
         })?;
     }
-    Ok(fronts)
+    Ok(shortened)
 }
 
 // How many bytes the text of this name has.
@@ -80,7 +80,7 @@ fn length(texts: &[Text], name: &str) -> usize {
 fn run_cuts(alloc: Global, row: &Row, name: &str) -> Result<Outcome, AllocError> {
     let mut written = Vec::new(alloc);
     for count in 0..=length(&row.texts, name) {
-        let texts = fronts(alloc, &row.texts, name, count)?;
+        let texts = shortened(alloc, &row.texts, name, count)?;
         let found = run_words(alloc, &row.words, &texts, Behaviour::sure())?;
         add_line(alloc, &mut written, &found)?;
     }

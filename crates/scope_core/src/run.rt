@@ -20,12 +20,12 @@ pub struct Run {
 
 /// A run and the columns that it stands for.
 #[derive(Drop)]
-struct Kept {
+struct RunColumns {
     run: Run,
     columns: Shared<List<RVal>>,
 }
 
-impl Model for Kept {
+impl Model for RunColumns {
     ghost use Rattle.std.specs.Prelude.{◌≡◌};
     ghost use Rattle.scope_core.specs.Runs.{columns_of};
     ghost use Rattle.scope_core.specs.declared.run.Run.{Run as TheRun};
@@ -37,7 +37,7 @@ impl Model for Kept {
     ghost invariant = { λ kept. kept.columns ≡ columns_of kept.run };
 }
 
-impl Kept {
+impl RunColumns {
     fn columns(&self) -> Result<Shared<List<RVal>>, NoMemory>
         ensures { IfOk result (λ columns. columns ≡ columns_of self.now) }
     {
@@ -54,7 +54,7 @@ impl Kept {
 /// The columns of the runs that were asked for.
 #[derive(Drop)]
 pub struct Runs {
-    kept: RefCell<IndexMap<Run, Kept>>,
+    kept: RefCell<IndexMap<Run, RunColumns>>,
 }
 
 impl Runs {
@@ -78,7 +78,7 @@ impl Runs {
 
 /// The columns of a run, kept from now on.
 fn keep_columns(
-    kept: &mut IndexMap<Run, Kept>,
+    kept: &mut IndexMap<Run, RunColumns>,
     alloc: Global,
     run: Run,
 ) -> Result<Shared<List<RVal>>, NoMemory>
@@ -92,7 +92,7 @@ fn keep_columns(
     let columns = written_columns(alloc, run)?;
     kept.insert(
         run,
-        Kept {
+        RunColumns {
             run,
             columns: columns.share()?,
         },

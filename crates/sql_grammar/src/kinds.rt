@@ -76,7 +76,7 @@ pub enum Kind {
     Concat,
 }
 
-/// Reserved words that the grammar uses, and behind them the unreserved ones that mean something at some places.
+/// For each letter, the reserved words that the grammar uses, and behind them the unreserved ones that mean something at some places.
 static KINDS: ByLetter<'static, (&[u8], Kind)> = [
     &[
         (b"all", Kind::All),
@@ -109,16 +109,16 @@ static KINDS: ByLetter<'static, (&[u8], Kind)> = [
     &[(b"not", Kind::Not), (b"null", Kind::Null)],
     &[(b"on", Kind::On), (b"or", Kind::Or)],
     &[(b"primary", Kind::Primary)],
-    &[],
+    &[], // q
     &[(b"references", Kind::References)],
     &[(b"select", Kind::Select), (b"sum", Kind::Sum)],
     &[(b"table", Kind::Table)],
     &[(b"union", Kind::Union), (b"unique", Kind::Unique)],
     &[(b"view", Kind::View)],
     &[(b"where", Kind::Where)],
-    &[],
-    &[],
-    &[],
+    &[], // x
+    &[], // y
+    &[], // z
 ];
 
 /// Whether the two kinds are one.

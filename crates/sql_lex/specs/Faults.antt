@@ -7,7 +7,7 @@ use Rattle.sql_lex.specs.Bytes.{begins_word, is_blank, quote, double_quote, poin
 use Rattle.sql_lex.specs.Classes.{IsToken, IsNumber, doubled}
 use Rattle.sql_lex.specs.Gaps.{Occurs}
 
--- no front of the text is a token
+-- no prefix of the text is a token
 abbrev pub NoToken : List ℕ → Type 0
 NoToken text = (kind : TokenKind) (bytes rest : List ℕ) → text ≡ bytes ++ rest → IsToken kind bytes → ⊥
 

@@ -9,7 +9,7 @@ use Rattle.sql_lex.specs.Classes.{IsToken}
 use Rattle.sql_lex.specs.Gaps.{AreGaps, BeginsComment}
 use Rattle.sql_lex.specs.Faults.{HasFault}
 
--- These bytes, before that rest, are a token of the kind: no longer front of the text from here is a token of any kind, and no comment
+-- These bytes, before that rest, are a token of the kind: no longer prefix of the text from here is a token of any kind, and no comment
 -- and no fault begins here.
 pub record IsTokenBefore (kind : TokenKind) (bytes rest : List ℕ) : Type 0 where
   pub is_token : IsToken kind bytes

@@ -19,52 +19,52 @@ static USED_WORDS: ByLetter<'static, &[u8]> = [
     &[b"having"],
     &[b"in", b"inner", b"intersect"],
     &[b"join"],
-    &[],
+    &[], // k
     &[b"like"],
-    &[],
+    &[], // m
     &[b"not", b"null"],
     &[b"on", b"or"],
     &[b"primary"],
-    &[],
+    &[], // q
     &[b"references"],
     &[b"select"],
     &[b"table"],
     &[b"union", b"unique"],
-    &[],
+    &[], // v
     &[b"where"],
-    &[],
-    &[],
-    &[],
+    &[], // x
+    &[], // y
+    &[], // z
 ];
 
 /// The words that begin or name what that grammar leaves out.
 static LEFT_OUT_WORDS: ByLetter<'static, &[u8]> = [
     &[b"alter", b"any", b"asc"],
-    &[],
+    &[], // b
     &[b"case", b"cast", b"check", b"collate", b"cube"],
     &[b"default", b"delete", b"desc"],
     &[b"else", b"end", b"escape"],
     &[b"false", b"fetch", b"full"],
     &[b"grouping"],
-    &[],
+    &[], // h
     &[b"insert", b"is"],
-    &[],
-    &[],
+    &[], // j
+    &[], // k
     &[b"lateral", b"left", b"limit"],
-    &[],
+    &[], // m
     &[b"natural"],
     &[b"offset", b"order", b"outer", b"over"],
-    &[],
-    &[],
+    &[], // p
+    &[], // q
     &[b"recursive", b"right", b"rollup"],
     &[b"some"],
     &[b"then", b"true"],
     &[b"update", b"using"],
-    &[],
+    &[], // v
     &[b"when", b"window", b"with"],
-    &[],
-    &[],
-    &[],
+    &[], // x
+    &[], // y
+    &[], // z
 ];
 
 /// Whether the two words are the same after folding.

@@ -1,5 +1,5 @@
--- What the reading functions do, from the left: what is read, or where and why reading stops. They go like the left-factored grammar of the grammar: one token
--- always tells how to go on.
+-- What the reading functions do, from the left: what is read, or where and why reading stops. They go like the left-factored grammar: one token always tells how
+-- to go on.
 use Rattle.std.specs.Prelude.{ℕ, zero, suc, ◌+◌, ◌-◌, ◌≡◌, ◌==◌, Bool, true, false, not, ◌&&◌, nat_lt, if◌then◌else◌, List, [], ◌∷◌, ◌++◌, length, Option, Some, None, Result, Ok, Err}
 use Rattle.sql_lex.specs.declared.token.Token.{Token}
 use Rattle.sql_lex.specs.Lexemes.{Lexeme, lexeme_of}

@@ -40,7 +40,7 @@ impl From<Stop> for Unfed {
     }
 }
 
-// Takes one piece of at most `most` bytes to the prefix of the buffer, and answers its length.
+// Takes one piece of at most `most` bytes to the front of the buffer, and answers its length.
 fn take_piece<S: Store>(
     store: &mut S,
     name: &str,

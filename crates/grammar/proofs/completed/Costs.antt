@@ -11,8 +11,8 @@ abbrev pub optional_cost : {A : Type 0} → (A → ℕ) → Option A → ℕ
 optional_cost a None = 0
 optional_cost a (Some v) = a v
 
--- A way to cost forms, so that the cost of a form is made of those of its parts, and a name has its cost. What a production is costed at
--- is shown once for all of them.
+-- A way to reckon what forms cost: the cost of a form is made of those of its parts, and a name has its own. What a production costs is
+-- shown once for all of them.
 pub record Costing {T K N : Type 0} {V : N → Type 0} (own_cost : (n : N) → V n → ℕ) (Costed : (A : Type 0) → Form T K N V A → (A → ℕ) → Type 0) : Type 1 where
   pub of_same : {A : Type 0} {f : Form T K N V A} {a : A → ℕ} (b : A → ℕ) → Costed A f a → ((v : A) → b v ≡ a v) → Costed A f b
   pub of_empty : Costed (Unit {0}) empty (λ v. 0)

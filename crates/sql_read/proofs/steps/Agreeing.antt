@@ -1,4 +1,4 @@
--- The readers agree with the left-factored grammar of the grammar: what remains of a form while it is read, and how each step of a reader goes through it.
+-- The readers agree with the left-factored grammar: what remains of a form while it is read, and how each step of a reader goes through it.
 use Rattle.std.specs.Prelude.{◌==◌, if◌then◌else◌}
 use Rattle.std.proofs.Common.{◌≡◌, ℕ, zero, suc, ◌+◌, ◌-◌, ◌<◌, Bool, true, false, List, [], ◌∷◌, Option, Some, None, Ok, Err, refl, sym, subst, arith}
 use Rattle.std.proofs.Math.Dec.{eqb-suc-zero}

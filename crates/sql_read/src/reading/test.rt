@@ -127,7 +127,6 @@ fn by_word(
     ensures extends { Extends tokens.old tokens.new }
 {
     if let Some(word) = tokens.eat(Kind::In) {
-        // Shared before the parenthesis is read: a missing one then drops no tree.
         let sought = Sought {
             value: Shared::new(alloc, left.into_inner())?,
             weight,
