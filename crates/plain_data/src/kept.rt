@@ -29,6 +29,7 @@ impl<T: Drop> Drop for Kept<T> {
 }
 
 impl<T> Kept<T> {
+    /// Takes the value over, without taking memory.
     pub fn new(value: T) -> Kept<T>
         ensures { result ≡ value }
     {
