@@ -6,7 +6,6 @@ use Rattle.sql_read.specs.declared.fault.ReadFault.TheVariants.{NoMemory}
 use Rattle.sql_read.specs.Copied.{Copied}
 use Rattle.sql_read.specs.Cursor.{Cursor}
 use Rattle.sql_read.specs.Reads.{Reads}
-use Rattle.sql_read.specs.Reading as reading
 use Rattle.sql_read.specs.Reading.{Gives, Reading, at, query}
 use Rattle.sql_grammar.specs.Numbering.{Built}
 use Rattle.sql_grammar.specs.QueryGrammar as grammar

@@ -10,7 +10,7 @@ use Rattle.sql_read.specs.declared.reading.item.Starred.TheVariants as starred
 use Rattle.sql_read.specs.Cursor.{Cursor}
 use Rattle.sql_read.specs.Parts.{built_starred}
 use Rattle.sql_read.specs.Reads.{Builds, entries_too, few_form, of_form}
-use Rattle.sql_read.specs.Reading.{Deeper, Reading, ◌>>=◌, enclosed, expr_tail, item, item_name, literal, mark, name_or_star, named_first, named_item, negative, seen, starred_item, called_kinds, eaten, eaten_within, expected, expected_within, expr, in_parentheses, neg, other_aggregates, primary, unary}
+use Rattle.sql_read.specs.Reading.{Deeper, Reading, ◌>>=◌, enclosed, expr_tail, item, item_name, mark, name_or_star, named_first, named_item, negative, seen, starred_item, called_kinds, eaten, eaten_within, expected, expected_within, expr, in_parentheses, neg, other_aggregates, primary, unary}
 use Rattle.sql_grammar.specs.declared.kinds.Kind.TheVariants as kind
 use Rattle.sql_grammar.specs.Kinds.{among, name_kinds, same}
 use Rattle.sql_grammar.specs.Numbering.{Built, plain}

@@ -22,7 +22,7 @@ use Rattle.sql_grammar.proofs.entries.FewFactored.{list_left_factored}
 use Rattle.sql_grammar.proofs.queries.QueryWords.{Below}
 use Rattle.grammar.proofs.factorings.Alike.{below_map, below_seq, itself}
 use Rattle.sql_read.proofs.steps.Extending.{extends_passes, extends_stays}
-use Rattle.sql_read.proofs.steps.ReadPassing.{Alike, ◌then◌}
+use Rattle.sql_read.proofs.steps.ReadPassing.{Alike}
 
 -- ---- a token that may be left out
 

@@ -1,5 +1,4 @@
 use Rattle.std.proofs.Common.{rules, ◌≡◌, ◌<◌, ◌∙◌, [], ◌∷◌, true, false, length, length-append, refl, subst, sym, arith}
-use Rattle.sql_grammar.specs.Kinds.{same}
 use Rattle.sql_lex.specs.Lexemes.{lexeme_of}
 use Rattle.sql_grammar.specs.QueryEntries.{most_entries}
 use Rattle.sql_grammar.specs.QueryTrees.{place_of}
