@@ -57,16 +57,16 @@ more_text-others (value ∷ others) =
     ∙ ap (λ (z : List ℕ). codes "," ++ z) (sym (append_assoc (value_text value) (flat_map behind_comma others) (codes ")")))
 
 -- what stands before the value at a place
-abbrev pub prefix_at : ℕ → List ℕ
-prefix_at zero = codes "("
-prefix_at (suc i) = codes ","
+abbrev pub opening_at : ℕ → List ℕ
+opening_at zero = codes "("
+opening_at (suc i) = codes ","
 
 -- values, each with what stands before it
 abbrev pub opened_values : List Val → List ℕ
 opened_values [] = []
 opened_values (value ∷ values) = codes "(" ++ (value_text value ++ flat_map behind_comma values)
 
-opened-then : (xs : List Val) (i j : ℕ) (d x : Val) → j ≡ i + 1 → x ≡ get_or xs i d → i < length xs → opened_values (take i xs) ++ (prefix_at i ++ value_text x) ≡ opened_values (take j xs)
+opened-then : (xs : List Val) (i j : ℕ) (d x : Val) → j ≡ i + 1 → x ≡ get_or xs i d → i < length xs → opened_values (take i xs) ++ (opening_at i ++ value_text x) ≡ opened_values (take j xs)
 opened-then [] i j d x k e h = absurd (omega (arith, h))
 opened-then (y ∷ ys) zero j d x k e h =
     let s : j ≡ suc zero = omega (arith, k) in
@@ -78,11 +78,11 @@ opened-then (y ∷ ys) (suc i) j d x k e h =
     (append_assoc (value_text y) (flat_map behind_comma (take i ys)) (behind_comma x)
     ∙ ap (λ (z : List ℕ). value_text y ++ z) (flat_map-next behind_comma ys i d x e (omega (arith, h)))))
 
-pub opened-next : (xs : List Val) (i : ℕ) (prefix : List ℕ) (d x : Val) → prefix ≡ prefix_at i → x ≡ get_or xs i d → i < length xs → opened_values (take i xs) ++ (prefix ++ value_text x) ≡ opened_values (take (i + 1) xs)
+pub opened-next : (xs : List Val) (i : ℕ) (prefix : List ℕ) (d x : Val) → prefix ≡ opening_at i → x ≡ get_or xs i d → i < length xs → opened_values (take i xs) ++ (prefix ++ value_text x) ≡ opened_values (take (i + 1) xs)
 opened-next xs i prefix d x f e h = rw f (opened-then xs i (i + 1) d x refl e h)
 
-pub prefix-next : (i : ℕ) → codes "," ≡ prefix_at (i + 1)
-prefix-next i = let s : i + 1 ≡ suc i = omega arith in rw s refl
+pub opening-next : (i : ℕ) → codes "," ≡ opening_at (i + 1)
+opening-next i = let s : i + 1 ≡ suc i = omega arith in rw s refl
 
 pub no_values : (xs : List Val) → length xs ≡ 0 → codes "()" ≡ argument_text (Values xs)
 unfolding term_text constructors

@@ -62,14 +62,14 @@ pub fn put_term<K: Sink>(out: &mut K, pending: &mut Pending, term: &U)
 
 // A term between these.
 #[cycle(put_term)]
-fn put_between<K: Sink>(out: &mut K, pending: &mut Pending, prefix: &str, part: &U, end: &str)
-    requires prefix { length prefix.now ≤ 40 }
+fn put_between<K: Sink>(out: &mut K, pending: &mut Pending, opening: &str, part: &U, end: &str)
+    requires opening { length opening.now ≤ 40 }
     requires end { length end.now ≤ 40 }
     ensures writes { Writes (K.written out.old) (K.written out.new) (K.faults out.old) (K.faults out.new) pending.old
-        (prefix.now ++ (term_text part.now ++ end.now)) pending.new }
+        (opening.now ++ (term_text part.now ++ end.now)) pending.new }
     ensures words { HasWords part.now }
 {
-    put(out, pending, prefix);
+    put(out, pending, opening);
     put_term(out, pending, part);
     put(out, pending, end);
 }
@@ -84,11 +84,11 @@ pub fn put_values<K: Sink>(out: &mut K, pending: &mut Pending, values: &[Val])
     if values.is_empty() {
         return put(out, pending, "()");
     }
-    let mut prefix = "(";
+    let mut opening = "(";
     for value in values {
-        put(out, pending, prefix);
+        put(out, pending, opening);
         put_value(out, pending, value);
-        prefix = ",";
+        opening = ",";
     }
     put(out, pending, ")")
 }

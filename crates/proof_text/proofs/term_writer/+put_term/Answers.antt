@@ -1,7 +1,7 @@
 use Rattle.std.proofs.Common.{arith}
 use Rattle.proof_text.specs.Words.{ValueHasWords}
 use Rattle.proof_text.proofs.Sending.{writes-as, writes-then}
-use Rattle.proof_text.proofs.TextsAt.{all-values, each-next, prefix-next, no_values, opened-next, text-Zero, text-One, text-Add, text-Mul, text-Squash, text-Not, text-Sum, text-Rel, text-Eq, text-Pred, text-Bound, text-Free, text-Lit, text-Fun, text-Agg, words-Zero, words-One, words-Add, words-Mul, words-Squash, words-Not, words-Sum, words-Rel, words-Eq, words-Pred, words-Bound, words-Free, words-Lit, words-Fun, words-Agg}
+use Rattle.proof_text.proofs.TextsAt.{all-values, each-next, opening-next, no_values, opened-next, text-Zero, text-One, text-Add, text-Mul, text-Squash, text-Not, text-Sum, text-Rel, text-Eq, text-Pred, text-Bound, text-Free, text-Lit, text-Fun, text-Agg, words-Zero, words-One, words-Add, words-Mul, words-Squash, words-Not, words-Sum, words-Rel, words-Eq, words-Pred, words-Bound, words-Free, words-Lit, words-Fun, words-Agg}
 use Rattle.proof_text.proofs.term_writer.+put_term.Goals as goal
 
 pub put_between-returns-clause-writes : goal.put_between-returns-clause-writes
@@ -112,9 +112,9 @@ put_values-returns-then-is_empty-clause-writes g t c = writes-as (no_values c.ar
 
 pub put_values-loop-value-preserved : goal.put_values-loop-value-preserved
 put_values-loop-value-preserved g t c = record {
-  prefix = prefix-next c.loop-value.value-index;
+  opening = opening-next c.loop-value.value-index;
   writes =
-      writes-as (opened-next c.args.values.now c.loop-value.value-index _ _ _ c.loop-value.invariant.prefix c.value-item.is c.loop-value-test.true)
+      writes-as (opened-next c.args.values.now c.loop-value.value-index _ _ _ c.loop-value.invariant.opening c.value-item.is c.loop-value-test.true)
       (writes-then c.loop-value.invariant.writes (writes-then c.put-in-loop-value.ensures c.put_value.ensures.writes));
   words = each-next ValueHasWords c.args.values.now c.loop-value.value-index _ _ c.value-item.is c.loop-value-test.true c.loop-value.invariant.words c.put_value.ensures.words;
 }
