@@ -7,8 +7,6 @@ pub mod laws;
 pub mod letters;
 mod lexer;
 pub mod reserved;
-#[cfg(test)]
-mod tests;
 mod token;
 
 pub use lexer::Lexer;

@@ -17,8 +17,6 @@ mod std_sink;
 mod store;
 mod sure_sink;
 mod sure_store;
-#[cfg(test)]
-mod tests;
 mod texts;
 mod writing;
 

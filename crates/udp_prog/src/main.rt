@@ -5,9 +5,6 @@ ghost use Rattle.std.specs.Prelude.{◌≡◌};
 ghost use Rattle.std.specs.Process.{exit_status};
 ghost use Rattle.udp_run.specs.Answer.{code_of};
 
-#[cfg(test)]
-mod tests;
-
 use std::process::ExitCode;
 use std::{env, io};
 use udp_io::{FileStore, StdSink};

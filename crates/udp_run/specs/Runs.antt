@@ -1,4 +1,4 @@
--- What the parts of a run find: contracts of private functions alone cite these.
+-- What the parts of a run find. `IsCaseRead` and `IsCaseCause` stand in clauses of `read_case`, the others in those of private functions alone.
 use Rattle.std.specs.Prelude.{◌≡◌, ℕ, ◌+◌, ◌≤◌, List, [], ◌++◌, length, Option, IfSome, Result, Ok, Err}
 use Rattle.std.specs.Io.KnownBytes.{Consumes, IsAtEnd}
 use Rattle.case_core.specs.Answer.{IsCase}

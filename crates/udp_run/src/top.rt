@@ -1,4 +1,4 @@
-//! The top call: everything that the program does, over any store and any sink.
+//! A check, over any store and any sink.
 ghost use Rattle.std.specs.Prelude.{◌≡◌, ◌≤◌, List, [], ℕ, length, codes, IfSome, IfOk, IfErr};
 ghost use Rattle.proof_check.specs.Limits.{IsSmall};
 ghost use Rattle.udp_io.specs.Faults.{Rose};

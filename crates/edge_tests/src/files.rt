@@ -1,6 +1,6 @@
-use crate::{FileStore, ReadAllFault, StdSink, read_all, write_all};
 use std::fs;
 use std::test::Fail;
+use udp_io::{FileStore, ReadAllFault, StdSink, read_all, write_all};
 
 #[test]
 fn a_file_is_a_text(rt: HostRuntime) -> Result<(), Fail> {

@@ -1,4 +1,4 @@
-use crate::{LexCode, LexFault, Lexer, Token, TokenKind};
+use sql_lex::{LexCode, LexFault, Lexer, Token, TokenKind};
 use std::alloc::{AllocError, Global};
 use std::test::Fail;
 
