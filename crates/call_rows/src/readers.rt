@@ -3,8 +3,9 @@
 use crate::fault::CallFault;
 use crate::trees::TreeText;
 use schema_read::read_statements;
+use sql_cursor::{ReadFault, Tokens, is_word, name_of};
 use sql_lex::{LexFault, Lexer, Token};
-use sql_read::{ReadFault, Tokens, is_word, name_of, read_query};
+use sql_read::read_query;
 use std::alloc::Global;
 
 /// The most bytes of a text that is read.

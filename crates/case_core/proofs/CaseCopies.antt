@@ -6,10 +6,10 @@ use Rattle.grammar.proofs.languages.Limits.{CostsByCompletion, IsPrefixClosed, w
 use Rattle.sql_lex.specs.Lexemes.{Lexeme}
 use Rattle.sql_model.specs.declared.statement.Statement.{Statement}
 use Rattle.sql_model.specs.declared.tree.Query.{Query}
-use Rattle.sql_read.specs.declared.fault.ReadFault.{ReadFault}
-use Rattle.sql_read.specs.declared.fault.LimitKind.{LimitKind}
-use Rattle.sql_read.specs.declared.fault.LimitKind.TheVariants as limit
-use Rattle.sql_read.specs.Cursor.{Cursor}
+use Rattle.sql_cursor.specs.declared.fault.ReadFault.{ReadFault}
+use Rattle.sql_cursor.specs.declared.fault.LimitKind.{LimitKind}
+use Rattle.sql_cursor.specs.declared.fault.LimitKind.TheVariants as limit
+use Rattle.sql_cursor.specs.Cursor.{Cursor}
 use Rattle.sql_read.specs.ReadingTexts.{TextLimit, count_limit, depth_limit, keeping}
 use Rattle.sql_read.specs.Reads.{Gives}
 use Rattle.sql_read.proofs.steps.ReadCopiedSteps.{on_still}

@@ -11,17 +11,17 @@ use Rattle.grammar.proofs.readers.Steps.{IsWithin, Same, map_within, took_in}
 use Rattle.sql_lex.specs.Lexemes.{Lexeme}
 use Rattle.sql_model.specs.declared.statement.Statement.{Statement}
 use Rattle.sql_model.specs.declared.tree.Query.{Query}
-use Rattle.sql_read.specs.declared.fault.LimitKind.{LimitKind}
-use Rattle.sql_read.specs.declared.fault.LimitKind.TheVariants as limit
-use Rattle.sql_read.specs.declared.fault.ReadFault.{ReadFault}
-use Rattle.sql_read.specs.Cursor.{Cursor}
+use Rattle.sql_cursor.specs.declared.fault.LimitKind.{LimitKind}
+use Rattle.sql_cursor.specs.declared.fault.LimitKind.TheVariants as limit
+use Rattle.sql_cursor.specs.declared.fault.ReadFault.{ReadFault}
+use Rattle.sql_cursor.specs.Cursor.{Cursor}
 use Rattle.sql_read.specs.Reads.{Gives, GivesWithin, Refuses, TakesWithin, few_form, relations_too}
 use Rattle.sql_grammar.specs.Kinds.{kind_of}
 use Rattle.sql_grammar.specs.Numbering.{Built, each}
 use Rattle.sql_grammar.specs.Queries.{most_levels, of_form}
 use Rattle.sql_grammar.proofs.queries.QueryTable.{left_factored}
 use Rattle.sql_read.proofs.steps.ReadSteps.{same_taken}
-use Rattle.schema_read.specs.Counting.{RefusesCounted, TakesCounted, few_left_factored, narrowly}
+use Rattle.schema_read.specs.Counting.{RefusesCounted, TakesCounted, few_factored_statements, narrowly}
 use Rattle.schema_read.specs.StatementGrammar.{elements, ended_with, statements, statements_with}
 use Rattle.schema_read.specs.StatementLimits as of_statements
 use Rattle.schema_read.specs.StatementLimits.{most_further_columns, most_relations}
@@ -51,7 +51,7 @@ narrow_statements = free (statements_with narrowly)
 abbrev pub left_factored_within : LimitKind → Language Lexeme (Built CaseText)
 left_factored_within limit.Columns = left_factored_behind narrow_statements
 left_factored_within limit.Entries = few_form g.case
-left_factored_within limit.Relations = left_factored_behind few_left_factored
+left_factored_within limit.Relations = left_factored_behind few_factored_statements
 left_factored_within limit.Copies = free g.case
 
 -- what is behind less is less
@@ -81,7 +81,7 @@ within_prefixes limit.Copies = form_has_prefixes None g.case
 narrow_within : IsWithin (free statements) narrow_statements
 narrow_within = below_within (narrow_below most_further_columns)
 
-relations_within : IsWithin (free statements) few_left_factored
+relations_within : IsWithin (free statements) few_factored_statements
 relations_within = map_within kind_of (λ read. each read) _ _ (few_within most_relations)
 
 queries_within : IsWithin (free g.two_queries) (free g.two_queries)
@@ -122,10 +122,10 @@ module _ {S : OfStatements} (w : IsWithin (free statements) S) {start : List Lex
 pub record StatementsRead (before : Cursor) (list : List Statement) (after : Cursor) : Type 0 where
   pub reads : GivesWithin relations_too statements (few_form statements) most_levels (λ read. read) before before list after
   pub columns : TakesCounted statements narrow_statements before after
-  pub relations : TakesCounted statements few_left_factored before after
+  pub relations : TakesCounted statements few_factored_statements before after
 
 pub statements_read : {a b : Cursor} {list : List Statement} → GivesWithin relations_too statements (few_form statements) most_levels (λ read. read) a a list b → TakesCounted statements narrow_statements a b
-    → TakesCounted statements few_left_factored a b → StatementsRead a list b
+    → TakesCounted statements few_factored_statements a b → StatementsRead a list b
 statements_read r c n = record { reads = r; columns = c; relations = n }
 
 -- where the fault tells where it comes, what was passed keeps the limits on columns and relations; and where one of these is refused, the
@@ -134,7 +134,7 @@ pub record CountsRefused (before : Cursor) (fault : ReadFault) (after : Cursor) 
   pub columns : RefusesCounted limit.Columns g.case (left_factored_within limit.Columns) before fault after
   pub relations : RefusesCounted limit.Relations g.case (left_factored_within limit.Relations) before fault after
 
-pub statements_counted : {a b : Cursor} {fault : ReadFault} → RefusesCounted limit.Columns statements narrow_statements a fault b → RefusesCounted limit.Relations statements few_left_factored a fault b → CountsRefused a fault b
+pub statements_counted : {a b : Cursor} {fault : ReadFault} → RefusesCounted limit.Columns statements narrow_statements a fault b → RefusesCounted limit.Relations statements few_factored_statements a fault b → CountsRefused a fault b
 statements_counted c n = record { columns = held (statements_hold narrow_within) c; relations = held (statements_hold relations_within) n }
 
 -- what was passed keeps the limits
@@ -155,8 +155,8 @@ module _ {a b : Cursor} {list : List Statement} (s : StatementsRead a list b) wh
   narrow : Took (free statements) narrow_statements a.tokens s.reads.read b.tokens
   narrow = subst (λ z. Took (free statements) narrow_statements a.tokens z b.tokens) (same_read statements refl narrow_within any_within s.columns.took any) s.columns.took
 
-  few : Took (free statements) few_left_factored a.tokens s.reads.read b.tokens
-  few = subst (λ z. Took (free statements) few_left_factored a.tokens z b.tokens) (same_read statements refl relations_within any_within s.relations.took any) s.relations.took
+  few : Took (free statements) few_factored_statements a.tokens s.reads.read b.tokens
+  few = subst (λ z. Took (free statements) few_factored_statements a.tokens z b.tokens) (same_read statements refl relations_within any_within s.relations.took any) s.relations.took
 
   pub keeps_behind : Began (few_form g.case) a.tokens b.tokens → KeepsAll a.tokens b.tokens
   keeps_behind entries limit.Columns = behind_statements narrow_within narrow

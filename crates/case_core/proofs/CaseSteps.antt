@@ -8,18 +8,18 @@ use Rattle.grammar.proofs.readers.Longest.{stops_at_longest}
 use Rattle.sql_lex.specs.Lexemes.{Lexeme}
 use Rattle.sql_model.specs.declared.statement.Statement.{Statement}
 use Rattle.sql_model.specs.declared.tree.Query.{Query}
-use Rattle.sql_read.specs.declared.fault.LimitKind.{LimitKind}
-use Rattle.sql_read.specs.declared.fault.ReadFault.{ReadFault}
-use Rattle.sql_read.specs.Cursor.{Cursor, next}
-use Rattle.sql_read.specs.Eating.{Extends, IsNextAt, is_next}
+use Rattle.sql_cursor.specs.declared.fault.LimitKind.{LimitKind}
+use Rattle.sql_cursor.specs.declared.fault.ReadFault.{ReadFault}
+use Rattle.sql_cursor.specs.Cursor.{Cursor, next}
+use Rattle.sql_cursor.specs.Eating.{Extends, IsNextAt, is_next}
 use Rattle.sql_grammar.specs.Kinds.{among}
 use Rattle.sql_grammar.specs.Numbering.{Built}
 use Rattle.sql_grammar.specs.Queries.{most_levels, of_form}
 use Rattle.sql_grammar.specs.QueryCopies.{most_copies, within_copies}
 use Rattle.sql_grammar.specs.QueryGrammar.{The}
 use Rattle.sql_read.specs.Reads.{Refuses, few_form, relations_too}
-use Rattle.sql_read.specs.Refusals.{refusal}
-use Rattle.sql_read.proofs.steps.Extending.{◌⨟◌}
+use Rattle.sql_cursor.specs.Refusals.{refusal}
+use Rattle.sql_cursor.proofs.code.Extending.{◌⨟◌}
 use Rattle.sql_read.proofs.whole.WholeTexts.{refusal_here}
 use Rattle.schema_read.proofs.counts.CopiedParts.{counted_within}
 use Rattle.sql_read.proofs.steps.ReadSteps.{LeftOf, blocks, built_both, built_map, entries_within, first_part, mapped as mapped_left, refuses, second, takes, whole, same_taken}

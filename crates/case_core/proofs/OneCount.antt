@@ -13,8 +13,8 @@ use Rattle.grammar.proofs.languages.Sets.{apart}
 use Rattle.sql_lex.specs.Lexemes.{Lexeme}
 use Rattle.sql_model.specs.declared.statement.Statement.{Statement}
 use Rattle.sql_model.specs.declared.tree.Query.{Query}
-use Rattle.sql_read.specs.declared.fault.LimitKind.{LimitKind}
-use Rattle.sql_read.specs.declared.fault.LimitKind.TheVariants as limit
+use Rattle.sql_cursor.specs.declared.fault.LimitKind.{LimitKind}
+use Rattle.sql_cursor.specs.declared.fault.LimitKind.TheVariants as limit
 use Rattle.sql_read.specs.ReadingTexts.{IsSooner, Passes, TextLimit, count_limit, depth_limit, keeping}
 use Rattle.sql_grammar.specs.Kinds.{every_kind, kind_of}
 use Rattle.sql_grammar.specs.Numbering.{Built}

@@ -10,17 +10,17 @@ use Rattle.grammar.proofs.readers.Steps.{Same, took_in, failed_in}
 use Rattle.sql_lex.specs.declared.token.LexFault.{LexFault}
 use Rattle.sql_lex.specs.Bytes.{folded_byte}
 use Rattle.sql_lex.specs.Lexemes.{Lexeme}
-use Rattle.sql_read.specs.declared.fault.ReadFault.{ReadFault}
-use Rattle.sql_read.specs.declared.fault.ReadFault.TheVariants.{Unexpected, LeftOut, TooDeep, Limit, NoMemory}
-use Rattle.sql_read.specs.declared.fault.LimitKind.TheVariants as limit
-use Rattle.sql_read.specs.Cursor.{Cursor}
-use Rattle.sql_read.specs.Eating.{Extends}
+use Rattle.sql_cursor.specs.declared.fault.ReadFault.{ReadFault}
+use Rattle.sql_cursor.specs.declared.fault.ReadFault.TheVariants.{Unexpected, LeftOut, TooDeep, Limit, NoMemory}
+use Rattle.sql_cursor.specs.declared.fault.LimitKind.TheVariants as limit
+use Rattle.sql_cursor.specs.Cursor.{Cursor}
+use Rattle.sql_cursor.specs.Eating.{Extends}
 use Rattle.sql_grammar.specs.Queries.{most_levels, of_form}
 use Rattle.sql_grammar.specs.QueryCopies.{most_copies}
 use Rattle.sql_grammar.specs.QueryGrammar.{The}
 use Rattle.sql_read.specs.Reads.{Fails, RefusesWithin, TakesWithin, few_form, relations_too}
 use Rattle.sql_read.specs.ReadingTexts as of_texts
-use Rattle.sql_read.specs.Refusals.{is_left_out_word, refusal_of}
+use Rattle.sql_cursor.specs.Refusals.{is_left_out_word, refusal_of}
 use Rattle.sql_read.proofs.whole.WholeTexts as whole
 use Rattle.sql_read.proofs.whole.WholeTexts.{refusal_here}
 use Rattle.schema_read.specs.Counting.{IsPlaced}

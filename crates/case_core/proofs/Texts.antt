@@ -5,10 +5,10 @@ use Rattle.std.specs.Result.{IsErrAnd}
 use Rattle.std.proofs.lemmas.Result.{err_from_is_err_and}
 use Rattle.data_model.specs.Lists.{Each}
 use Rattle.sql_lex.specs.Tokens.{Lexes}
-use Rattle.sql_read.specs.Cursor.{Cursor}
+use Rattle.sql_cursor.specs.Cursor.{Cursor, most_bytes}
 use Rattle.sql_grammar.specs.Numbering.{Numbers, first_numbers}
 use Rattle.sql_grammar.specs.QueryCopies.{most_copies}
-use Rattle.sql_read.proofs.code.Cursors.{no_more_tokens}
+use Rattle.sql_cursor.proofs.code.Cursors.{no_more_tokens}
 use Rattle.schema_read.specs.Declarations.{IsSmall}
 use Rattle.schema_read.specs.StatementLimits.{most_relations}
 use Rattle.case_core.specs.declared.fault.CaseFault.{CaseFault}
@@ -57,5 +57,5 @@ text_read {text} {start} {end} {written} l f none t few small n most = record {
   small = small;
 }
 
-pub tokens_fit : (text : List ℕ) (start : Cursor) → length text ≤ 1048576 → Lexes 0 text start.tokens start.fault → length start.tokens < 2 ^ 31
+pub tokens_fit : (text : List ℕ) (start : Cursor) → length text ≤ most_bytes → Lexes 0 text start.tokens start.fault → length start.tokens < 2 ^ 31
 tokens_fit text start i l = omega (arith, i, no_more_tokens 0 text start.tokens start.fault l)

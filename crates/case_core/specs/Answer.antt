@@ -4,7 +4,7 @@ use Rattle.std.specs.Option.{option_or}
 use Rattle.sql_model.specs.declared.schema.Schema.{Schema}
 use Rattle.sql_model.specs.Headings.{output_columns}
 use Rattle.sql_model.specs.Syntax.{Query}
-use Rattle.sql_read.specs.Cursor.{numbers_of}
+use Rattle.sql_cursor.specs.Cursor.{numbers_of}
 use Rattle.sql_grammar.specs.Numbering.{Numbers}
 use Rattle.schema_read.specs.declared.fault.SchemaFault.{SchemaFault}
 use Rattle.schema_read.specs.declared.fault.SchemaFault.TheVariants as schema_refusal

@@ -1,20 +1,18 @@
 -- What a text spells as a case, and what keeps the limits on what is counted.
 use Rattle.std.specs.Prelude.{◌≡◌, ◌≤◌, ℕ, List, length, Some, None}
 use Rattle.data_model.specs.Lists.{Each}
-use Rattle.grammar.specs.Form.{form_language, language}
 use Rattle.grammar.specs.Language.{Language, map_language, seq_language}
 use Rattle.grammar.specs.Limits.{KeepsWithin}
 use Rattle.sql_lex.specs.Lexemes.{Lexeme}
 use Rattle.sql_lex.specs.Tokens.{TokensOf}
 use Rattle.sql_model.specs.declared.statement.Statement.{Statement}
-use Rattle.sql_read.specs.declared.fault.LimitKind.{LimitKind}
-use Rattle.sql_read.specs.declared.fault.LimitKind.TheVariants as limit
+use Rattle.sql_cursor.specs.declared.fault.LimitKind.{LimitKind}
+use Rattle.sql_cursor.specs.declared.fault.LimitKind.TheVariants as limit
 use Rattle.sql_read.specs.ReadingTexts.{Texts, depth_limit, keeping}
-use Rattle.sql_grammar.specs.Kinds.{kind_of}
 use Rattle.sql_grammar.specs.Numbering.{Built, Numbers, first_numbers}
 use Rattle.sql_grammar.specs.Queries.{most_levels, of_form}
 use Rattle.sql_grammar.specs.QueryCopies.{most_copies}
-use Rattle.sql_grammar.specs.QueryEntries.{few_rules, most_further}
+use Rattle.sql_grammar.specs.QueryEntries.{few_of_form, most_further}
 use Rattle.schema_read.specs.Declarations.{IsSmall}
 use Rattle.schema_read.specs.StatementGrammar.{statements}
 use Rattle.schema_read.specs.StatementLimits as of_statements
@@ -34,7 +32,7 @@ cases_behind L = map_language g.case_of (seq_language L (of_form None g.two_quer
 
 -- the cases in which no block has too many entries
 abbrev pub few_entry_cases : Language Lexeme (Built CaseText)
-few_entry_cases = form_language kind_of (language kind_of (few_rules most_further)) None g.case
+few_entry_cases = few_of_form most_further g.case
 
 -- The cases that keep the limit on this count. Queries have neither columns nor relations to count, and what may be copied goes by what was
 -- copied before.

@@ -1,14 +1,14 @@
 -- What the reader of a text does with the tokens that are still to come.
 use Rattle.std.specs.Prelude.{◌≡◌, ◌≢◌, ◌≤◌, ◌+◌, ℕ, [], true, false, None}
-use Rattle.sql_read.specs.declared.fault.LimitKind.{LimitKind}
-use Rattle.sql_read.specs.declared.fault.ReadFault.{ReadFault}
-use Rattle.sql_read.specs.declared.fault.ReadFault.TheVariants as read_refusal
-use Rattle.sql_read.specs.Cursor.{Cursor}
-use Rattle.sql_read.specs.Eating.{IsNextAt, is_next}
+use Rattle.sql_cursor.specs.declared.fault.LimitKind.{LimitKind}
+use Rattle.sql_cursor.specs.declared.fault.ReadFault.{ReadFault}
+use Rattle.sql_cursor.specs.declared.fault.ReadFault.TheVariants as read_refusal
+use Rattle.sql_cursor.specs.Cursor.{Cursor}
+use Rattle.sql_cursor.specs.Eating.{IsNextAt, is_next}
 use Rattle.sql_grammar.specs.Kinds.{among}
 use Rattle.sql_grammar.specs.Numbering.{Built}
 use Rattle.sql_grammar.specs.QueryCopies.{most_copies}
-use Rattle.sql_read.specs.Refusals.{IsLeftOut, refusal}
+use Rattle.sql_cursor.specs.Refusals.{IsLeftOut, refusal}
 use Rattle.case_core.specs.declared.fault.CaseFault.{CaseFault}
 use Rattle.case_core.specs.declared.fault.CaseFault.TheVariants.{Read, Schema, Scope, QueriesDiffer, NotTwoQueries, NoMemory}
 use Rattle.case_core.specs.declared.text.CaseText.{CaseText}

@@ -7,13 +7,13 @@ use Rattle.grammar.specs.Reading.{IsLongestPrefix}
 use Rattle.sql_lex.specs.declared.token.LexFault.{LexFault}
 use Rattle.sql_lex.specs.Lexemes.{Lexeme}
 use Rattle.sql_lex.specs.Tokens.{Lexes}
-use Rattle.sql_read.specs.declared.fault.ReadFault.{ReadFault}
-use Rattle.sql_read.specs.declared.fault.ReadFault.TheVariants as read_refusal
-use Rattle.sql_read.specs.Cursor.{next}
+use Rattle.sql_cursor.specs.declared.fault.ReadFault.{ReadFault}
+use Rattle.sql_cursor.specs.declared.fault.ReadFault.TheVariants as read_refusal
+use Rattle.sql_cursor.specs.Cursor.{next}
 use Rattle.sql_grammar.specs.Kinds.{among, kind_of}
 use Rattle.sql_grammar.specs.Numbering.{Built}
 use Rattle.sql_read.specs.ReadingTexts.{Passes, PassesDepth, TextLimit, count_limit, keeping}
-use Rattle.sql_read.specs.Refusals.{refusal_of}
+use Rattle.sql_cursor.specs.Refusals.{refusal_of}
 use Rattle.schema_read.specs.StatementGrammar.{statements}
 use Rattle.sql_grammar.specs.Queries.{of_form}
 use Rattle.case_core.specs.declared.fault.CaseFault.{CaseFault}

@@ -1,6 +1,6 @@
 -- The fault of an inner call as one of the whole: want of memory is `NoMemory` alone.
-use Rattle.sql_read.specs.declared.fault.ReadFault.{ReadFault}
-use Rattle.sql_read.specs.declared.fault.ReadFault.TheVariants as read_refusal
+use Rattle.sql_cursor.specs.declared.fault.ReadFault.{ReadFault}
+use Rattle.sql_cursor.specs.declared.fault.ReadFault.TheVariants as read_refusal
 use Rattle.schema_read.specs.declared.fault.SchemaFault.{SchemaFault}
 use Rattle.schema_read.specs.declared.fault.SchemaFault.TheVariants as schema_refusal
 use Rattle.scope_core.specs.declared.fault.ScopeFault.{ScopeFault}

@@ -1,7 +1,7 @@
 //! Why a text is no case.
 use schema_read::SchemaFault;
 use scope_core::ScopeFault;
-use sql_read::ReadFault;
+use sql_cursor::ReadFault;
 use std::alloc::AllocError;
 
 /// The first fault of a text. Want of memory is `NoMemory` alone: none of the faults inside holds it.

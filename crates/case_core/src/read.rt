@@ -1,7 +1,7 @@
 //! The whole way from a text to a case.
 ghost use Rattle.std.specs.Prelude.{◌≡◌, ◌≤◌, ℕ, List, length, IfErr, IfOk, OnOk};
 ghost use Rattle.data_model.specs.Lists.{Each};
-ghost use Rattle.sql_read.specs.Cursor.{most_bytes, numbers_of};
+ghost use Rattle.sql_cursor.specs.Cursor.{most_bytes, numbers_of};
 ghost use Rattle.schema_read.specs.Declarations.{IsSmall};
 ghost use Rattle.schema_read.specs.StatementLimits.{most_relations};
 ghost use Rattle.scope_core.specs.Fitting.{FitsViews};

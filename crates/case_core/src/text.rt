@@ -1,8 +1,8 @@
 //! The text of a case.
 ghost use Rattle.std.specs.Prelude.{◌≡◌, ◌≤◌, ◌<◌, ◌^◌, length, IfErr, IfOk, OnOk};
 ghost use Rattle.data_model.specs.Lists.{Each};
-ghost use Rattle.sql_read.specs.Cursor.{most_bytes, numbers_of};
-ghost use Rattle.sql_read.specs.Eating.{Extends};
+ghost use Rattle.sql_cursor.specs.Cursor.{most_bytes, numbers_of};
+ghost use Rattle.sql_cursor.specs.Eating.{Extends};
 ghost use Rattle.sql_grammar.specs.Queries.{most_levels};
 ghost use Rattle.sql_read.specs.Reads.{Reads};
 ghost use Rattle.schema_read.specs.CopiedStatements.{Copied};
@@ -16,9 +16,10 @@ ghost use Rattle.case_core.specs.ReadingCases.{IsEnded, IsMore, IsNoEnd, Refuses
 use crate::fault::CaseFault;
 use plain_data::List;
 use schema_read::read_inner_statements;
+use sql_cursor::{ReadFault, Tokens, place};
 use sql_grammar::Kind;
 use sql_model::{Query, Statement, Symbols};
-use sql_read::{MOST_LEVELS, ReadFault, Tokens, place, read_inner_query};
+use sql_read::{MOST_LEVELS, read_inner_query};
 use std::alloc::Global;
 
 /// Statements and two queries, as they are written.

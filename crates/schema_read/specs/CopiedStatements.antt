@@ -1,12 +1,12 @@
 -- What the functions that read statements and cases tell of what was copied where they refuse a token: what the reader of queries tells, and the
 -- same where columns or relations are too many, which queries do not count.
 use Rattle.std.specs.Prelude.{Result, Ok, Err}
-use Rattle.sql_read.specs.declared.fault.ReadFault.{ReadFault}
-use Rattle.sql_read.specs.declared.fault.ReadFault.TheVariants.{Limit}
-use Rattle.sql_read.specs.declared.fault.LimitKind.TheVariants as limit
+use Rattle.sql_cursor.specs.declared.fault.ReadFault.{ReadFault}
+use Rattle.sql_cursor.specs.declared.fault.ReadFault.TheVariants.{Limit}
+use Rattle.sql_cursor.specs.declared.fault.LimitKind.TheVariants as limit
 use Rattle.sql_read.specs.Copied as of_query
 use Rattle.sql_read.specs.Copied.{CopiesSoFar}
-use Rattle.sql_read.specs.Cursor.{Cursor}
+use Rattle.sql_cursor.specs.Cursor.{Cursor}
 use Rattle.sql_grammar.specs.Numbering.{Built}
 use Rattle.sql_grammar.specs.QueryGrammar.{The}
 

@@ -1,7 +1,7 @@
 -- The limits on the columns of a table and on the number of relations, and those on entries and copies of the queries of views, each with
 -- the first token beyond it. Each is a language of the statements that keep it.
 use Rattle.std.specs.Prelude.{ℕ, zero, suc, ◌-◌, List, [], ◌∷◌, ◌++◌, length, None}
-use Rattle.grammar.specs.Form.{empty, seq, alt, star, map, language, form_language}
+use Rattle.grammar.specs.Form.{empty, seq, alt, star, map}
 use Rattle.grammar.specs.Language.{map_language, upto_language}
 use Rattle.grammar.specs.Limits.{IsFirstBeyond, KeepsWithin}
 use Rattle.grammar.specs.Productions.{skip_then}
@@ -9,15 +9,14 @@ use Rattle.sql_lex.specs.Lexemes.{Lexeme}
 use Rattle.sql_model.specs.declared.statement.Statement.{Statement}
 use Rattle.sql_model.specs.declared.statement.Statement.TheVariants as statement
 use Rattle.sql_grammar.specs.declared.kinds.Kind.TheVariants as k
-use Rattle.sql_grammar.specs.Kinds.{kind_of}
 use Rattle.sql_grammar.specs.Numbering.{each}
 use Rattle.sql_grammar.specs.QueryCopies.{within_copies}
-use Rattle.sql_grammar.specs.QueryEntries.{few_rules, most_further}
+use Rattle.sql_grammar.specs.QueryEntries.{few_of_form, most_further}
 use Rattle.sql_grammar.specs.QueryGrammar.{The, a}
 use Rattle.schema_read.specs.StatementTrees.{Elements}
 use Rattle.schema_read.specs.StatementGrammar as g
-use Rattle.sql_read.specs.declared.fault.LimitKind.{LimitKind}
-use Rattle.sql_read.specs.declared.fault.LimitKind.TheVariants as limit
+use Rattle.sql_cursor.specs.declared.fault.LimitKind.{LimitKind}
+use Rattle.sql_cursor.specs.declared.fault.LimitKind.TheVariants as limit
 use Rattle.schema_read.specs.Statements.{OfStatements, statements}
 use Rattle.sql_grammar.specs.Queries.{of_form}
 
@@ -68,7 +67,7 @@ IsRelationTooMany = IsFirstBeyond statements (few_statements most_relations)
 
 -- the statements in whose views no block has more entries besides its first
 abbrev pub few_entry_statements : ℕ → OfStatements
-few_entry_statements most = form_language kind_of (language kind_of (few_rules most)) None g.statements
+few_entry_statements most = few_of_form most g.statements
 
 -- The token begins an entry that is one too many for its block.
 abbrev pub IsEntryTooMany : List Lexeme → Lexeme → Type 0

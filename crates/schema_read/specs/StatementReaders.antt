@@ -10,10 +10,10 @@ use Rattle.sql_grammar.specs.declared.kinds.Kind.TheVariants as k
 use Rattle.sql_grammar.specs.Kinds.{among, name_kinds, same}
 use Rattle.sql_grammar.specs.Queries.{most_levels}
 use Rattle.sql_grammar.specs.QueryGrammar.{most_separators}
-use Rattle.sql_grammar.specs.QueryTrees.{is_given}
-use Rattle.sql_read.specs.declared.fault.LimitKind.TheVariants as limit
-use Rattle.sql_read.specs.declared.fault.ReadFault.TheVariants.{Limit}
-use Rattle.sql_read.specs.Reading.{Reader, ◌>>=◌, at, comma, done, eaten, expected, listed, on, query, refused, repeated, seen}
+use Rattle.sql_cursor.specs.declared.fault.LimitKind.TheVariants as limit
+use Rattle.sql_cursor.specs.declared.fault.ReadFault.TheVariants.{Limit}
+use Rattle.sql_read.specs.Reading.{at, comma, listed, query}
+use Rattle.sql_cursor.specs.Readers.{Reader, ◌>>=◌, done, eaten, expected, on, refused, repeated, seen, accepted}
 use Rattle.schema_read.specs.StatementGrammar.{word_kinds}
 use Rattle.schema_read.specs.StatementLimits.{most_columns, most_relations}
 use Rattle.schema_read.specs.StatementTrees as t
@@ -132,8 +132,8 @@ unfoldable pub view : Reader Statement
 view c =
     expected (same k.View) c >>= λ word c. name c >>= λ name c. expected (same k.As) c >>= λ word c. query most_levels (at most_levels) c >>= λ q. done (statement.View name q)
 
-unfoldable pub unique_word : Reader Bool
-unique_word c = eaten (same k.Unique) c >>= λ word. done (is_given word)
+abbrev pub unique_word : Reader Bool
+unique_word = accepted (same k.Unique)
 
 unfoldable pub index : Reader Statement
 index c =

@@ -1,17 +1,18 @@
 //! The reader of statements: a function for each production, or for a part of one.
 ghost use Rattle.std.specs.Prelude.{◌<◌, ◌≤◌, ◌^◌, length, IfErr, IfOk, OnErr, None};
 ghost use Rattle.data_model.specs.Lists.{Each};
-ghost use Rattle.sql_read.specs.declared.fault.LimitKind.TheVariants as limit;
-ghost use Rattle.sql_read.specs.Eating.{Extends};
+ghost use Rattle.sql_cursor.specs.declared.fault.LimitKind.TheVariants as limit;
+ghost use Rattle.sql_cursor.specs.Eating.{Extends};
 ghost use Rattle.sql_grammar.specs.Queries.{most_levels};
 ghost use Rattle.sql_read.specs.ReadingQueries.{IsAtEnd, Keeps};
-ghost use Rattle.sql_read.specs.Reads.{of_form, relations_too};
+ghost use Rattle.sql_read.specs.Reads.{relations_too};
 ghost use Rattle.schema_read.specs.CopiedStatements.{Copied};
-ghost use Rattle.schema_read.specs.Counting.{Counts, ReadsTelling, few_left_factored, narrowly};
+ghost use Rattle.schema_read.specs.Counting.{Counts, ReadsTelling, few_factored_statements, narrowly};
 ghost use Rattle.schema_read.specs.Declarations.{IsSmall};
 ghost use Rattle.schema_read.specs.ReadingStatements.{IsRead, IsRefused};
 ghost use Rattle.schema_read.specs.StatementGrammar as g;
 ghost use Rattle.schema_read.specs.StatementLimits.{most_relations};
+ghost use Rattle.sql_grammar.specs.FactoredQueries.{in_factored};
 
 mod columns;
 mod elements;
@@ -21,8 +22,8 @@ mod rules;
 mod statement;
 
 use plain_data::List;
+use sql_cursor::{ReadFault, Tokens};
 use sql_model::Statement;
-use sql_read::{ReadFault, Tokens};
 use statement::statements;
 use std::alloc::Global;
 
@@ -50,8 +51,8 @@ pub fn read_inner_statements(
     tokens: &mut Tokens<'_>,
 ) -> Result<List<Statement>, ReadFault>
     ensures reads { ReadsTelling relations_too g.statements most_levels (λ read. read) tokens.old tokens.old result tokens.new }
-    ensures columns { Counts limit.Columns g.statements (of_form None (g.statements_with narrowly)) tokens.old result tokens.new }
-    ensures relations { Counts limit.Relations g.statements few_left_factored tokens.old result tokens.new }
+    ensures columns { Counts limit.Columns g.statements (in_factored None (g.statements_with narrowly)) tokens.old result tokens.new }
+    ensures relations { Counts limit.Relations g.statements few_factored_statements tokens.old result tokens.new }
     ensures copied { Copied g.statements (λ read. read) tokens.old tokens.old result tokens.new }
     // What `read_schema` requires.
     ensures few { IfOk result (λ statements. length statements ≤ most_relations) }

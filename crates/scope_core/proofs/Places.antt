@@ -12,8 +12,8 @@ use Rattle.sql_model.specs.Frames as nf
 use Rattle.sql_model.specs.Columns.{same_name, is_called, value_in_entry, value_in_some, entry_with_alias, value_among, column_value}
 use Rattle.sql_model.specs.Headings.{Heading}
 use Rattle.sql_model.specs.Meaning as m
-use Rattle.scope_core.specs.Scope.{Place, is_among_places, index_of, Sight, AsRows, AsMember, AsGroup, Level, Levels, bare_place, qualified_place, place_in, place_at, column_at, column_from}
-use Rattle.scope_core.specs.Resolving.{entry_columns, star, alias_star}
+use Rattle.scope_core.specs.Scope.{Place, is_among_places, Sight, AsRows, AsMember, AsGroup, Level, Levels, bare_place, qualified_place, place_in, place_at}
+use Rattle.scope_core.specs.Resolving.{entry_columns, star, alias_star, index_of, column_at, column_from}
 use Rattle.scope_core.specs.Environments.{World, Environment, Frame, Combination, row_of, rows_at}
 use Rattle.scope_core.specs.Evaluation.{value}
 use Rattle.scope_core.proofs.Resolvable.{IsFound, ResolvableColumn, IsRowLevel}

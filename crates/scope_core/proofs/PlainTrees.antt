@@ -15,8 +15,8 @@ use Rattle.scope_core.specs.declared.tree.RQuery.TheVariants as q
 use Rattle.scope_core.specs.declared.tree.Grouping.TheVariants as g
 use Rattle.scope_core.specs.declared.tree.RBlock.{roll-RBlock}
 use Rattle.scope_core.specs.Syntax.{RVal, RCond, RSource, RQuery, Grouping}
-use Rattle.scope_core.specs.Scope.{Known, heading, AsRows, Level, place_at, column_at, column_from, rows_level, output_level, on_level, no_entry, grouping_of}
-use Rattle.scope_core.specs.Resolving.{entry_of, nothing, star, entry_columns, alias_star, resolved_value, conjuncts, conjuncts_of_each, conjuncts_written, resolved, resolved_block, resolved_entries, resolved_source, on_conjuncts, resolved_items, resolved_item}
+use Rattle.scope_core.specs.Scope.{Known, heading, AsRows, Level, place_at, rows_level, output_level, on_level, no_entry, grouping_of}
+use Rattle.scope_core.specs.Resolving.{entry_of, nothing, star, entry_columns, alias_star, resolved_value, conjuncts, conjuncts_of_each, conjuncts_written, resolved, resolved_block, resolved_entries, resolved_source, on_conjuncts, resolved_items, resolved_item, column_at, column_from}
 use Rattle.scope_core.specs.Relations.{known_of}
 use Rattle.scope_core.specs.ViewTrees.{tree_of}
 use Rattle.scope_core.specs.Plain.{is_table, is_base_table, is_plain_source, is_point, is_plain_condition, are_plain_conditions, is_plain_written, are_plain_entries, is_plain_item, are_plain_items, is_plain, is_tree_point, are_tree_points, is_tree_equality, are_tree_equalities, are_tree_tables, is_plain_tree}

@@ -26,8 +26,8 @@ use Rattle.sql_model.specs.Meaning as m
 use Rattle.scope_core.specs.declared.tree.RVal.TheVariants as v
 use Rattle.scope_core.specs.declared.tree.RCond.TheVariants as c
 use Rattle.scope_core.specs.Syntax.{RCond}
-use Rattle.scope_core.specs.Scope.{Known, heading, Place, same_place, is_among_places, index_of, Sight, AsRows, AsGroup, Level, Levels, output_sight, rows_level, member_levels, on_level, no_entry, group_place, group_places, grouping_of}
-use Rattle.scope_core.specs.Resolving.{conjunction, resolved_value, resolved_values, resolved_argument, only_block, conjuncts, conjuncts_of_each, resolved_conditions, conjuncts_written, resolved_having, resolved, resolved_block, resolved_entries, resolved_source, on_conjuncts, resolved_items, resolved_item}
+use Rattle.scope_core.specs.Scope.{Known, heading, Place, same_place, is_among_places, Sight, AsRows, AsGroup, Level, Levels, output_sight, rows_level, member_levels, on_level, no_entry, group_place, group_places, grouping_of}
+use Rattle.scope_core.specs.Resolving.{conjunction, resolved_value, resolved_values, resolved_argument, only_block, conjuncts, conjuncts_of_each, resolved_conditions, conjuncts_written, resolved_having, resolved, resolved_block, resolved_entries, resolved_source, on_conjuncts, resolved_items, resolved_item, index_of}
 use Rattle.scope_core.specs.Environments.{World, Environment, Frame, frame_of, row_of, rows_at, members_here, outer_frames}
 use Rattle.scope_core.specs.Evaluation.{values_at, group_frame, group_of, frames, value, truth, rows, block_rows, source_rows}
 use Rattle.scope_core.proofs.Booleans.{and-first, and-second, and-true, and-assoc}

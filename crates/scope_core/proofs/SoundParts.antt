@@ -11,8 +11,8 @@ use Rattle.scope_core.specs.declared.tree.RCond.TheBlock as t
 use Rattle.scope_core.specs.declared.tree.RVal.TheVariants as v
 use Rattle.scope_core.specs.declared.tree.RBlock.{roll-RBlock}
 use Rattle.scope_core.specs.Syntax.{RVal, RCond, RSource, Grouping}
-use Rattle.scope_core.specs.Scope.{Place, same_place, is_among_places, index_of, Sight, AsRows, AsMember, AsGroup, Level, Levels, place_at, column_at, column_from}
-use Rattle.scope_core.specs.Resolving.{entry_of}
+use Rattle.scope_core.specs.Scope.{Place, same_place, is_among_places, Sight, AsRows, AsMember, AsGroup, Level, Levels, place_at}
+use Rattle.scope_core.specs.Resolving.{entry_of, index_of, column_at, column_from}
 use Rattle.scope_core.specs.Width.{count_values}
 use Rattle.scope_core.specs.Sound.{Seen, SeenRows, SeenGroup, SeenMember, SeenBlocks, widths, widths_at, output_seen, SeesGroup, SeesRows, AreKeys, IsSoundBlock, AreSoundEntries, IsSoundSource, IsSoundCondition, AreSoundConditions, IsSoundValue, AreSoundValues}
 use Rattle.scope_core.specs.Compute.{everything}

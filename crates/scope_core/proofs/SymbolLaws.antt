@@ -18,8 +18,8 @@ use Rattle.scope_core.specs.declared.tree.RCond.TheVariants as c
 use Rattle.scope_core.specs.declared.tree.RSource.TheVariants as s
 use Rattle.scope_core.specs.declared.tree.RQuery.TheVariants as q
 use Rattle.scope_core.specs.Syntax.{RVal, RCond, RSource, RBlock, RQuery, Grouping}
-use Rattle.scope_core.specs.Scope.{Known, heading, Sight, AsRows, AsGroup, AsMember, Level, Levels, Place, place_at, column_at, column_from, rows_level, output_level, member_levels, on_level, no_entry, headings_here, grouping_of}
-use Rattle.scope_core.specs.Resolving.{source_named, entry_of, nothing, star, entry_columns, alias_star, conjunction, resolved_value, resolved_values, resolved_argument, only_block, conjuncts, conjuncts_of_each, resolved_conditions, conjuncts_written, resolved_having, resolved, resolved_block, resolved_entries, resolved_source, on_conjuncts, resolved_items, resolved_item}
+use Rattle.scope_core.specs.Scope.{Known, heading, Sight, AsRows, AsGroup, AsMember, Level, Levels, Place, place_at, rows_level, output_level, member_levels, on_level, no_entry, headings_here, grouping_of}
+use Rattle.scope_core.specs.Resolving.{source_named, entry_of, nothing, star, entry_columns, alias_star, conjunction, resolved_value, resolved_values, resolved_argument, only_block, conjuncts, conjuncts_of_each, resolved_conditions, conjuncts_written, resolved_having, resolved, resolved_block, resolved_entries, resolved_source, on_conjuncts, resolved_items, resolved_item, column_at, column_from}
 use Rattle.scope_core.specs.Literals.{QueryFits, RelationFits, SchemaFits, TreeFits, TreeBlockFits, TreeEntriesFit, TreeSourceFits, TreeConditionFits, TreeConditionsFit, TreeValueFits, TreeValuesFit}
 use Rattle.scope_core.specs.Relations.{count_views, known_with, known_relations, known_of}
 use Rattle.scope_core.specs.ViewTrees.{trees_with, view_trees, views_of, tree_of}

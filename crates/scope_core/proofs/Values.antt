@@ -15,8 +15,8 @@ use Rattle.scope_core.specs.Compute.{resolving}
 use Rattle.scope_core.specs.FirstFault.{fault_at, refused}
 use Rattle.scope_core.specs.Lent.{row_of}
 use Rattle.scope_core.specs.Parts.{is_scalar_block, value_fault, values_fault, truth_fault, truths_fault, fault_within, block_fault, source_fault, entries_fault, on_fault, item_fault, items_fault, values_listed, conjuncts_listed, conditions_listed, entries_listed, on_listed, items_listed, argument_fault, argument_listed}
-use Rattle.scope_core.specs.Resolving.{only_block, resolved_block, resolved_value}
-use Rattle.scope_core.specs.Scope.{Known, Levels, member_levels, resolved_column, sight_here}
+use Rattle.scope_core.specs.Resolving.{only_block, resolved_block, resolved_value, resolved_column}
+use Rattle.scope_core.specs.Scope.{Known, Levels, member_levels, sight_here}
 use Rattle.scope_core.specs.Faults.{is_group, is_in_group, is_scalar}
 use Rattle.scope_core.proofs.Booleans.{and-false}
 use Rattle.scope_core.specs.Sites.{AValue, AColumn, AnExpression, value_sites, values_sites}

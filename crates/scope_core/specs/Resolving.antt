@@ -9,7 +9,7 @@ use Rattle.sql_model.specs.Columns.{same_name}
 use Rattle.sql_model.specs.Headings.{Heading, headings, source_columns}
 use Rattle.sql_model.specs.Grouping.{is_one_group}
 use Rattle.scope_core.specs.Syntax.{RVal, RCond, RSource, RBlock, RQuery}
-use Rattle.scope_core.specs.Scope.{Known, heading, Level, Levels, grouping_of, resolved_column, rows_level, output_level, member_levels, on_level, no_entry, headings_here}
+use Rattle.scope_core.specs.Scope.{Known, heading, Place, same_place, Sight, AsRows, AsMember, AsGroup, Level, Levels, place_at, grouping_of, rows_level, output_level, member_levels, on_level, no_entry, headings_here}
 use Rattle.scope_core.specs.declared.tree.RVal.TheVariants as v
 use Rattle.scope_core.specs.declared.tree.RCond.TheVariants as c
 use Rattle.scope_core.specs.declared.tree.RSource.TheVariants as s
@@ -17,6 +17,27 @@ use Rattle.scope_core.specs.declared.tree.RQuery.TheVariants as q
 use Rattle.scope_core.specs.declared.tree.Grouping.TheVariants as g
 use Rattle.scope_core.specs.declared.tree.RBlock.{roll-RBlock}
 use Rattle.scope_core.specs.declared.tree.REntry.{REntry, roll-REntry}
+
+-- ---- columns, sought as their values are: in the innermost block first
+-- the place of the first member that it is, or the length
+abbrev pub index_of : Place → List Place → ℕ
+index_of p [] = 0
+index_of p (r ∷ places) = if same_place p r then 0 else suc (index_of p places)
+
+-- a column of the block `up` blocks outwards
+abbrev pub column_at : ℕ → Sight → Place → RVal
+column_at up AsRows p = v.Col up p.0 p.1
+column_at up AsMember p = v.Col up p.0 p.1
+column_at up (AsGroup columns) p = v.Key (index_of p columns)
+
+-- in the innermost of these blocks that has it, where the first of them is `up` blocks outwards
+abbrev pub column_from : ℕ → Option Name → Name → Levels → RVal
+column_from up qual name [] = v.Col up 0 0
+column_from up qual name (level ∷ outer) =
+    unwrap_or (option_map (column_at up level.sight) (place_at qual name level)) (column_from (suc up) qual name outer)
+
+abbrev pub resolved_column : Option Name → Name → Levels → RVal
+resolved_column qual name levels = column_from 0 qual name levels
 
 -- ---- stars
 abbrev pub entry_columns : ℕ → ℕ → List ColumnName → List RVal

@@ -1,6 +1,6 @@
 -- What a place in a query can name: the relations of the schema, and the columns of the blocks around it, each with the place at which a
--- resolved tree finds it (SQL, ISO/IEC 9075-2, 6.6 identifier chain and 7.6 table reference). A column is sought as its value is: in the
--- innermost block first, and there among the entries from left to right.
+-- resolved tree finds it (SQL, ISO/IEC 9075-2, 6.6 identifier chain and 7.6 table reference). In one block a column is sought as its value
+-- is: among the entries from left to right.
 use Rattle.std.specs.Prelude.{ℕ, suc, nat_eq, Bool, true, false, ◌&&◌, ◌||◌, if◌then◌else◌, List, [], ◌∷◌, ◌++◌, length, Option, Some, None, position, option_map, unwrap_or}
 use Rattle.std.specs.Option.{option_or}
 use Rattle.sql_model.specs.Syntax as n
@@ -8,9 +8,8 @@ use Rattle.sql_model.specs.Syntax.{Name}
 use Rattle.sql_model.specs.Frames.{ColumnName}
 use Rattle.sql_model.specs.Columns.{same_name, is_called}
 use Rattle.sql_model.specs.Headings.{Heading}
-use Rattle.scope_core.specs.Syntax.{RVal, RSource, Grouping, Plain, One, Keys}
+use Rattle.scope_core.specs.Syntax.{RSource, Grouping, Plain, One, Keys}
 use Rattle.scope_core.specs.declared.tree.Grouping.TheVariants as g
-use Rattle.scope_core.specs.declared.tree.RVal.TheVariants as v
 
 -- a relation that a query can name, and what a resolved tree says for it
 pub record Known : Type 0 where
@@ -79,27 +78,6 @@ place_in (Some alias) name entry headings = qualified_place alias name entry hea
 
 abbrev pub place_at : Option Name → Name → Level → Option Place
 place_at qual name level = place_in qual name level.first level.headings
-
--- ---- through the blocks
--- the place of the first member that it is, or the length
-abbrev pub index_of : Place → List Place → ℕ
-index_of p [] = 0
-index_of p (r ∷ places) = if same_place p r then 0 else suc (index_of p places)
-
--- a column of the block `up` blocks outwards
-abbrev pub column_at : ℕ → Sight → Place → RVal
-column_at up AsRows p = v.Col up p.0 p.1
-column_at up AsMember p = v.Col up p.0 p.1
-column_at up (AsGroup columns) p = v.Key (index_of p columns)
-
--- in the innermost of these blocks that has it, where the first of them is `up` blocks outwards
-abbrev pub column_from : ℕ → Option Name → Name → Levels → RVal
-column_from up qual name [] = v.Col up 0 0
-column_from up qual name (level ∷ outer) =
-    unwrap_or (option_map (column_at up level.sight) (place_at qual name level)) (column_from (suc up) qual name outer)
-
-abbrev pub resolved_column : Option Name → Name → Levels → RVal
-resolved_column qual name levels = column_from 0 qual name levels
 
 -- ---- GROUP BY
 abbrev pub group_place : n.Expr → List Heading → Place

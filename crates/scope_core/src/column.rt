@@ -6,7 +6,8 @@ ghost use Rattle.scope_core.specs.Answer.{IsCause, found_code};
 ghost use Rattle.scope_core.specs.Faults.{block_meant, is_here, is_no_key, lacks_column, names_two, not_grouped};
 ghost use Rattle.scope_core.specs.FirstFault.{fault_at};
 ghost use Rattle.scope_core.specs.Lent.{levels_of, place_here, sight_of};
-ghost use Rattle.scope_core.specs.Scope.{column_at, index_of, is_among_places, resolved_column, rows_level, group_place};
+ghost use Rattle.scope_core.specs.Scope.{is_among_places, rows_level, group_place};
+ghost use Rattle.scope_core.specs.Resolving.{column_at, index_of, resolved_column};
 ghost use Rattle.scope_core.specs.Parts.{group_fault};
 ghost use Rattle.scope_core.specs.Sites.{AColumn};
 

@@ -1,5 +1,5 @@
 -- The grammar of queries once more, so that one token always tells how to go on: names of the same languages, with other productions.
-use Rattle.std.proofs.Common.{ℕ, [], ◌∷◌, Option, Some, None, ◌⊎◌, inl, inr}
+use Rattle.std.proofs.Common.{ℕ, Option, Some, None, ◌⊎◌, inl, inr}
 use Rattle.grammar.specs.Language.{Language}
 use Rattle.grammar.specs.Form.{Room, form_language, language, Rules, empty, seq, alt, map, nonempty, counted, fork, ref}
 use Rattle.grammar.specs.Productions.{skip_then, optional}
@@ -39,7 +39,7 @@ abbrev pub one_argument : The (Lexeme → Built Expr)
 one_argument = map (λ p word. t.aggregated word p.0 p.1) (seq (optional (a k.Distinct)) (ref expr))
 
 abbrev pub other_aggregate : The Lexeme
-other_aggregate = one_of (k.Sum ∷ k.Avg ∷ k.Min ∷ k.Max ∷ [])
+other_aggregate = one_of k.other_aggregates
 
 abbrev pub count_arguments : The (Lexeme → Built Expr)
 count_arguments = parens (alt (map (λ sign word. t.count_rows word) (a k.Star)) one_argument)

@@ -138,3 +138,15 @@ every_kind = All ∷ And ∷ As ∷ Between ∷ By ∷ Constraint ∷ Create ∷
 -- unreserved words and quoted names
 abbrev pub name_kinds : List Kind
 name_kinds = Word ∷ Count ∷ Sum ∷ Avg ∷ Min ∷ Max ∷ Key ∷ View ∷ Index ∷ Quoted ∷ []
+
+-- unreserved words that name no aggregate
+abbrev pub called_kinds : List Kind
+called_kinds = Word ∷ Key ∷ View ∷ Index ∷ []
+
+-- aggregates but for COUNT
+abbrev pub other_aggregates : List Kind
+other_aggregates = Sum ∷ Avg ∷ Min ∷ Max ∷ []
+
+-- the signs of comparisons
+abbrev pub comparisons : List Kind
+comparisons = Equals ∷ Differs ∷ Less ∷ AtMost ∷ Greater ∷ AtLeast ∷ []

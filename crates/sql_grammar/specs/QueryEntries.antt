@@ -2,7 +2,7 @@
 -- that ends at the limit; without limits it spells the queries whose blocks have no more.
 use Rattle.std.specs.Prelude.{ℕ, ◌-◌, zero, suc, false, List, [], ◌∷◌, ◌⊎◌, None}
 use Rattle.std.proofs.Common.{inl, inr}
-use Rattle.grammar.specs.Form.{Rules, empty, seq, alt, map, only, ref, language}
+use Rattle.grammar.specs.Form.{Rules, empty, seq, alt, map, only, ref, form_language, language}
 use Rattle.grammar.specs.Language.{Language}
 use Rattle.grammar.specs.Limits.{IsFirstBeyond}
 use Rattle.grammar.specs.Productions.{skip_then, optional}
@@ -51,6 +51,10 @@ few_froms most = map items_of (seq (ref entry) (further_entries most))
 
 abbrev pub few_rules : ℕ → Rules Lexeme Kind Production Read
 few_rules most = rules_with tail_rules (few_froms most)
+
+-- the language of a form in which no block has more
+abbrev pub few_of_form : {A : Type 0} → ℕ → The A → Language Lexeme A
+few_of_form most f = form_language kind_of (language kind_of (few_rules most)) None f
 
 -- entries of a block
 abbrev pub most_entries : ℕ

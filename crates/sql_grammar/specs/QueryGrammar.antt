@@ -85,12 +85,12 @@ one_of kinds = token (among kinds)
 abbrev pub name : The Lexeme
 name = one_of name_kinds
 
--- an unreserved word that names no aggregate
+-- a word that names no aggregate, and one that does
 abbrev pub called_word : The Lexeme
-called_word = one_of (k.Word ∷ k.Key ∷ k.View ∷ k.Index ∷ [])
+called_word = one_of k.called_kinds
 
 abbrev pub aggregate_word : The Lexeme
-aggregate_word = one_of (k.Count ∷ k.Sum ∷ k.Avg ∷ k.Min ∷ k.Max ∷ [])
+aggregate_word = one_of (k.Count ∷ k.other_aggregates)
 
 -- ---- lengths
 
@@ -149,7 +149,7 @@ group_by = optional (skip_then (seq (a k.Group) (a k.By)) (listed (ref reference
 abbrev pub comparison : The (Left → Built Expr)
 comparison =
     map (λ p left. t.comparison p.0 p.1 left)
-    (seq (one_of (k.Equals ∷ k.Differs ∷ k.Less ∷ k.AtMost ∷ k.Greater ∷ k.AtLeast ∷ [])) (ref value))
+    (seq (one_of k.comparisons) (ref value))
 
 -- [NOT] IN ( query )
 abbrev pub in_query : The (Left → Built Expr)

@@ -1,4 +1,1 @@
-pub mod Cursors
 pub mod Loops
-pub mod Numbered
-pub mod Unquoting

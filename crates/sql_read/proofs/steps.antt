@@ -1,4 +1,3 @@
-pub mod Extending
 pub mod ReadSteps
 pub mod ReadPassing
 pub mod ReadForks

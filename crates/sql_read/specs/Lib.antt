@@ -1,7 +1,3 @@
-pub mod Cursor
-pub mod Refusals
-pub mod Unquoting
-pub mod Eating
 pub mod Reads
 pub mod Parts
 pub mod Reading

@@ -1,17 +1,17 @@
 -- What a reader within limits does with the tokens that are still to come: of queries and of statements. Of whole cases the limits, and the
 -- tokens that pass them, are said so too.
-use Rattle.std.specs.Prelude.{ℕ, ◌+◌, ◌≡◌, List, [], ◌∷◌, ◌++◌, length, Some, None, Option}
+use Rattle.std.specs.Prelude.{ℕ, ◌+◌, ◌≡◌, List, ◌++◌, length, Some, None, Option}
 use Rattle.grammar.specs.Language.{Language}
-use Rattle.grammar.specs.Limits.{IsFirstBeyond}
+use Rattle.grammar.specs.Limits.{Limited, PassesLimit}
 use Rattle.grammar.specs.Reading.{IsLongestPrefix}
 use Rattle.sql_lex.specs.declared.token.LexFault.{LexFault}
 use Rattle.sql_lex.specs.Lexemes.{Lexeme}
-use Rattle.sql_read.specs.declared.fault.LimitKind.{LimitKind}
-use Rattle.sql_read.specs.declared.fault.LimitKind.TheVariants as limit
-use Rattle.sql_read.specs.declared.fault.ReadFault.{ReadFault}
-use Rattle.sql_read.specs.declared.fault.ReadFault.TheVariants.{Lex, Unexpected, LeftOut, TooDeep, Limit, NoMemory}
-use Rattle.sql_read.specs.Cursor.{Cursor, next}
-use Rattle.sql_read.specs.Refusals.{refusal_of}
+use Rattle.sql_cursor.specs.declared.fault.LimitKind.{LimitKind}
+use Rattle.sql_cursor.specs.declared.fault.LimitKind.TheVariants as limit
+use Rattle.sql_cursor.specs.declared.fault.ReadFault.{ReadFault}
+use Rattle.sql_cursor.specs.declared.fault.ReadFault.TheVariants.{Lex, Unexpected, LeftOut, TooDeep, Limit, NoMemory}
+use Rattle.sql_cursor.specs.Cursor.{Cursor, next}
+use Rattle.sql_cursor.specs.Refusals.{refusal_of}
 use Rattle.sql_grammar.specs.Numbering.{Built}
 use Rattle.sql_grammar.specs.Queries.{most_levels, of_form}
 use Rattle.sql_grammar.specs.QueryCopies.{within_copies}
@@ -53,6 +53,10 @@ IsSooner (count_limit limit.Entries) (count_limit limit.Copies) = Unit {0}
 IsSooner (count_limit limit.Relations) (count_limit limit.Copies) = Unit {0}
 IsSooner (count_limit limit.Copies) (count_limit limit.Copies) = ⊥
 
+-- all limits, with so much copied before
+abbrev pub limited : {A : Type 0} → Texts A → ℕ → Limited Lexeme (Built A)
+limited T copied = record { whole = any T; Limit = TextLimit; keeping = keeping T copied; IsSooner = IsSooner }
+
 -- the longest list of tokens that begins a text was taken, and it spells this value within all limits
 pub record IsRead {A : Type 0} (T : Texts A) (before : Cursor) (value : A) (after : Cursor) : Type 0 where
   pub taken : List Lexeme
@@ -80,15 +84,9 @@ pub record IsUnfinished {A : Type 0} (T : Texts A) (copied : ℕ) (tokens : List
   pub kept : (which : TextLimit) → (keeping T copied which).prefix taken
   pub refusal : refused ≡ refusal_of end (next rest fault)
 
--- The token behind those taken goes on with no limits, and is the first beyond this one. All were kept before it, and with it those that are told sooner.
-pub record Passes {A : Type 0} (T : Texts A) (copied : ℕ) (tokens : List Lexeme) (which : TextLimit) : Type 0 where
-  pub taken : List Lexeme
-  pub token : Lexeme
-  pub rest : List Lexeme
-  pub parts : tokens ≡ taken ++ token ∷ rest
-  pub beyond : IsFirstBeyond (any T) (keeping T copied which) taken token
-  pub kept : (other : TextLimit) → (keeping T copied other).prefix taken
-  pub sooner : (other : TextLimit) → IsSooner other which → (keeping T copied other).prefix (taken ++ token ∷ [])
+-- a token passes this limit
+abbrev pub Passes : {A : Type 0} → Texts A → ℕ → List Lexeme → TextLimit → Type 0
+Passes T copied tokens which = PassesLimit (limited T copied) tokens which
 
 -- the token at this place is too deep
 pub record PassesDepth {A : Type 0} (T : Texts A) (copied : ℕ) (tokens : List Lexeme) (at : ℕ) : Type 0 where

@@ -1,28 +1,24 @@
 -- What the reading functions do. Each takes the longest list of tokens that begins a form of the left-factored grammar, and answers what it spells, or
 -- refuses the token at which it stops.
 use Rattle.std.specs.Prelude.{ℕ, ◌+◌, ◌≡◌, ◌∷◌, List, Some, None, Result, Ok, Err, Bool, true, false}
-use Rattle.grammar.specs.Form.{Room, form_language, language}
+use Rattle.grammar.specs.Form.{form_language, language}
 use Rattle.grammar.specs.Language.{Language, no_language}
 use Rattle.grammar.specs.Reading.{Took, Failed, Exceeded, Began}
 use Rattle.sql_lex.specs.Lexemes.{Lexeme}
-use Rattle.sql_read.specs.declared.fault.ReadFault.{ReadFault}
-use Rattle.sql_read.specs.declared.fault.ReadFault.TheVariants.{Lex, Unexpected, LeftOut, TooDeep, Limit, NoMemory}
-use Rattle.sql_read.specs.declared.fault.LimitKind.{LimitKind}
-use Rattle.sql_read.specs.declared.fault.LimitKind.TheVariants as limit
-use Rattle.sql_read.specs.Cursor.{Cursor}
-use Rattle.sql_read.specs.Eating.{IsNextAt}
+use Rattle.sql_cursor.specs.declared.fault.ReadFault.{ReadFault}
+use Rattle.sql_cursor.specs.declared.fault.ReadFault.TheVariants.{Lex, Unexpected, LeftOut, TooDeep, Limit, NoMemory}
+use Rattle.sql_cursor.specs.declared.fault.LimitKind.{LimitKind}
+use Rattle.sql_cursor.specs.declared.fault.LimitKind.TheVariants as limit
+use Rattle.sql_cursor.specs.Cursor.{Cursor}
+use Rattle.sql_cursor.specs.Eating.{IsNextAt}
 use Rattle.sql_grammar.specs.Kinds.{kind_of}
 use Rattle.sql_grammar.specs.Numbering.{Built}
 use Rattle.sql_grammar.specs.QueryGrammar.{The}
 use Rattle.sql_grammar.specs.QueryEntries.{most_further}
-use Rattle.sql_grammar.specs.FactoredQueries.{few_factored, factored}
-use Rattle.sql_read.specs.Refusals.{refusal}
+use Rattle.sql_grammar.specs.FactoredQueries.{few_factored, in_factored}
+use Rattle.sql_cursor.specs.Refusals.{refusal}
 
--- the language of a form of the left-factored grammar
-abbrev pub of_form : {A : Type 0} → Room → The A → Language Lexeme A
-of_form room f = form_language kind_of (language kind_of factored) room f
-
--- and where no block has too many entries
+-- the language of a form of the left-factored grammar where no block has too many entries
 unfoldable pub few_form : {A : Type 0} → The A → Language Lexeme A
 few_form f = form_language kind_of (language kind_of (few_factored most_further)) None f
 
@@ -75,8 +71,8 @@ pub record IsBuilt {A : Type 0} (built : Built A) (count : ℕ) (start : Cursor)
 
 -- the tokens up to the rest spell the value, and no more goes on
 pub record TakesWithin {V : Type 0} (told : Told) (f : The V) (B : Language Lexeme V) (levels : ℕ) (here : List Lexeme) (value : V) (rest : List Lexeme) : Type 0 where
-  pub took : Took (of_form None f) (of_form (Some levels) f) here value rest
-  pub few : TellsEntries told → Took (of_form None f) B here value rest
+  pub took : Took (in_factored None f) (in_factored (Some levels) f) here value rest
+  pub few : TellsEntries told → Took (in_factored None f) B here value rest
 
 abbrev pub Takes : {V : Type 0} → The V → ℕ → List Lexeme → V → List Lexeme → Type 0
 Takes f levels here value rest = TakesWithin entries_too f (few_form f) levels here value rest
@@ -92,13 +88,13 @@ Gives f levels h start before value after = GivesWithin entries_too f (few_form 
 
 -- the longest prefix was read, and spells nothing; what stands next is refused
 pub record Fails {V : Type 0} (told : Told) (f : The V) (B : Language Lexeme V) (levels : ℕ) (before : Cursor) (fault : ReadFault) (after : Cursor) : Type 0 where
-  pub failed : Failed (of_form None f) (of_form (Some levels) f) before.tokens after.tokens
-  pub few : TellsEntries told → Failed (of_form None f) B before.tokens after.tokens
+  pub failed : Failed (in_factored None f) (in_factored (Some levels) f) before.tokens after.tokens
+  pub few : TellsEntries told → Failed (in_factored None f) B before.tokens after.tokens
   pub refused : fault ≡ refusal after
 
 -- the next token goes on, but passes the limits on depth and length
 pub record Exceeds {V : Type 0} (told : Told) (f : The V) (B : Language Lexeme V) (levels : ℕ) (before : Cursor) (at : ℕ) (after : Cursor) : Type 0 where
-  pub exceeded : Exceeded (of_form None f) (of_form (Some levels) f) before.tokens after.tokens
+  pub exceeded : Exceeded (in_factored None f) (in_factored (Some levels) f) before.tokens after.tokens
   pub few : TellsEntries told → Began B before.tokens after.tokens
   pub place : IsNextAt at after.tokens
 
@@ -107,8 +103,8 @@ pub record Crowds {V : Type 0} (told : Told) (f : The V) (B : Language Lexeme V)
   pub token : Lexeme
   pub more : List Lexeme
   pub next : after.tokens ≡ token ∷ more
-  pub goes_on : Began (of_form (Some levels) f) before.tokens more
-  pub few : TellsEntries told → Exceeded (of_form None f) B before.tokens after.tokens
+  pub goes_on : Began (in_factored (Some levels) f) before.tokens more
+  pub few : TellsEntries told → Exceeded (in_factored None f) B before.tokens after.tokens
 
 -- the next token goes on within the limits on depth and length, and no entry was too many before it, but a count of which is told is full
 pub record Fills {V : Type 0} (counted : Type 0) (told : Told) (f : The V) (B : Language Lexeme V) (levels : ℕ) (before after : Cursor) : Type 0 where
@@ -116,12 +112,12 @@ pub record Fills {V : Type 0} (counted : Type 0) (told : Told) (f : The V) (B : 
   pub token : Lexeme
   pub more : List Lexeme
   pub next : after.tokens ≡ token ∷ more
-  pub goes_on : Began (of_form (Some levels) f) before.tokens more
+  pub goes_on : Began (in_factored (Some levels) f) before.tokens more
   pub few : TellsEntries told → Began B before.tokens after.tokens
 
 -- the token that was passed last goes on within the limits on depth, length and entries; what was copied up to it other clauses tell
 pub record Spends {V : Type 0} (told : Told) (f : The V) (B : Language Lexeme V) (levels : ℕ) (before after : Cursor) : Type 0 where
-  pub goes_on : Began (of_form (Some levels) f) before.tokens after.tokens
+  pub goes_on : Began (in_factored (Some levels) f) before.tokens after.tokens
   pub few : TellsEntries told → Began B before.tokens after.tokens
 
 -- what each limit on a count says

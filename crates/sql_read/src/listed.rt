@@ -3,9 +3,8 @@ ghost use Rattle.std.specs.Prelude.{◌≡◌, ◌<◌, ◌^◌, IfOk};
 ghost use Rattle.sql_lex.specs.Lexemes.{lexeme_of};
 ghost use Rattle.sql_grammar.specs.QueryTrees.{entry_of, listed_query, listed_table};
 
-use crate::tokens::place;
-use crate::values::name_in;
 use plain_data::Boxed;
+use sql_cursor::{name_in, place};
 use sql_grammar::Listed;
 use sql_lex::Token;
 use sql_model::{Entry, Expr, Name, NoMemory, Query, Source};

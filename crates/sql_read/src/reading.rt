@@ -1,12 +1,11 @@
 //! The reader of queries: a function for each production of the left-factored grammar, or for a part of one.
-ghost use Rattle.std.specs.Prelude.{IfErr, IfOk, OnErr, Result};
+ghost use Rattle.std.specs.Prelude.{IfErr, IfOk, OnErr};
 ghost use Rattle.grammar.specs.Form.{ref};
 ghost use Rattle.sql_read.specs.Copied.{Copied};
-ghost use Rattle.sql_read.specs.Eating.{Extends};
-ghost use Rattle.sql_grammar.specs.Kinds.{same};
+ghost use Rattle.sql_cursor.specs.Eating.{Extends};
 ghost use Rattle.sql_grammar.specs.QueryGrammar as grammar;
 ghost use Rattle.sql_read.specs.Reading as reading;
-ghost use Rattle.sql_read.specs.Reading.{Does, Gives};
+ghost use Rattle.sql_read.specs.Reading.{Does};
 ghost use Rattle.sql_read.specs.Reads.{Reads};
 ghost use Rattle.sql_read.specs.ReadingQueries.{IsAtEnd, IsRead, IsRefused, Keeps};
 
@@ -20,11 +19,9 @@ mod primary;
 mod query;
 mod test;
 
-use crate::fault::ReadFault;
-use crate::tokens::Tokens;
 pub use item::NAME_KINDS;
 use query::query;
-use sql_grammar::Kind;
+use sql_cursor::{ReadFault, Tokens};
 use sql_model::Query;
 use std::alloc::Global;
 
@@ -62,13 +59,4 @@ pub fn read_inner_query(
     ensures extends { Extends tokens.old tokens.new }
 {
     query(alloc, tokens, levels)
-}
-
-/// Passes the next token, if it is of this kind, and tells whether it was.
-#[tactic(auto, unfolding(crate::specs::Reading::accepted))]
-fn accept(tokens: &mut Tokens<'_>, kind: Kind) -> bool
-    ensures does { Gives (Result.Ok result) tokens.new (reading.accepted (same kind) tokens.old) }
-    ensures extends { Extends tokens.old tokens.new }
-{
-    tokens.eat(kind).is_some()
 }

@@ -5,9 +5,8 @@ ghost use Rattle.sql_model.specs.declared.tree.Query.TheVariants as a_query;
 ghost use Rattle.sql_model.specs.declared.tree.Expr.TheVariants as an_expr;
 ghost use Rattle.sql_grammar.specs.QueryTrees.{bounds, column, compared, operator, place_of};
 
-use crate::tokens::place;
-use crate::values::name_in;
 use plain_data::{Boxed, Kept, List, Shared, SharedList};
+use sql_cursor::{name_in, place};
 use sql_grammar::Kind;
 use sql_lex::Token;
 use sql_model::{Expr, NoMemory, Query, SetOp};

@@ -10,10 +10,10 @@ use Rattle.sql_lex.proofs.WholeTexts.{same_tokens}
 use Rattle.sql_model.specs.declared.statement.Statement.{Statement}
 use Rattle.sql_model.specs.Syntax.{Query}
 use Rattle.sql_read.specs.ReadingTexts.{Passes, TextLimit, count_limit, depth_limit}
-use Rattle.sql_read.specs.declared.fault.ReadFault.{ReadFault}
-use Rattle.sql_read.specs.declared.fault.ReadFault.TheVariants as read_refusal
-use Rattle.sql_read.specs.Cursor.{next}
-use Rattle.sql_read.specs.Refusals.{refusal_of}
+use Rattle.sql_cursor.specs.declared.fault.ReadFault.{ReadFault}
+use Rattle.sql_cursor.specs.declared.fault.ReadFault.TheVariants as read_refusal
+use Rattle.sql_cursor.specs.Cursor.{next}
+use Rattle.sql_cursor.specs.Refusals.{refusal_of}
 use Rattle.sql_grammar.specs.Numbering.{Built}
 use Rattle.schema_read.specs.declared.fault.SchemaFault.{SchemaFault}
 use Rattle.schema_read.specs.declared.fault.SchemaFault.TheVariants as schema_refusal

@@ -2,8 +2,8 @@
 use Rattle.std.proofs.Common.{◌≡◌, ℕ, List, ◌∷◌, [], Option, refl, sym, ◌∙◌, subst, inl, inr, codes, String}
 use Rattle.std.specs.declared.alloc.Global.{Global}
 use Rattle.udp_io.specs.Writing.{Grows}
-use Rattle.sql_read.specs.declared.fault.ReadFault.{ReadFault}
-use Rattle.sql_read.specs.declared.fault.ReadFault.TheVariants as read
+use Rattle.sql_cursor.specs.declared.fault.ReadFault.{ReadFault}
+use Rattle.sql_cursor.specs.declared.fault.ReadFault.TheVariants as read
 use Rattle.schema_read.specs.declared.fault.SchemaFault.TheVariants as schema
 use Rattle.scope_core.specs.declared.fault.ScopeFault.TheVariants as scope
 use Rattle.sql_to_u.specs.declared.fault.TermFault.{TermFault}

@@ -15,9 +15,9 @@ use Rattle.sql_model.specs.declared.schema.Schema.{Schema as TheSchema}
 use Rattle.sql_grammar.specs.Kinds.{kind_of}
 use Rattle.sql_grammar.specs.Numbering.{Built, Numbers}
 use Rattle.sql_grammar.specs.QueryLookahead.{table}
-use Rattle.sql_read.specs.declared.fault.LimitKind.TheVariants as limit
 use Rattle.sql_read.specs.ReadingTexts.{Passes, TextLimit, count_limit, depth_limit, keeping}
-use Rattle.sql_read.specs.declared.fault.ReadFault.TheVariants as read_refusal
+use Rattle.sql_cursor.specs.declared.fault.LimitKind.TheVariants as limit
+use Rattle.sql_cursor.specs.declared.fault.ReadFault.TheVariants as read_refusal
 use Rattle.schema_read.specs.declared.fault.SchemaFault.{SchemaFault}
 use Rattle.schema_read.specs.declared.fault.SchemaFault.TheVariants as schema_refusal
 use Rattle.schema_read.specs.Builds.{Builds, schema_fault}

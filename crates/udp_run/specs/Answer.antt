@@ -4,8 +4,6 @@ use Rattle.std.specs.Fmt.{decimal}
 use Rattle.std.specs.declared.alloc.Global.{Global}
 use Rattle.sql_model.specs.declared.schema.Schema.{Schema}
 use Rattle.sql_model.specs.Equivalent.{Equivalent}
-use Rattle.sql_read.specs.declared.fault.LimitKind.{LimitKind}
-use Rattle.sql_read.specs.declared.fault.ReadFault.TheVariants as read_refusal
 use Rattle.scope_core.specs.WellFormed.{SchemaWellFormed, WellFormed}
 use Rattle.sql_to_u.specs.Limits.{IsCause as IsSizeCause}
 use Rattle.case_core.specs.declared.fault.CaseFault.{CaseFault}

@@ -1,6 +1,6 @@
 -- How large texts may be.
 use Rattle.std.specs.Prelude.{ℕ}
-use Rattle.sql_read.specs.Cursor.{most_bytes}
+use Rattle.sql_cursor.specs.Cursor.{most_bytes}
 
 -- bytes of a case
 abbrev pub most_case_bytes : ℕ

@@ -3,10 +3,10 @@ use Rattle.std.specs.Prelude.{ℕ, List, [], ◌∷◌, ◌++◌, codes}
 use Rattle.std.specs.Fmt.{decimal}
 use Rattle.sql_lex.specs.declared.token.LexCode.{LexCode}
 use Rattle.sql_lex.specs.declared.token.LexCode.TheVariants as lex
-use Rattle.sql_read.specs.declared.fault.LimitKind.{LimitKind}
-use Rattle.sql_read.specs.declared.fault.LimitKind.TheVariants as limit
-use Rattle.sql_read.specs.declared.fault.ReadFault.{ReadFault}
-use Rattle.sql_read.specs.declared.fault.ReadFault.TheVariants as read
+use Rattle.sql_cursor.specs.declared.fault.LimitKind.{LimitKind}
+use Rattle.sql_cursor.specs.declared.fault.LimitKind.TheVariants as limit
+use Rattle.sql_cursor.specs.declared.fault.ReadFault.{ReadFault}
+use Rattle.sql_cursor.specs.declared.fault.ReadFault.TheVariants as read
 use Rattle.schema_read.specs.declared.fault.SchemaCode.{SchemaCode}
 use Rattle.schema_read.specs.declared.fault.SchemaCode.TheVariants as of_schema
 use Rattle.schema_read.specs.declared.fault.SchemaFault.{SchemaFault}

@@ -8,7 +8,7 @@ use case_core::{CaseFault, TermFault};
 use proof_check::ProofFault;
 use schema_read::SchemaFault;
 use scope_core::ScopeFault;
-use sql_read::ReadFault;
+use sql_cursor::ReadFault;
 use std::alloc::{AllocError, Global};
 
 /// How a run ended.

@@ -6,9 +6,9 @@ use case_core::{CaseFault, LimitKind as SizeKind, TermFault};
 use proof_check::{LimitKind as ProofLimit, ProofFault};
 use schema_read::{SchemaCode, SchemaFault};
 use scope_core::{ScopeCode, ScopeFault};
+use sql_cursor::{LimitKind, ReadFault};
 use sql_lex::LexCode;
 use sql_model::Name;
-use sql_read::{LimitKind, ReadFault};
 use std::alloc::{AllocError, Global};
 
 // What is refused, and where.

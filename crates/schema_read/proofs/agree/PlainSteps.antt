@@ -3,9 +3,9 @@ use Rattle.std.proofs.Common.{◌≡◌, ℕ, ◌-◌, ◌<◌, Bool, true, fals
 use Rattle.grammar.specs.Form.{alt, empty, map, nest, seq, star, token}
 use Rattle.grammar.proofs.readers.Predictions.{ahead, ok}
 use Rattle.sql_lex.specs.Lexemes.{Lexeme}
-use Rattle.sql_read.specs.Cursor.{Cursor}
-use Rattle.sql_read.specs.Eating.{Passes, is_next}
-use Rattle.sql_read.specs.Reading.{Reader, Reading, ◌>>=◌, done, eaten, expected}
+use Rattle.sql_cursor.specs.Cursor.{Cursor}
+use Rattle.sql_cursor.specs.Eating.{Passes, is_next}
+use Rattle.sql_cursor.specs.Readers.{Reader, Reading, ◌>>=◌, done, eaten, expected}
 use Rattle.sql_read.specs.Reads.{Builds, Takes}
 use Rattle.sql_grammar.specs.declared.kinds.Kind.{Kind}
 use Rattle.sql_grammar.specs.Numbering.{plain}
@@ -17,7 +17,7 @@ use Rattle.sql_read.proofs.steps.AgreeLoops.{next_behind, next_of}
 use Rattle.sql_read.proofs.steps.Agreeing as steps
 use Rattle.sql_read.proofs.steps.Agreeing.{Agrees, Residual, ends_by, makes}
 use Rattle.sql_read.proofs.steps.AgreeSteps.{one_by_one, token_agrees}
-use Rattle.sql_read.proofs.steps.Extending.{extends_itself, extends_passes}
+use Rattle.sql_cursor.proofs.code.Extending.{extends_itself, extends_passes}
 use Rattle.sql_read.proofs.steps.ReadLoops.{Begins, repeated_end}
 use Rattle.sql_read.proofs.steps.ReadPassing.{Alike, ◌then◌, alike_passes}
 use Rattle.sql_read.proofs.steps.ReadSteps.{absent_unless, begins_with, built_as, built_plain, took_nothing, took_token}

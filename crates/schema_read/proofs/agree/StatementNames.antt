@@ -3,14 +3,15 @@ use Rattle.std.proofs.Common.{◌≡◌, ℕ, ◌-◌, ◌<◌, List, [], ◌∷
 use Rattle.grammar.specs.Productions.{optional, then_skip}
 use Rattle.sql_lex.specs.Lexemes.{Lexeme}
 use Rattle.sql_model.specs.declared.statement.NameAt.{NameAt}
-use Rattle.sql_read.specs.Cursor.{Cursor}
-use Rattle.sql_read.specs.Eating.{PassesWithin}
-use Rattle.sql_read.specs.Reading.{Reading, comma, expected}
+use Rattle.sql_cursor.specs.Cursor.{Cursor}
+use Rattle.sql_cursor.specs.Eating.{PassesWithin}
+use Rattle.sql_read.specs.Reading.{comma}
+use Rattle.sql_cursor.specs.Readers.{Reading, expected}
 use Rattle.sql_grammar.specs.declared.kinds.Kind.TheVariants as k
 use Rattle.sql_grammar.specs.Kinds.{among, name_kinds, same}
 use Rattle.sql_grammar.specs.Numbering.{plain}
 use Rattle.sql_grammar.specs.QueryGrammar as query
-use Rattle.sql_grammar.specs.QueryGrammar.{a}
+use Rattle.sql_grammar.specs.QueryGrammar.{a, most_separators}
 use Rattle.sql_read.proofs.steps.AgreeLoops.{parts_repeat, skipped_word}
 use Rattle.sql_read.proofs.steps.AgreeSteps.{by_eaten_alone}
 use Rattle.sql_read.proofs.steps.Agreeing as steps
@@ -39,7 +40,7 @@ listed_names_agrees levels c = first_then (name c) (name_agrees levels c) _ whol
     parts_repeat mid query.name (λ comma x. x) (same k.Comma) (λ others. (v, others)) (Listed levels c) comma (λ room now word mid. PassesWithin (same k.Comma) room now word mid) (λ room now word mid i. skipped_word refl i)
     (λ room now go. by_eaten_alone (Listed levels c) k.Comma now room go) refl (begins_skip (same k.Comma) query.name) refl name (name_agrees levels) (λ names comma x. names ++ x ∷ []) (λ done. plain (t.names (v, done)))
     (λ done comma x. record { numbers = λ n. ap (λ z. (t.named v ∷ z, n)) (named_more done x); copies = refl }) (λ done. refl) (λ fault end stopped. stopped)
-    (λ done names now made first none takes on. steps.built steps.whole (v, done) takes on made) 255 (t.named v ∷ []) (plainly refl l.alike) l.residual)
+    (λ done names now made first none takes on. steps.built steps.whole (v, done) takes on made) most_separators (t.named v ∷ []) (plainly refl l.alike) l.residual)
 
 pub names_behind_agrees : (levels : ℕ) (c : Cursor) → Spells (then_skip (query.listed query.name) (a k.Close)) levels t.names c (names_behind c)
 unfolding names_behind

@@ -8,9 +8,10 @@ use Rattle.sql_model.specs.declared.statement.NameAt.{NameAt}
 use Rattle.sql_model.specs.declared.statement.Statement.TheVariants as statement
 use Rattle.sql_model.specs.declared.statement.TableRule.{TableRule}
 use Rattle.sql_model.specs.declared.tree.Query.{Query}
-use Rattle.sql_read.specs.Cursor.{Cursor}
-use Rattle.sql_read.specs.Eating.{is_next}
-use Rattle.sql_read.specs.Reading.{Reader, Reading, ◌>>=◌, at, done, expected, query as read_query}
+use Rattle.sql_cursor.specs.Cursor.{Cursor}
+use Rattle.sql_cursor.specs.Eating.{is_next}
+use Rattle.sql_read.specs.Reading.{at, query as read_query}
+use Rattle.sql_cursor.specs.Readers.{Reader, Reading, ◌>>=◌, done, expected, accepted}
 use Rattle.sql_grammar.specs.declared.kinds.Kind.{Kind}
 use Rattle.sql_grammar.specs.declared.kinds.Kind.TheVariants as k
 use Rattle.sql_grammar.specs.Kinds.{among, same}
@@ -149,7 +150,7 @@ module _ (levels : ℕ) (some : 0 < levels) where
   index_parts = seq (optional (a k.Unique)) (seq (skip_then (a k.Index) a_name) (seq (skip_then (a k.On) a_name) g.names))
 
   unique_word_agrees : (c : Cursor) → Spells (optional (a k.Unique)) levels (λ v. is_given v) c (unique_word c)
-  unfolding unique_word
+  unfolding accepted
   unique_word_agrees c = either (same k.Unique) _ whole refl refl refl (λ t i. inr (t, refl, i)) (λ word mid i l. token_read (mapped l) i refl) (λ l. no_more (mapped l) refl)
 
   -- a name behind a word

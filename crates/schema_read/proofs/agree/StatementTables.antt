@@ -4,22 +4,23 @@ use Rattle.std.proofs.Common.{◌≡◌, ◌≢◌, ℕ, ◌+◌, ◌-◌, ◌�
 use Rattle.std.proofs.lemmas.List.{append-nil}
 use Rattle.std.proofs.lemmas.Bool.{eqb-false, eqb-true}
 use Rattle.sql_lex.specs.Lexemes.{Lexeme}
-use Rattle.sql_read.specs.declared.fault.LimitKind.TheVariants as limit
-use Rattle.sql_read.specs.declared.fault.ReadFault.{ReadFault}
-use Rattle.sql_read.specs.declared.fault.ReadFault.TheVariants.{Limit, TooDeep}
-use Rattle.sql_read.specs.Cursor.{Cursor}
-use Rattle.sql_read.specs.Eating.{Extends, Misses, PassesWithin, is_next}
-use Rattle.sql_read.specs.Reading.{Reading, comma, expected}
+use Rattle.sql_cursor.specs.declared.fault.LimitKind.TheVariants as limit
+use Rattle.sql_cursor.specs.declared.fault.ReadFault.{ReadFault}
+use Rattle.sql_cursor.specs.declared.fault.ReadFault.TheVariants.{Limit, TooDeep}
+use Rattle.sql_cursor.specs.Cursor.{Cursor}
+use Rattle.sql_cursor.specs.Eating.{Extends, Misses, PassesWithin, is_next}
+use Rattle.sql_read.specs.Reading.{comma}
+use Rattle.sql_cursor.specs.Readers.{Reading, expected}
 use Rattle.sql_read.specs.Reads.{TakesWithin, columns_too, few_form}
-use Rattle.sql_read.specs.Refusals.{refusal}
+use Rattle.sql_cursor.specs.Refusals.{refusal}
 use Rattle.sql_grammar.specs.declared.kinds.Kind.TheVariants as k
 use Rattle.sql_grammar.specs.Kinds.{among, name_kinds, same}
 use Rattle.sql_grammar.specs.Numbering.{plain}
-use Rattle.sql_grammar.specs.QueryGrammar.{a, name as a_name, parens}
+use Rattle.sql_grammar.specs.QueryGrammar.{a, name as a_name, parens, most_separators}
 use Rattle.sql_read.proofs.steps.AgreeSteps.{by_eaten_alone, none_here}
 use Rattle.sql_read.proofs.steps.AgreeLoops.{repeats, skipped_word}
 use Rattle.sql_read.proofs.steps.Agreeing.{StopsIn, by_next, by_read, missing}
-use Rattle.sql_read.proofs.steps.Extending.{◌⨟◌, extends_itself}
+use Rattle.sql_cursor.proofs.code.Extending.{◌⨟◌, extends_itself}
 use Rattle.sql_read.proofs.steps.ReadCopies.{at_start, on_one, on_other}
 use Rattle.sql_read.proofs.steps.ReadLoops.{begins_skip}
 use Rattle.sql_read.proofs.steps.ReadPassing.{Alike, alike_within, ◌then◌, first_unless, handed_on, misses, other_where}
@@ -97,7 +98,7 @@ module _ (levels : ℕ) (some : 0 < levels) where
         (λ n. behind n (length before.columns == most_columns) refl)
       where
         behind : is_next (among constraint_kinds) c.tokens ≡ false → (b : Bool) → (length before.columns == most_columns) ≡ b → Element ((if b then no_column else column before) c)
-        behind n true e = let full : length before.columns ≡ 32 = eqb-true (length before.columns) most_columns e in by_next Element (among name_kinds) c (too_many n full) (λ i. none_there n full (missing i))
+        behind n true e = let full : length before.columns ≡ most_columns = eqb-true (length before.columns) most_columns e in by_next Element (among name_kinds) c (too_many n full) (λ i. none_there n full (missing i))
         behind n false e = let t = column_agrees levels some before c in record {
           reads = reads_more with_columns (handed_on (first_unless (among constraint_kinds) steps.whole refl refl n) t.reads);
           columns = element_column (length before.columns) (fewer (eqb-false (length before.columns) most_columns e)) n t.reads;
@@ -105,7 +106,7 @@ module _ (levels : ℕ) (some : 0 < levels) where
           extends = t.extends;
         }
           where
-            fewer : length before.columns ≢ 32 → length before.columns < 32
+            fewer : length before.columns ≢ most_columns → length before.columns < most_columns
             fewer i = omega (arith, few, i)
 
   -- ---- the elements of a table
@@ -176,7 +177,7 @@ module _ (levels : ℕ) (some : 0 < levels) where
         (λ done x now i absent n takes on. at_end read.read i n takes on)
         (λ done x now i continues room word here q s again go. by_read Listed (Element x i.few here) (element x here) again (element_agrees x i.few here)
         (λ z after w. go w.reads.answers.read z after w.reads.answers.takes w.extends (one_more read.read i q z after w)) (in_element read.read i q s))
-        255 [] y mid (record {
+        most_separators [] y mid (record {
           join = λ others. (read.read, others);
           joins = λ others. refl;
           counted = narrow_first one l.counted;

@@ -10,12 +10,12 @@ use Rattle.grammar.proofs.readers.Repetitions.{repeated_within}
 use Rattle.grammar.proofs.readers.Steps.{IsWithin}
 use Rattle.sql_lex.specs.Lexemes.{Lexeme}
 use Rattle.sql_model.specs.declared.statement.Statement.{Statement}
-use Rattle.sql_read.specs.declared.fault.LimitKind.TheVariants as limit
-use Rattle.sql_read.specs.declared.fault.ReadFault.{ReadFault}
-use Rattle.sql_read.specs.declared.fault.ReadFault.TheVariants.{Limit, NoMemory}
-use Rattle.sql_read.specs.Cursor.{Cursor}
-use Rattle.sql_read.specs.Eating.{Extends, is_next}
-use Rattle.sql_read.specs.Reading.{Gives, Reader, Reading, expected}
+use Rattle.sql_cursor.specs.declared.fault.LimitKind.TheVariants as limit
+use Rattle.sql_cursor.specs.declared.fault.ReadFault.{ReadFault}
+use Rattle.sql_cursor.specs.declared.fault.ReadFault.TheVariants.{Limit, NoMemory}
+use Rattle.sql_cursor.specs.Cursor.{Cursor}
+use Rattle.sql_cursor.specs.Eating.{Extends, is_next}
+use Rattle.sql_cursor.specs.Readers.{Gives, Reader, Reading, expected}
 use Rattle.sql_read.specs.Reads.{Builds, columns_too, few_form, relations_too}
 use Rattle.sql_grammar.specs.declared.kinds.Kind.TheVariants as k
 use Rattle.sql_grammar.specs.Kinds.{same}
@@ -25,7 +25,7 @@ use Rattle.sql_grammar.specs.QueryGrammar.{The, a}
 use Rattle.sql_grammar.proofs.queries.QueryTable.{left_factored}
 use Rattle.sql_read.proofs.agree.AgreeAll.{by_given}
 use Rattle.sql_read.proofs.steps.Agreeing.{by_next, by_read}
-use Rattle.sql_read.proofs.steps.Extending.{◌⨟◌, extends_itself}
+use Rattle.sql_cursor.proofs.code.Extending.{◌⨟◌, extends_itself}
 use Rattle.sql_read.proofs.parts.ReadChains.{built_by, built_each, each_more_copies}
 use Rattle.sql_read.proofs.steps.ReadCopiedSteps.{on_last, on_next_taken}
 use Rattle.sql_read.proofs.steps.ReadCopies.{Going, at_start, on_mapped}
@@ -34,7 +34,7 @@ use Rattle.sql_read.proofs.steps.ReadPassing.{built_from, built_until}
 use Rattle.sql_read.proofs.steps.ReadSteps as steps
 use Rattle.sql_read.proofs.steps.ReadSteps.{LeftOf, absent_unless, plain_here, refuses}
 use Rattle.sql_read.specs.Copied.{CopiesSoFar}
-use Rattle.schema_read.specs.Counting.{Counts, few_left_factored, narrowly}
+use Rattle.schema_read.specs.Counting.{Counts, few_factored_statements, narrowly}
 use Rattle.schema_read.specs.StatementGrammar as g
 use Rattle.schema_read.specs.StatementGrammar.{ended}
 use Rattle.schema_read.specs.StatementLimits.{most_further_columns, most_relations}
@@ -94,7 +94,7 @@ ended_agrees c =
 -- what a reading of statements comes to
 pub record AllAgree (start : Cursor) (r : Reading (List Statement)) : Type 0 where
   pub agrees : Agrees relations_too g.statements (free (g.statements_with narrowly)) most_levels (λ read. read) start start r
-  pub relations : Counts limit.Relations g.statements few_left_factored start r.0 r.1
+  pub relations : Counts limit.Relations g.statements few_factored_statements start r.0 r.1
 
 ended_within : IsWithin (free ended) (free narrow_ended)
 ended_within = below_within (ended_below most_further_columns)
@@ -119,7 +119,7 @@ record Stating (start : Cursor) (room : ℕ) (list : List Statement) (now : Curs
   join : List (Built Statement) → List (Built Statement)
   residual : LeftOf relations_too (star None ended) most_levels now.tokens g.statements (few_form g.statements) most_levels start.tokens (all_of join)
   columns : Rest (star None ended) (star None narrow_ended) now.tokens g.statements (free (g.statements_with narrowly)) start.tokens (all_of join)
-  relations : RestOf (star None ended) (few_ended room) now.tokens g.statements few_left_factored start.tokens (all_of join)
+  relations : RestOf (star None ended) (few_ended room) now.tokens g.statements few_factored_statements start.tokens (all_of join)
   going : Going (star None ended) now.tokens g.statements start.tokens (all_of join)
   done_so_far : List (Built Statement)
   same_done : (more : List (Built Statement)) → join more ≡ done_so_far ++ more
@@ -131,7 +131,7 @@ stating start = record {
   join = λ more. more;
   residual = steps.mapped steps.whole;
   columns = rest_mapped whole_rest;
-  relations = record { residual = r.left_map left_factored _ _ start.tokens (λ read. each read) (star None ended) (few_ended most_relations) start.tokens (λ read. read) (r.residual_whole (free g.statements) few_left_factored start.tokens) };
+  relations = record { residual = r.left_map left_factored _ _ start.tokens (λ read. each read) (star None ended) (few_ended most_relations) start.tokens (λ read. read) (r.residual_whole (free g.statements) few_factored_statements start.tokens) };
   going = on_mapped at_start;
   done_so_far = [];
   same_done = λ more. refl;

@@ -19,11 +19,11 @@ use Rattle.sql_grammar.specs.Numbering.{Built}
 use Rattle.sql_grammar.specs.QueryGrammar.{The}
 use Rattle.sql_grammar.proofs.lists.EveryKind.{every_kind_is_there}
 use Rattle.sql_grammar.proofs.queries.QueryTable.{left_factored}
-use Rattle.sql_read.specs.declared.fault.ReadFault.{ReadFault}
-use Rattle.sql_read.specs.declared.fault.ReadFault.TheVariants.{Limit, TooDeep}
-use Rattle.sql_read.specs.declared.fault.LimitKind.TheVariants as limit
-use Rattle.sql_read.specs.Cursor.{Cursor}
-use Rattle.sql_read.specs.Eating.{Overflows, PassesWithin, Stays, is_next}
+use Rattle.sql_cursor.specs.declared.fault.ReadFault.{ReadFault}
+use Rattle.sql_cursor.specs.declared.fault.ReadFault.TheVariants.{Limit, TooDeep}
+use Rattle.sql_cursor.specs.declared.fault.LimitKind.TheVariants as limit
+use Rattle.sql_cursor.specs.Cursor.{Cursor}
+use Rattle.sql_cursor.specs.Eating.{Overflows, PassesWithin, Stays, is_next}
 use Rattle.sql_read.specs.Reads.{columns_too, few_form, Reads, Refuses, RefusesWithin, allowed}
 use Rattle.sql_read.proofs.steps.ReadSteps.{absent_unless, same_taken, absent_where, entries_within}
 use Rattle.schema_read.specs.Counting.{RefusesCounted, TakesCounted, element_behind, narrowly, Counts}
@@ -86,10 +86,10 @@ comma_at count = go (fits count) refl
   where
     go : (b : Bool) → fits count ≡ b → Comma (behind b (fewer count) (left count)) (few (left count))
     go true e =
-        let less : count < 32 = ltb-true count 32 e in let room : suc (fewer count) ≡ left count = omega (arith, less) in
+        let less : count < most_columns = ltb-true count most_columns e in let room : suc (fewer count) ≡ left count = omega (arith, less) in
         subst (λ z. Comma (behind true (fewer count) z) (few z)) room (one_column column_prefixes rule_prefixes (fewer count))
     go false e =
-        let full : 32 ≤ count = ltb-false count 32 e in let room : zero ≡ left count = omega (arith, full) in
+        let full : most_columns ≤ count = ltb-false count most_columns e in let room : zero ≡ left count = omega (arith, full) in
         subst (λ z. Comma (behind false (fewer count) z) (few z)) room (no_column column_prefixes rule_prefixes (fewer count))
 
 -- ---- the loop
@@ -209,7 +209,7 @@ module _ {start here : Cursor} {count : ℕ} {join : List Elements → Elements 
         more_as v after (count + 1) (ap (λ n. count + n) one) (has_room (fits count) refl s) (column_taken (fits count) element_left v after taken w s i)
       where
         has_room : (b : Bool) → fits count ≡ b → (allowed b (free g.column)).spells taken v → count + 1 ≤ most_columns
-        has_room true e s = let less : count < 32 = ltb-true count 32 e in omega (arith, less)
+        has_room true e s = let less : count < most_columns = ltb-true count most_columns e in omega (arith, less)
         has_room false e s = absurd s
     element_taken n v after taken w (inr s) i =
         let none : length v.columns ≡ 0 = in_rule taken v ((known_includes None g.constraint).spells taken v s) in
@@ -303,12 +303,12 @@ module _ {X : Type 0} {levels : ℕ} {k : Elements → Built X} {s b : Cursor} {
   unfolding element_behind
   element_rule count n t = part_counted (rule_left s.tokens (fits count) n) t
 
-  pub element_column : (count : ℕ) → count < 32 → is_next (among constraint_kinds) s.tokens ≡ false → Reads g.column levels k s s result b → Counts limit.Columns g.element (element_behind count) s result b
+  pub element_column : (count : ℕ) → count < most_columns → is_next (among constraint_kinds) s.tokens ≡ false → Reads g.column levels k s s result b → Counts limit.Columns g.element (element_behind count) s result b
   unfolding element_behind
   element_column count room n t =
-      subst (λ z. Counts limit.Columns g.element (element_if z) s result b) (sym (lt-ltb count 32 room)) (part_counted (column_left s.tokens true n) t)
+      subst (λ z. Counts limit.Columns g.element (element_if z) s result b) (sym (lt-ltb count most_columns room)) (part_counted (column_left s.tokens true n) t)
 
-pub element_full : (count : ℕ) {s : Cursor} {fault : ReadFault} → count ≡ 32 → is_next (among constraint_kinds) s.tokens ≡ false → RefusesCounted limit.Columns g.column no_language s fault s
+pub element_full : (count : ℕ) {s : Cursor} {fault : ReadFault} → count ≡ most_columns → is_next (among constraint_kinds) s.tokens ≡ false → RefusesCounted limit.Columns g.column no_language s fault s
     → RefusesCounted limit.Columns g.element (element_behind count) s fault s
 unfolding element_behind
 element_full count {s = s} {fault = fault} e n t =

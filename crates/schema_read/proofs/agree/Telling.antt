@@ -2,11 +2,11 @@
 use Rattle.std.proofs.Common.{ℕ, List, Result, Ok, Err}
 use Rattle.grammar.specs.Language.{Language}
 use Rattle.sql_lex.specs.Lexemes.{Lexeme}
-use Rattle.sql_read.specs.declared.fault.ReadFault.{ReadFault}
-use Rattle.sql_read.specs.declared.fault.ReadFault.TheVariants.{TooDeep, Limit, NoMemory}
-use Rattle.sql_read.specs.declared.fault.LimitKind.{LimitKind}
-use Rattle.sql_read.specs.declared.fault.LimitKind.TheVariants as limit
-use Rattle.sql_read.specs.Cursor.{Cursor}
+use Rattle.sql_cursor.specs.declared.fault.ReadFault.{ReadFault}
+use Rattle.sql_cursor.specs.declared.fault.ReadFault.TheVariants.{TooDeep, Limit, NoMemory}
+use Rattle.sql_cursor.specs.declared.fault.LimitKind.{LimitKind}
+use Rattle.sql_cursor.specs.declared.fault.LimitKind.TheVariants as limit
+use Rattle.sql_cursor.specs.Cursor.{Cursor}
 use Rattle.sql_read.specs.Reads.{GivesWithin, ReadsWithin, RefusesWithin, SaysLimit, TakesWithin, TellsColumns, TellsEntries, TellsRelations, Told, columns_too, entries_too, relations_too}
 use Rattle.sql_grammar.specs.Numbering.{Built}
 use Rattle.sql_grammar.specs.QueryGrammar.{The}

@@ -2,7 +2,7 @@
 use Rattle.std.proofs.Common.{◌≡◌, ◌≤◌, ◌<◌, ◌^◌, ◌+◌, ℕ, List, [], ◌∷◌, ◌++◌, length, length-append, Some, None, Result, Ok, Err, refl, sym, ap, subst, arith}
 use Rattle.std.specs.Prelude.{IfErr, IfOk, OnOk}
 use Rattle.data_model.specs.Lists.{Each}
-use Rattle.grammar.specs.Form.{Room, IsRoomier, form_language, language}
+use Rattle.grammar.specs.Form.{Room, IsRoomier, language}
 use Rattle.grammar.specs.Language.{Includes, Language, map_language, upto_language}
 use Rattle.grammar.specs.Reading.{Took}
 use Rattle.grammar.proofs.languages.Forms.{form_grows, includes_through, map_in, repeated_grows, form_prefixes}
@@ -12,24 +12,24 @@ use Rattle.grammar.proofs.readers.Steps.{IsWithin, Same, took_in, map_within}
 use Rattle.sql_lex.specs.Lexemes.{Lexeme}
 use Rattle.sql_model.specs.declared.statement.Statement.{Statement}
 use Rattle.sql_model.specs.declared.statement.Statement.TheVariants as statement
-use Rattle.sql_read.specs.declared.fault.ReadFault.{ReadFault}
-use Rattle.sql_read.specs.declared.fault.LimitKind.{LimitKind}
-use Rattle.sql_read.specs.declared.fault.LimitKind.TheVariants as limit
-use Rattle.sql_read.specs.Cursor.{Cursor, most_tokens}
+use Rattle.sql_cursor.specs.declared.fault.ReadFault.{ReadFault}
+use Rattle.sql_cursor.specs.declared.fault.LimitKind.{LimitKind}
+use Rattle.sql_cursor.specs.declared.fault.LimitKind.TheVariants as limit
+use Rattle.sql_cursor.specs.Cursor.{Cursor, most_tokens}
 use Rattle.sql_grammar.specs.Numbering.{Built, each}
 use Rattle.sql_grammar.specs.Kinds.{kind_of}
 use Rattle.sql_grammar.specs.Queries.{most_levels}
 use Rattle.sql_grammar.specs.QueryCopies.{most_copies}
-use Rattle.sql_grammar.specs.QueryEntries.{few_rules, most_further}
+use Rattle.sql_grammar.specs.QueryEntries.{few_of_form, few_rules, most_further}
 use Rattle.sql_grammar.specs.QueryGrammar.{Production, The}
 use Rattle.sql_grammar.specs.FactoredQueries.{few_factored, in_factored}
 use Rattle.sql_read.specs.Reads.{GivesWithin, few_form, relations_too}
 use Rattle.sql_grammar.proofs.entries.FewFactored.{few_factored_includes, few_rules_include}
 use Rattle.schema_read.specs.Declarations.{IsSmall}
-use Rattle.schema_read.specs.Counting.{TakesCounted, few_left_factored, narrowly}
+use Rattle.schema_read.specs.Counting.{TakesCounted, few_factored_statements, narrowly}
 use Rattle.schema_read.specs.ReadingStatements.{IsRead, IsRefused, texts}
 use Rattle.schema_read.specs.StatementGrammar as g
-use Rattle.schema_read.specs.StatementLimits.{column_count, most_further_columns, most_relations, rule_count, within, few_columns}
+use Rattle.schema_read.specs.StatementLimits.{column_count, most_further_columns, most_relations, rule_count, within, few_columns, most_columns}
 use Rattle.schema_read.specs.Statements.{OfStatements}
 use Rattle.schema_read.proofs.counts.CopiedParts.{keeps_copies}
 use Rattle.schema_read.proofs.counts.StatementCopies.{statement_costs}
@@ -54,7 +54,7 @@ few_names_back small large w p =
 
 -- a form, where the names of queries have the languages with few entries
 abbrev pub few_grammar : {A : Type 0} → The A → Language Lexeme A
-few_grammar f = form_language kind_of (language kind_of (few_rules most_further)) None f
+few_grammar f = few_of_form most_further f
 
 -- over the left-factored grammar it is the same
 pub few_there : {A : Type 0} (f : The A) → Includes (few_grammar f) (few_form f)
@@ -71,7 +71,7 @@ few_back f = form_grows kind_of (language kind_of (few_rules most_further)) (lan
 abbrev pub left_factored_within : LimitKind → OfStatements
 left_factored_within limit.Columns = in_factored None (g.statements_with narrowly)
 left_factored_within limit.Entries = few_form g.statements
-left_factored_within limit.Relations = few_left_factored
+left_factored_within limit.Relations = few_factored_statements
 left_factored_within limit.Copies = in_factored None g.statements
 
 pub few_included : {L M : Language Lexeme (Built Statement)} → Includes M L
@@ -92,12 +92,12 @@ closed limit.Copies = (form_has_prefixes None g.statements).shorter
 
 -- ---- sizes
 
-one_small : (n : ℕ) (s : Statement) → n < 2 ^ 31 → column_count s ≤ 32 → rule_count s ≤ n → IsSmall s
+one_small : (n : ℕ) (s : Statement) → n < 2 ^ 31 → column_count s ≤ most_columns → rule_count s ≤ n → IsSmall s
 one_small n (statement.Table name columns rules) i c r = (c, omega (arith, i, r))
 one_small n (statement.View name query) i c r = tt
 one_small n (statement.Index name unique on columns) i c r = tt
 
-all_small : (n : ℕ) (list : List Statement) → n < 2 ^ 31 → Each (λ s. column_count s ≤ 32) list → Each (λ s. rule_count s ≤ n) list → Each IsSmall list
+all_small : (n : ℕ) (list : List Statement) → n < 2 ^ 31 → Each (λ s. column_count s ≤ most_columns) list → Each (λ s. rule_count s ≤ n) list → Each IsSmall list
 all_small n [] i c r = tt
 all_small n (s ∷ list) i c r = (one_small n s i c.0 r.0, all_small n list i c.1 r.1)
 
@@ -108,7 +108,7 @@ abbrev pub GivesAll : Cursor → List Statement → Cursor → Type 0
 GivesAll before list after = GivesWithin relations_too g.statements (few_form g.statements) most_levels (λ read. read) before before list after
 
 -- statements that were read fit the numbers of a schema
-taken_small : {before after : Cursor} {list : List Statement} → GivesAll before list after → Each (λ s. column_count s ≤ 32) list
+taken_small : {before after : Cursor} {list : List Statement} → GivesAll before list after → Each (λ s. column_count s ≤ most_columns) list
     → length before.tokens < 2 ^ 31 → Each IsSmall list
 taken_small {before} {after} {list} s narrow i =
     let t = took_in _ _ _ _ (whole.free_same texts) (whole.shallow_same texts) before.tokens s.read after.tokens s.takes.took in
@@ -138,7 +138,7 @@ module _ {before after : Cursor} {list : List Statement} (t : AllAgree before (O
   taken_within limit.Relations = counted_taken limit.Relations (map_within kind_of (λ read. each read) _ _ (few_within most_relations)) t.relations.answers
   taken_within limit.Copies = free_taken
 
-  pub few_read : length list ≤ 256
+  pub few_read : length list ≤ most_relations
   few_read = let u = taken_within limit.Relations in few most_relations before.numbers after.numbers u.taken list (s.read, (within_same limit.Relations).there.spells u.taken s.read u.spelled, s.builds.numbers)
 
   pub small_read : length before.tokens < 2 ^ 31 → Each IsSmall list
@@ -166,7 +166,7 @@ refused_whole {before} {after} most fault t =
 -- ---- what is handed on
 
 module _ {before after : Cursor} where
-  pub few_if_read : (result : Result (List Statement) ReadFault) → AllAgree before (result, after) → IfOk result (λ list. length list ≤ 256)
+  pub few_if_read : (result : Result (List Statement) ReadFault) → AllAgree before (result, after) → IfOk result (λ list. length list ≤ most_relations)
   few_if_read (Ok list) t = few_read t
   few_if_read (Err fault) t = tt
 

@@ -8,6 +8,7 @@ use Rattle.sql_model.specs.declared.statement.NameAt.{NameAt}
 use Rattle.sql_model.specs.Columns.{same_name}
 use Rattle.sql_model.specs.Syntax.{Name}
 use Rattle.schema_read.specs.Keys.{place_in, places_in}
+use Rattle.schema_read.specs.StatementLimits.{most_columns}
 
 place_low : (columns : List Name) (name : Name) → place_in columns name ≤ length columns
 place_low columns name =
@@ -15,7 +16,7 @@ place_low columns name =
     cond_both (nat_lt found (length columns)) (Some found) None (λ o. unwrap_or o (length columns) ≤ length columns)
     (λ e. let below : found < length columns = ltb-true found (length columns) e in omega (arith, below)) (λ e. omega arith)
 
-pub places_low : (columns : List Name) (names : List NameAt) → length columns ≤ 32 → Each (λ place. place < 64) (places_in columns names)
+pub places_low : (columns : List Name) (names : List NameAt) → length columns ≤ most_columns → Each (λ place. place < 64) (places_in columns names)
 places_low columns [] narrow = tt
 places_low columns (n ∷ names) narrow =
     let low : place_in columns n.name ≤ length columns = place_low columns n.name in

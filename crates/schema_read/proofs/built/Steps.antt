@@ -25,6 +25,7 @@ use Rattle.schema_read.proofs.built.KeyLaws.{sets}
 use Rattle.schema_read.proofs.built.Links.{named_relation}
 use Rattle.schema_read.proofs.built.Places.{places_low}
 use Rattle.schema_read.proofs.built.Entries.{each_push, found_each, set_each}
+use Rattle.schema_read.specs.StatementLimits.{most_columns}
 
 narrow_push : (relations : Relations) (r : Name × Relation) → AreNarrow relations → IsNarrowRelation r.1 → AreNarrow (relations ++ r ∷ [])
 narrow_push = each_push (λ r. IsNarrowRelation r.1)
@@ -55,14 +56,14 @@ narrow_after_index state name unique on columns (Some table) found narrow =
     narrow_index (state.relations ++ (name.name, view) ∷ []) unique on.name (places_in table.columns columns) low (narrow_push state.relations (name.name, view) narrow tt)
 
 -- ---- a table of its own rules
-written_low : (columns : List Name) (rules : List TableRule) → length columns ≤ 32 → Each AreLow (sets (written_keys columns rules))
+written_low : (columns : List Name) (rules : List TableRule) → length columns ≤ most_columns → Each AreLow (sets (written_keys columns rules))
 written_low columns [] few = tt
 written_low columns (rule.Key primary names at ∷ rules) few = (places_low columns names few, written_low columns rules few)
 written_low columns (rule.Foreign names to target ∷ rules) few = written_low columns rules few
 
-pub own_narrow : (number : ℕ) (columns : List NameAt) (rules : List TableRule) → length columns ≤ 32 → IsNarrow (own_table number columns rules)
+pub own_narrow : (number : ℕ) (columns : List NameAt) (rules : List TableRule) → length columns ≤ most_columns → IsNarrow (own_table number columns rules)
 own_narrow number columns rules few =
-    let narrow : length (names_of columns) ≤ 32 = rw (length-map columns) few in
+    let narrow : length (names_of columns) ≤ most_columns = rw (length-map columns) few in
     (narrow, each_key AreLow (written_keys (names_of columns) rules) (written_low (names_of columns) rules narrow))
 
 pub narrow_after : (state : State) (s : Statement) → IsSmall s → AreNarrow state.relations → AreNarrow (after_statement state s).relations

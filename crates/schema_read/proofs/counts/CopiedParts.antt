@@ -6,13 +6,13 @@ use Rattle.grammar.specs.Language.{Includes}
 use Rattle.grammar.proofs.readers.Completing as c
 use Rattle.grammar.proofs.languages.Forms.{includes_through}
 use Rattle.sql_lex.specs.Lexemes.{Lexeme}
-use Rattle.sql_read.specs.declared.fault.LimitKind.TheVariants as limit
-use Rattle.sql_read.specs.declared.fault.ReadFault.{ReadFault}
-use Rattle.sql_read.specs.declared.fault.ReadFault.TheVariants.{Limit, NoMemory}
+use Rattle.sql_cursor.specs.declared.fault.LimitKind.TheVariants as limit
+use Rattle.sql_cursor.specs.declared.fault.ReadFault.{ReadFault}
+use Rattle.sql_cursor.specs.declared.fault.ReadFault.TheVariants.{Limit, NoMemory}
 use Rattle.sql_read.specs.Copied as of_query
 use Rattle.sql_read.specs.Copied.{CopiesSoFar, CopiesTooMuch}
-use Rattle.sql_read.specs.Cursor.{Cursor, next_of}
-use Rattle.sql_read.specs.Reads.{TakesWithin, Told, few_form, of_form}
+use Rattle.sql_cursor.specs.Cursor.{Cursor, next_of}
+use Rattle.sql_read.specs.Reads.{TakesWithin, Told, few_form}
 use Rattle.sql_read.proofs.steps.ReadCopies.{Going, SameCost}
 use Rattle.sql_grammar.specs.Numbering.{Built}
 use Rattle.sql_grammar.specs.QueryCopies.{copies_nothing, most_copies, within_copies}
@@ -26,7 +26,7 @@ use Rattle.schema_read.specs.CopiedStatements.{Copied, CopiedToFault, Says}
 use Rattle.sql_grammar.specs.FactoredQueries.{in_factored}
 use Rattle.sql_grammar.proofs.queries.QueryForms.{known_includes, roomier}
 use Rattle.schema_read.proofs.spelled.Unlimited.{gl}
-use Rattle.sql_read.specs.Eating.{Misses}
+use Rattle.sql_cursor.specs.Eating.{Misses}
 use Rattle.sql_grammar.specs.declared.kinds.Kind.{Kind}
 use Rattle.sql_read.proofs.steps.RefusedNext.{no_limit}
 use Rattle.sql_read.proofs.whole.WholeTexts.{KeepsCopies}
@@ -64,7 +64,7 @@ module _ {A Y : Type 0} {N : The A} {whole : A → Built Y} {start first after :
     pub counted_before : Going f after.tokens N first.tokens h → (e : is_filled f ≡ true) → after.copies ≡ start.copies + (whole (h (filled f e).value)).copies → CopiesSoFar N whole start first after
     counted_before l e i = let b = filled f e in record {
       value = h b.value;
-      up_to = c.left_filled left_factored 0 copies_nothing (of_form None N) first.tokens f after.tokens h l.goes b.value (factored_filled f b.value b.filled);
+      up_to = c.left_filled left_factored 0 copies_nothing (in_factored None N) first.tokens f after.tokens h l.goes b.value (factored_filled f b.value b.filled);
       count = i;
     }
 
@@ -79,7 +79,7 @@ module _ {A Y : Type 0} {N : The A} {whole : A → Built Y} {start first after :
         too_much : CopiesTooMuch f part began before after → CopiesTooMuch N whole start first after
         too_much r = record {
           token = r.token;
-          overspends = c.overspends_from copies_nothing (of_form None f) before.tokens (of_form None N) first.tokens h l.goes (λ v. (part v).copies) (λ v. (whole v).copies) most_copies began.copies start.copies e (r.token ∷ after.tokens) r.overspends;
+          overspends = c.overspends_from copies_nothing (in_factored None f) before.tokens (in_factored None N) first.tokens h l.goes (λ v. (part v).copies) (λ v. (whole v).copies) most_copies began.copies start.copies e (r.token ∷ after.tokens) r.overspends;
         }
 
         by : (fault : ReadFault) → Says f part began before fault after → Says N whole start first fault after

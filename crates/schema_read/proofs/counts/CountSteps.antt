@@ -10,16 +10,16 @@ use Rattle.grammar.proofs.readers.Predictions.{ahead, known, ok}
 use Rattle.grammar.proofs.readers.Residuals as r
 use Rattle.grammar.proofs.readers.Steps.{IsWithin}
 use Rattle.sql_lex.specs.Lexemes.{Lexeme}
-use Rattle.sql_read.specs.declared.fault.ReadFault.{ReadFault}
-use Rattle.sql_read.specs.declared.fault.ReadFault.TheVariants.{TooDeep, Limit, NoMemory}
-use Rattle.sql_read.specs.declared.fault.LimitKind.{LimitKind}
-use Rattle.sql_read.specs.declared.fault.LimitKind.TheVariants as limit
-use Rattle.sql_read.specs.Cursor.{Cursor}
-use Rattle.sql_read.specs.Reads.{Reads, Refuses, RefusesWithin, TakesWithin, Told, TellsEntries, columns_too, few_form, of_form}
+use Rattle.sql_cursor.specs.declared.fault.ReadFault.{ReadFault}
+use Rattle.sql_cursor.specs.declared.fault.ReadFault.TheVariants.{TooDeep, Limit, NoMemory}
+use Rattle.sql_cursor.specs.declared.fault.LimitKind.{LimitKind}
+use Rattle.sql_cursor.specs.declared.fault.LimitKind.TheVariants as limit
+use Rattle.sql_cursor.specs.Cursor.{Cursor}
+use Rattle.sql_read.specs.Reads.{Reads, Refuses, RefusesWithin, TakesWithin, Told, TellsEntries, columns_too, few_form}
 use Rattle.sql_grammar.specs.Kinds.{kind_of}
 use Rattle.sql_grammar.specs.Numbering.{Built}
 use Rattle.sql_grammar.specs.QueryGrammar.{The}
-use Rattle.sql_grammar.specs.FactoredQueries.{factored}
+use Rattle.sql_grammar.specs.FactoredQueries.{factored, in_factored}
 use Rattle.sql_grammar.proofs.queries.QueryTable.{left_factored}
 use Rattle.sql_read.proofs.steps.ReadSteps.{deep_within, entries_within, same_taken}
 use Rattle.schema_read.specs.Counting.{Counts, IsPlaced, RefusesCounted}
@@ -28,7 +28,7 @@ use Rattle.schema_read.proofs.spelled.Unlimited.{Below, gl}
 
 -- a form with no limits, over the left-factored grammar of queries
 abbrev pub free : {A : Type 0} → The A → Language Lexeme A
-free f = of_form None f
+free f = in_factored None f
 
 -- what is spelled by less than a form is within it
 pub below_within : {A : Type 0} {f f' : The A} → Below f' f → IsWithin (free f) (free f')

@@ -13,7 +13,7 @@ use Rattle.sql_grammar.specs.Kinds.{kind_of}
 use Rattle.sql_grammar.specs.Numbering.{each}
 use Rattle.sql_grammar.specs.Queries.{of_production, rules}
 use Rattle.sql_grammar.specs.QueryEntries.{few_rules, most_further}
-use Rattle.sql_grammar.specs.QueryGrammar.{Production, The, a, name}
+use Rattle.sql_grammar.specs.QueryGrammar.{Production, The, a, name, most_separators}
 use Rattle.sql_grammar.proofs.entries.EntryLists.{few_included}
 use Rattle.sql_grammar.proofs.queries.QueryForms.{form_has_prefixes}
 use Rattle.schema_read.specs.StatementTrees as t
@@ -53,7 +53,7 @@ few_entries_included = few_form_included g.statements
 -- ---- few columns
 
 constraints_below : Below constraints g.elements
-constraints_below = below_star None (Some 255) (below_skip_then (a k.Comma) (in_second g.column g.constraint))
+constraints_below = below_star None (Some most_separators) (below_skip_then (a k.Comma) (in_second g.column g.constraint))
 
 next_column_below : Below (skip_then (a k.Comma) g.column) (skip_then (a k.Comma) g.element)
 next_column_below = below_skip_then (a k.Comma) (in_first g.column g.constraint)

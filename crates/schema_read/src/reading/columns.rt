@@ -1,14 +1,14 @@
 //! The rules behind a column.
 ghost use Rattle.std.specs.Prelude.{◌≡◌, ◌∷◌, [], IfOk};
-ghost use Rattle.sql_read.specs.Eating.{Extends};
-ghost use Rattle.sql_read.specs.Reading.{Gives};
+ghost use Rattle.sql_cursor.specs.Eating.{Extends};
+ghost use Rattle.sql_cursor.specs.Readers.{Gives};
 ghost use Rattle.schema_read.specs.StatementReaders as reader;
 
 use super::names::{name, names, names_behind};
 use plain_data::List;
+use sql_cursor::{ReadFault, Tokens, place};
 use sql_grammar::Kind;
 use sql_model::{NameAt, NoMemory, TableRule};
-use sql_read::{ReadFault, Tokens, place};
 use std::alloc::Global;
 
 /// What a rule behind a column begins with.

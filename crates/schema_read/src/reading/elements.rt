@@ -1,7 +1,7 @@
 //! What stands in the parentheses of a table: columns and rules.
 ghost use Rattle.std.specs.Prelude.{Result};
-ghost use Rattle.sql_read.specs.Eating.{Extends};
-ghost use Rattle.sql_read.specs.Reading.{Gives};
+ghost use Rattle.sql_cursor.specs.Eating.{Extends};
+ghost use Rattle.sql_cursor.specs.Readers.{Gives};
 ghost use Rattle.schema_read.specs.StatementReaders as reader;
 
 use super::MOST_COLUMNS;
@@ -9,9 +9,10 @@ use super::columns::column_rules;
 use super::names::{name, type_name};
 use super::rules::constraint;
 use plain_data::List;
+use sql_cursor::{LimitKind, ReadFault, Tokens};
 use sql_grammar::Kind;
 use sql_model::{NameAt, TableRule};
-use sql_read::{LimitKind, MOST_SEPARATORS, NAME_KINDS, ReadFault, Tokens};
+use sql_read::{MOST_SEPARATORS, NAME_KINDS};
 use std::alloc::Global;
 
 /// What a rule of a table begins with, where it is no column.

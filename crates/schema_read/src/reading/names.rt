@@ -1,16 +1,17 @@
 //! Names, lists of them, and types.
 ghost use Rattle.std.specs.Prelude.{◌≡◌, ◌<◌, ◌^◌, IfOk, Result};
 ghost use Rattle.sql_lex.specs.Lexemes.{lexeme_of};
-ghost use Rattle.sql_read.specs.Eating.{Extends};
-ghost use Rattle.sql_read.specs.Reading.{Gives};
+ghost use Rattle.sql_cursor.specs.Eating.{Extends};
+ghost use Rattle.sql_cursor.specs.Readers.{Gives};
 ghost use Rattle.schema_read.specs.StatementReaders as reader;
 ghost use Rattle.schema_read.specs.StatementTrees as t;
 
 use plain_data::List;
+use sql_cursor::{ReadFault, Tokens, name_in, place};
 use sql_grammar::Kind;
 use sql_lex::Token;
 use sql_model::{NameAt, NoMemory};
-use sql_read::{MOST_SEPARATORS, NAME_KINDS, ReadFault, Tokens, name_in, place};
+use sql_read::{MOST_SEPARATORS, NAME_KINDS};
 use std::alloc::Global;
 
 /// Unreserved words.

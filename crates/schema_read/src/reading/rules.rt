@@ -1,13 +1,13 @@
 //! The rules of a table that stand beside its columns.
-ghost use Rattle.sql_read.specs.Eating.{Extends};
-ghost use Rattle.sql_read.specs.Reading.{Gives};
+ghost use Rattle.sql_cursor.specs.Eating.{Extends};
+ghost use Rattle.sql_cursor.specs.Readers.{Gives};
 ghost use Rattle.schema_read.specs.StatementReaders as reader;
 
 use super::columns::{key, references};
 use super::names::{name, names};
+use sql_cursor::{ReadFault, Tokens, place};
 use sql_grammar::Kind;
 use sql_model::TableRule;
-use sql_read::{ReadFault, Tokens, place};
 use std::alloc::Global;
 
 /// `[CONSTRAINT name] tablerule`

@@ -1,6 +1,6 @@
 //! Statements.
-ghost use Rattle.sql_read.specs.Eating.{Extends};
-ghost use Rattle.sql_read.specs.Reading.{Gives};
+ghost use Rattle.sql_cursor.specs.Eating.{Extends};
+ghost use Rattle.sql_cursor.specs.Readers.{Gives};
 ghost use Rattle.schema_read.specs.StatementReaders as reader;
 
 use super::MOST_RELATIONS;
@@ -8,9 +8,10 @@ use super::elements::{Elements, table_elements};
 use super::index::index;
 use super::names::name;
 use plain_data::{Kept, List};
+use sql_cursor::{LimitKind, ReadFault, Tokens};
 use sql_grammar::Kind;
 use sql_model::Statement;
-use sql_read::{LimitKind, MOST_LEVELS, ReadFault, Tokens, read_inner_query};
+use sql_read::{MOST_LEVELS, read_inner_query};
 use std::alloc::Global;
 
 /// `{statement ;}`

@@ -13,7 +13,7 @@ use Rattle.sql_grammar.specs.Numbering.{Built, plain, each, perhaps}
 use Rattle.sql_grammar.specs.QueryTrees as t
 use Rattle.sql_grammar.specs.QueryTrees.{SetWord, not_sub}
 use Rattle.sql_grammar.specs.QueryGrammar as grammar
-use Rattle.sql_grammar.specs.QueryGrammar.{Production, Read, The, a, one_of, in_parentheses, parens, listed, alias, union_or_except, intersect, join_on, cross_join, group_by, exists, minus, not_neg, call, query, part, operand, block, item, from, entry, reference, expr, conj, neg, test, rest, value, term, unary, primary, agg, set_tail, and_tail, expr_tail, inner, in_inner}
+use Rattle.sql_grammar.specs.QueryGrammar.{Production, Read, The, a, one_of, in_parentheses, parens, listed, alias, union_or_except, intersect, join_on, cross_join, group_by, exists, minus, not_neg, call, query, part, operand, block, item, from, entry, reference, expr, conj, neg, test, rest, value, term, unary, primary, agg, set_tail, and_tail, expr_tail, inner, in_inner, most_operators, most_separators}
 use Rattle.sql_grammar.specs.Queries.{rules}
 
 -- what is copied in a value of a production that goes by its parts alone
@@ -110,7 +110,7 @@ module _ {Costed : (A : Type 0) → The A → (A → ℕ) → Type 0} (pr : Cost
   costed_parens {cost = cost} l = pr.of_map (λ p. p.1) cost (in_parens l) (λ p. from_zero (cost p.1))
 
   pub costed_listed : {A : Type 0} {f : The A} {cost : A → ℕ} → Costs f cost → Costs (listed f) (λ v. cost v.0 + summed cost v.1)
-  costed_listed l = costed_separated pr (Some 255) (a_token k.Comma) l
+  costed_listed l = costed_separated pr (Some most_separators) (a_token k.Comma) l
 
   pub free_alias : Free alias
   free_alias = costed_skip_then pr (free_optional pr (a_token k.As)) (some_token grammar.name_kinds)
@@ -126,8 +126,8 @@ module _ {Costed : (A : Type 0) → The A → (A → ℕ) → Type 0} (pr : Cost
   free_intersect = free_map pr (λ word. (Intersect, word.start)) (a_token k.Intersect)
 
   -- operands, with set operators between them
-  sets_cost : {p : The (Built Query)} {word : The SetWord} → Free word → Costs p copies_of → Costs (map (λ v. t.sets v.0 v.1) (seq p (star (Some 63) (seq word p)))) copies_of
-  sets_cost free l = pr.of_map (λ v. t.sets v.0 v.1) copies_of (pr.of_seq l (pr.of_star (Some 63) (pr.of_seq free l))) (λ v. sets_copies v.1 v.0)
+  sets_cost : {p : The (Built Query)} {word : The SetWord} → Free word → Costs p copies_of → Costs (map (λ v. t.sets v.0 v.1) (seq p (star (Some most_operators) (seq word p)))) copies_of
+  sets_cost free l = pr.of_map (λ v. t.sets v.0 v.1) copies_of (pr.of_seq l (pr.of_star (Some most_operators) (pr.of_seq free l))) (λ v. sets_copies v.1 v.0)
 
   free_groups : Free group_by
   free_groups =
@@ -190,12 +190,12 @@ module _ {Costed : (A : Type 0) → The A → (A → ℕ) → Type 0} (pr : Cost
 
   -- a chain, as of AND and OR
   chain_cost : {p : The (Built Expr)} {word : The Lexeme} (node : List Expr → ℕ → Expr) → Free word → Costs p copies_of
-      → Costs (map (t.chained node) (seq p (star (Some 255) (skip_then word p)))) copies_of
-  chain_cost node free l = pr.of_map (t.chained node) copies_of (pr.of_seq l (pr.of_star (Some 255) (costed_skip_then pr free l))) (λ v. chained_copies node v.0 v.1)
+      → Costs (map (t.chained node) (seq p (star (Some most_separators) (skip_then word p)))) copies_of
+  chain_cost node free l = pr.of_map (t.chained node) copies_of (pr.of_seq l (pr.of_star (Some most_separators) (costed_skip_then pr free l))) (λ v. chained_copies node v.0 v.1)
 
   -- operands, with operators between them
-  operators_cost : {p : The (Built Expr)} {sign : The Lexeme} → Free sign → Costs p copies_of → Costs (map (λ v. t.operated v.0 v.1) (seq p (star (Some 63) (seq sign p)))) copies_of
-  operators_cost free l = pr.of_map (λ v. t.operated v.0 v.1) copies_of (pr.of_seq l (pr.of_star (Some 63) (pr.of_seq free l))) (λ v. operated_copies v.1 v.0)
+  operators_cost : {p : The (Built Expr)} {sign : The Lexeme} → Free sign → Costs p copies_of → Costs (map (λ v. t.operated v.0 v.1) (seq p (star (Some most_operators) (seq sign p)))) copies_of
+  operators_cost free l = pr.of_map (λ v. t.operated v.0 v.1) copies_of (pr.of_seq l (pr.of_star (Some most_operators) (pr.of_seq free l))) (λ v. operated_copies v.1 v.0)
 
   pub not_neg_cost : Costs not_neg copies_of
   not_neg_cost = pr.of_map t.not_of copies_of (pr.of_nest (pr.of_seq (a_token k.Not) (of neg))) (λ v. from_zero v.1.copies)
@@ -215,7 +215,7 @@ module _ {Costed : (A : Type 0) → The A → (A → ℕ) → Type 0} (pr : Cost
       (pr.of_alt (of agg)
       (pr.of_alt
       (pr.of_map (λ p. t.call p.0 p.1) (copies_in primary)
-      (pr.of_seq (some_token (k.Word ∷ k.Key ∷ k.View ∷ k.Index ∷ [])) (costed_parens (costed_optional pr (costed_listed (of expr))))) (λ v. call_copies v.0 v.1))
+      (pr.of_seq (some_token k.called_kinds) (costed_parens (costed_optional pr (costed_listed (of expr))))) (λ v. call_copies v.0 v.1))
       (pr.of_alt (costed_parens (pr.of_only not_sub (of expr)))
       (pr.of_map t.sub (copies_in primary) (in_parens (of query)) (λ v. from_zero v.1.copies)))))))
 
@@ -224,7 +224,7 @@ module _ {Costed : (A : Type 0) → The A → (A → ℕ) → Type 0} (pr : Cost
       pr.of_alt
       (pr.of_map (λ p. t.count_rows p.0) (copies_in agg) (free_seq pr (a_token k.Count) (costed_parens (a_token k.Star))) (λ v. refl))
       (pr.of_map (λ p. t.aggregated p.0 p.1.0 p.1.1) (copies_in agg)
-      (pr.of_seq (some_token (k.Count ∷ k.Sum ∷ k.Avg ∷ k.Min ∷ k.Max ∷ [])) (costed_parens (pr.of_seq (free_optional pr (a_token k.Distinct)) (of expr)))) (λ v. twice_zero v.1.1.copies))
+      (pr.of_seq (some_token (k.Count ∷ k.other_aggregates)) (costed_parens (pr.of_seq (free_optional pr (a_token k.Distinct)) (of expr)))) (λ v. twice_zero v.1.1.copies))
 
   -- ---- the parts of tests
 

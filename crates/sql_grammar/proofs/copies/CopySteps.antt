@@ -20,7 +20,7 @@ use Rattle.sql_grammar.specs.QueryTrees as t
 use Rattle.sql_grammar.specs.QueryTailTrees as tails
 use Rattle.sql_grammar.specs.QueryTrees.{Left, weight}
 use Rattle.sql_grammar.specs.QueryGrammar as grammar
-use Rattle.sql_grammar.specs.QueryGrammar.{The, expr_tail, set_tail, rest}
+use Rattle.sql_grammar.specs.QueryGrammar.{The, expr_tail, set_tail, rest, most_separators}
 use Rattle.sql_grammar.specs.QueryTails.{next_comma, commas}
 use Rattle.sql_grammar.specs.Queries.{rules}
 use Rattle.sql_grammar.specs.FactoredQueries.{by_word, of_factored}
@@ -92,7 +92,7 @@ pub comma_too_much : (left : Left) (most spent : ℕ) (here more : List Lexeme) 
     → spent ≤ most → most < spent + weight left → Overspends copies_nothing (free left_factored commas) (members_cost left) most spent here here
 comma_too_much left most spent here more token i b within passed = record {
   before = [];
-  up_to = no_token commas [] here (fill_none (Some 255) next_comma);
+  up_to = no_token commas [] here (fill_none (Some most_separators) next_comma);
   within = few spent (weight left) most within;
   token = token;
   more = more;

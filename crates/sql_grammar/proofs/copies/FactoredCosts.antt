@@ -15,7 +15,7 @@ use Rattle.sql_grammar.specs.QueryTrees as t
 use Rattle.sql_grammar.specs.QueryTailTrees as tails
 use Rattle.sql_grammar.specs.QueryTrees.{Left, SetWord, weight}
 use Rattle.sql_grammar.specs.QueryTailTrees.{Inside}
-use Rattle.sql_grammar.specs.QueryGrammar.{Production, Read, The, a, products, sums, ands, ors, part, operand, expr, conj, neg, rest, term, unary, set_tail, and_tail, expr_tail, inner, in_inner}
+use Rattle.sql_grammar.specs.QueryGrammar.{Production, Read, The, a, products, sums, ands, ors, part, operand, expr, conj, neg, rest, term, unary, set_tail, and_tail, expr_tail, inner, in_inner, most_operators, most_separators}
 use Rattle.sql_grammar.specs.QueryTails.{next_comma, commas}
 use Rattle.sql_grammar.specs.Queries.{rules}
 use Rattle.sql_grammar.specs.QueryCopies.{copies_nothing}
@@ -168,14 +168,14 @@ parts_cost xs = summed (λ x. x.copies) xs
 pub set_tail_rule : AddsIn (rules set_tail) (λ f (q : Built Query). (f q).copies) (λ q. q.copies)
 set_tail_rule =
     adds_map (λ q (u : List (SetWord × Built Query) × List (SetWord × Built Query)). words_cost u.0 + words_cost u.1)
-    (λ q. evenly.of_seq (evenly.of_star (Some 63) (evenly.of_seq (free_intersect evenly) (evenly.of_ref operand))) (evenly.of_star (Some 63) (evenly.of_seq (free_union evenly) (evenly.of_ref part))))
+    (λ q. evenly.of_seq (evenly.of_star (Some most_operators) (evenly.of_seq (free_intersect evenly) (evenly.of_ref operand))) (evenly.of_star (Some most_operators) (evenly.of_seq (free_union evenly) (evenly.of_ref part))))
     (λ p. tails.combined p.0 p.1) (λ f q. (f q).copies) (λ q. q.copies)
     (λ u q. sets_copies u.1 (t.sets q u.0) ∙ (ap (λ z. z + words_cost u.1) (sets_copies u.0 q) ∙ regroup q.copies (words_cost u.0) (words_cost u.1)))
 
 chain_even : EvenIn (seq ands ors) (λ p. parts_cost p.0 + parts_cost p.1)
 chain_even =
-    evenly.of_seq (evenly.of_star (Some 255) (costed_skip_then evenly (evenly.of_token (k.same k.And)) (evenly.of_ref neg)))
-    (evenly.of_star (Some 255) (costed_skip_then evenly (evenly.of_token (k.same k.Or)) (evenly.of_ref conj)))
+    evenly.of_seq (evenly.of_star (Some most_separators) (costed_skip_then evenly (evenly.of_token (k.same k.And)) (evenly.of_ref neg)))
+    (evenly.of_star (Some most_separators) (costed_skip_then evenly (evenly.of_token (k.same k.Or)) (evenly.of_ref conj)))
 
 chains_copies : (x : Built Expr) (p : List (Built Expr) × List (Built Expr))
     → (t.chained t.or_node (t.chained t.and_node (x, p.0), p.1)).copies ≡ x.copies + (parts_cost p.0 + parts_cost p.1)
@@ -197,8 +197,8 @@ maybe_rest =
 
 operators_even : EvenIn (counted (seq products sums)) (λ v. operators_cost v.0.0 + operators_cost v.0.1)
 operators_even =
-    even_counted (evenly.of_seq (evenly.of_star (Some 63) (evenly.of_seq (evenly.of_token (among (k.Star ∷ k.Slash ∷ []))) (evenly.of_ref unary)))
-    (evenly.of_star (Some 63) (evenly.of_seq (evenly.of_token (among (k.Plus ∷ k.Minus ∷ k.Concat ∷ []))) (evenly.of_ref term))))
+    even_counted (evenly.of_seq (evenly.of_star (Some most_operators) (evenly.of_seq (evenly.of_token (among (k.Star ∷ k.Slash ∷ []))) (evenly.of_ref unary)))
+    (evenly.of_star (Some most_operators) (evenly.of_seq (evenly.of_token (among (k.Plus ∷ k.Minus ∷ k.Concat ∷ []))) (evenly.of_ref term))))
 
 abbrev Operators : Type 0
 Operators = (List (Lexeme × Built Expr) × List (Lexeme × Built Expr)) × ℕ

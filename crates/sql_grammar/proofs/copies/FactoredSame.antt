@@ -96,7 +96,7 @@ by_word_adds =
 
 comparison_adds : AddsIn comparison (λ f (left : Left). (f left).copies) (λ left. left.0.copies)
 comparison_adds =
-    adds_map (λ left p. 0 + p.1.copies) (λ left. evenly.of_seq (some_token evenly (k.Equals ∷ k.Differs ∷ k.Less ∷ k.AtMost ∷ k.Greater ∷ k.AtLeast ∷ [])) (evenly.of_ref value)) (λ p left. t.comparison p.0 p.1 left)
+    adds_map (λ left p. 0 + p.1.copies) (λ left. evenly.of_seq (some_token evenly k.comparisons) (evenly.of_ref value)) (λ p left. t.comparison p.0 p.1 left)
     (λ f left. (f left).copies) (λ left. left.0.copies) (λ u left. compared_adds u left)
 
 pub rest_rule : AddsIn (factored rest) (λ f (left : Left). (f left).copies) (λ left. left.0.copies)
@@ -136,9 +136,9 @@ module _ {D X : Type 0} (dot : The D) (dot_free : EvenIn dot (λ v. 0)) (named :
   words_even : EvenIn (words dot named called) cost
   words_even =
       evenly.of_alt (evenly.of_map (λ p. named p.0 p.1) cost (free_seq evenly (a_token evenly k.Quoted) dot_free) (λ p. named_free p.0 p.1))
-      (evenly.of_alt (word_with_even called_word (some_token evenly (k.Word ∷ k.Key ∷ k.View ∷ k.Index ∷ [])) arguments arguments_add)
+      (evenly.of_alt (word_with_even called_word (some_token evenly k.called_kinds) arguments arguments_add)
       (evenly.of_alt (word_with_even (a k.Count) (a_token evenly k.Count) count_arguments count_arguments_add)
-      (word_with_even other_aggregate (some_token evenly (k.Sum ∷ k.Avg ∷ k.Min ∷ k.Max ∷ [])) (parens one_argument) (adds_parens one_argument_adds))))
+      (word_with_even other_aggregate (some_token evenly k.other_aggregates) (parens one_argument) (adds_parens one_argument_adds))))
 
 free_name : EvenIn name (λ v. 0)
 free_name = some_token evenly name_kinds
@@ -174,7 +174,7 @@ primary_rule = evenly.of_alt literal_even (evenly.of_alt named_first_even enclos
 pub agg_rule : EvenIn (factored agg) (λ x. x.copies)
 agg_rule =
     evenly.of_alt (applied (a_token evenly k.Count) count_arguments_add (λ p. p.1 p.0) (λ x. x.copies) (λ u. refl) (λ u. refl))
-    (applied (some_token evenly (k.Sum ∷ k.Avg ∷ k.Min ∷ k.Max ∷ [])) (adds_parens one_argument_adds) (λ p. p.1 p.0) (λ x. x.copies) (λ u. refl) (λ u. refl))
+    (applied (some_token evenly k.other_aggregates) (adds_parens one_argument_adds) (λ p. p.1 p.0) (λ x. x.copies) (λ u. refl) (λ u. refl))
 
 -- ---- expressions by their first parts
 

@@ -18,7 +18,7 @@ use Rattle.sql_grammar.specs.QueryTrees as t
 use Rattle.sql_grammar.specs.QueryTailTrees as tails
 use Rattle.sql_grammar.specs.QueryTrees.{Listed, not_sub}
 use Rattle.sql_grammar.specs.QueryGrammar as grammar
-use Rattle.sql_grammar.specs.QueryGrammar.{Production, Read, The, a, one_of, parens, name, listed, alias, group_by, comparison, like, minus, not_neg, exists, join_on, cross_join, next_sum, next_product, next_and, next_or, next_intersect, next_union, query, part, operand, block, item, from, entry, reference, expr, conj, neg, test, rest, value, term, unary, primary, agg, set_tail, and_tail, expr_tail, inner, in_inner}
+use Rattle.sql_grammar.specs.QueryGrammar.{Production, Read, The, a, one_of, parens, name, listed, alias, group_by, comparison, like, minus, not_neg, exists, join_on, cross_join, next_sum, next_product, next_and, next_or, next_intersect, next_union, query, part, operand, block, item, from, entry, reference, expr, conj, neg, test, rest, value, term, unary, primary, agg, set_tail, and_tail, expr_tail, inner, in_inner, most_operators, most_separators}
 use Rattle.sql_grammar.specs.QueryTails.{insides, commas}
 use Rattle.sql_grammar.specs.Queries.{rules}
 use Rattle.sql_grammar.specs.QueryCopies.{copies_nothing}
@@ -85,7 +85,7 @@ pub fill_parens : {A : Type 0} {g : The A} {v : A} → Filled g v → Filled (pa
 fill_parens p = fill_map (λ z. z.1) (fill_nest (fill_seq (fill_token k.Open (symbol 40) refl refl) (fill_first p (fill_token k.Close (symbol 41) refl refl))))
 
 pub fill_listed : {A : Type 0} {g : The A} {v : A} → Filled g v → Filled (listed g) (v, [])
-fill_listed {g = g} p = fill_seq p (fill_none (Some 255) (skip_then (a k.Comma) g))
+fill_listed {g = g} p = fill_seq p (fill_none (Some most_separators) (skip_then (a k.Comma) g))
 
 -- ---- productions
 
@@ -114,10 +114,10 @@ pub fill_unary : Filled (ref unary) number_one
 fill_unary = of_name unary number_one (fill_other minus fill_primary)
 
 pub fill_term : Filled (ref term) number_one
-fill_term = of_name term number_one (fill_map (λ p. t.operated p.0 p.1) (fill_seq fill_unary (fill_none (Some 63) next_product)))
+fill_term = of_name term number_one (fill_map (λ p. t.operated p.0 p.1) (fill_seq fill_unary (fill_none (Some most_operators) next_product)))
 
 pub fill_value : Filled (ref value) number_one
-fill_value = of_name value number_one (fill_map (λ p. t.operated p.0 p.1) (fill_seq fill_term (fill_none (Some 63) next_sum)))
+fill_value = of_name value number_one (fill_map (λ p. t.operated p.0 p.1) (fill_seq fill_term (fill_none (Some most_operators) next_sum)))
 
 pub fill_test : Filled (ref test) number_one
 fill_test = of_name test number_one (fill_other exists (fill_map (λ p. t.tested p.0 p.1) (fill_seq (fill_counted fill_value) (fill_absent (ref rest)))))
@@ -126,10 +126,10 @@ pub fill_neg : Filled (ref neg) number_one
 fill_neg = of_name neg number_one (fill_other not_neg fill_test)
 
 pub fill_conj : Filled (ref conj) number_one
-fill_conj = of_name conj number_one (fill_map (t.chained t.and_node) (fill_seq fill_neg (fill_none (Some 255) next_and)))
+fill_conj = of_name conj number_one (fill_map (t.chained t.and_node) (fill_seq fill_neg (fill_none (Some most_separators) next_and)))
 
 pub fill_expr : Filled (ref expr) number_one
-fill_expr = of_name expr number_one (fill_map (t.chained t.or_node) (fill_seq fill_conj (fill_none (Some 255) next_or)))
+fill_expr = of_name expr number_one (fill_map (t.chained t.or_node) (fill_seq fill_conj (fill_none (Some most_separators) next_or)))
 
 pub fill_item : Filled (ref item) item_one
 fill_item = of_name item item_one (fill_other _ (fill_other _ (fill_map (λ p. t.value_item p.0 p.1) (fill_seq fill_expr (fill_absent alias)))))
@@ -165,10 +165,10 @@ pub fill_operand : Filled (ref operand) select_one
 fill_operand = of_name operand select_one (fill_one _ fill_block)
 
 pub fill_part : Filled (ref part) select_one
-fill_part = of_name part select_one (fill_map (λ p. t.sets p.0 p.1) (fill_seq fill_operand (fill_none (Some 63) next_intersect)))
+fill_part = of_name part select_one (fill_map (λ p. t.sets p.0 p.1) (fill_seq fill_operand (fill_none (Some most_operators) next_intersect)))
 
 pub fill_query : Filled (ref query) select_one
-fill_query = of_name query select_one (fill_map (λ p. t.sets p.0 p.1) (fill_seq fill_part (fill_none (Some 63) next_union)))
+fill_query = of_name query select_one (fill_map (λ p. t.sets p.0 p.1) (fill_seq fill_part (fill_none (Some most_operators) next_union)))
 
 pub fill_reference : Filled (ref reference) (t.column (None, word (codes "a")))
 fill_reference = of_name reference (t.column (None, word (codes "a")))
@@ -178,19 +178,19 @@ fill_reference = of_name reference (t.column (None, word (codes "a")))
 
 pub fill_rest : Filled (ref rest) (λ left. t.comparison (symbol 61) number_one left)
 fill_rest = of_name rest (λ left. t.comparison (symbol 61) number_one left)
-    (fill_one _ (fill_map (λ p left. t.comparison p.0 p.1 left) (fill_seq (fill_token_of (k.Equals ∷ k.Differs ∷ k.Less ∷ k.AtMost ∷ k.Greater ∷ k.AtLeast ∷ []) (symbol 61) refl refl) fill_value)))
+    (fill_one _ (fill_map (λ p left. t.comparison p.0 p.1 left) (fill_seq (fill_token_of k.comparisons (symbol 61) refl refl) fill_value)))
 
 pub fill_set_tail : Filled (ref set_tail) (λ left. left)
-fill_set_tail = of_name set_tail (λ left. left) (fill_map (λ p. tails.combined p.0 p.1) (fill_seq (fill_none (Some 63) next_intersect) (fill_none (Some 63) next_union)))
+fill_set_tail = of_name set_tail (λ left. left) (fill_map (λ p. tails.combined p.0 p.1) (fill_seq (fill_none (Some most_operators) next_intersect) (fill_none (Some most_operators) next_union)))
 
 pub fill_and_tail : Filled (ref and_tail) (λ left. left)
-fill_and_tail = of_name and_tail (λ left. left) (fill_map (λ p. tails.joined p.0 p.1) (fill_seq (fill_none (Some 255) next_and) (fill_none (Some 255) next_or)))
+fill_and_tail = of_name and_tail (λ left. left) (fill_map (λ p. tails.joined p.0 p.1) (fill_seq (fill_none (Some most_separators) next_and) (fill_none (Some most_separators) next_or)))
 
 pub fill_expr_tail : Filled (ref expr_tail) (λ left. left.0)
 fill_expr_tail = of_name expr_tail (λ left. left.0)
     (fill_map (λ p. tails.continued p.0 p.1.0 p.1.1.0 p.1.1.1)
-    (fill_seq (fill_counted (fill_seq (fill_none (Some 63) next_product) (fill_none (Some 63) next_sum)))
-    (fill_seq (fill_absent (ref rest)) (fill_seq (fill_none (Some 255) next_and) (fill_none (Some 255) next_or)))))
+    (fill_seq (fill_counted (fill_seq (fill_none (Some most_operators) next_product) (fill_none (Some most_operators) next_sum)))
+    (fill_seq (fill_absent (ref rest)) (fill_seq (fill_none (Some most_separators) next_and) (fill_none (Some most_separators) next_or)))))
 
 -- ---- what stands in parentheses
 
@@ -202,7 +202,7 @@ pub fill_inner : Filled (ref inner) (inr (inr (number_one, tt)))
 fill_inner = of_name inner (inr (inr (number_one, tt))) (fill_insides empty tt fill_empty)
 
 pub fill_in_inner : Filled (ref in_inner) (inr (inr (number_one, [])))
-fill_in_inner = of_name in_inner (inr (inr (number_one, []))) (fill_insides commas [] (fill_none (Some 255) (skip_then (a k.Comma) (ref expr))))
+fill_in_inner = of_name in_inner (inr (inr (number_one, []))) (fill_insides commas [] (fill_none (Some most_separators) (skip_then (a k.Comma) (ref expr))))
 
 pub fill_agg : Filled (ref agg) (t.count_rows (word (codes "count")))
 fill_agg = of_name agg (t.count_rows (word (codes "count")))

@@ -14,7 +14,7 @@ use Rattle.sql_grammar.specs.Numbering.{Built}
 use Rattle.sql_grammar.specs.QueryTrees as t
 use Rattle.sql_grammar.specs.QueryTrees.{Listed}
 use Rattle.sql_grammar.specs.QueryGrammar as grammar
-use Rattle.sql_grammar.specs.QueryGrammar.{Production, Read, The, Froms, block_with, listed, join_on, cross_join, block, from, entry}
+use Rattle.sql_grammar.specs.QueryGrammar.{Production, Read, The, Froms, block_with, listed, join_on, cross_join, block, from, entry, most_separators}
 use Rattle.sql_grammar.specs.Queries.{rules}
 use Rattle.sql_grammar.specs.QueryEntries.{Further, next_entry, before_entry, further_entries, parted, items_of, few_froms, few_rules}
 use Rattle.sql_grammar.proofs.queries.QueryInside.{star_none}
@@ -157,7 +157,7 @@ block_below {E = E} l =
     skip_below : {A B : Type 0} (f : The A) {g h : The B} → Below E g h → Below E (skip_then f g) (skip_then f h)
     skip_below f l = below_map (λ p. p.1) (below_seq (itself f) l)
 
-module _ (m : ℕ) (few : suc m ≤ 255) where
+module _ (m : ℕ) (few : suc m ≤ most_separators) where
   pub list_below : Below G (few_froms m) (listed (ref from))
   list_below = record { holds = λ room. record { spells = spells room; prefix = prefix room } }
     where
@@ -165,7 +165,7 @@ module _ (m : ℕ) (few : suc m ≤ 255) where
       spells room ts v (u, (x, y, e, s, r), i) = subst ((gl room (listed (ref from))).spells ts) (sym i) (go (further_spells room m y u.1 r))
         where
           go : (gl room (after_entry (suc m))).spells y (parted u.1) → (gl room (listed (ref from))).spells ts (items_of u)
-          go (a, b, e2, js, cs) = (x ++ a, b, joined_at ts x y a b e e2, item_spells room x a u.0 (parted u.1).0 s js, (wider next_item room (suc m) 255 few).spells b (parted u.1).1 cs)
+          go (a, b, e2, js, cs) = (x ++ a, b, joined_at ts x y a b e e2, item_spells room x a u.0 (parted u.1).0 s js, (wider next_item room (suc m) most_separators few).spells b (parted u.1).1 cs)
 
       prefix : (room : Room) (ts : List Lexeme) → (gl room (few_froms m)).prefix ts → (gl room (listed (ref from))).prefix ts
       prefix room ts (inl s) = inl ((closes room from).prefix ts (inl s))
@@ -173,7 +173,7 @@ module _ (m : ℕ) (few : suc m ≤ 255) where
         where
           go : (gl room (after_entry (suc m))).prefix y → (gl room (listed (ref from))).prefix ts
           go (inl js) = inl (subst (G room from).prefix (sym e) (item_prefix room x y f s js))
-          go (inr (a, b, js, e2, q, cs)) = inr (x ++ a, b, t.entries f js, joined_at ts x y a b e e2, item_spells room x a f js s q, (wider next_item room (suc m) 255 few).prefix b cs)
+          go (inr (a, b, js, e2, q, cs)) = inr (x ++ a, b, t.entries f js, joined_at ts x y a b e e2, item_spells room x a f js s q, (wider next_item room (suc m) most_separators few).prefix b cs)
 
   few_below : (p : Production) → Below G (few_rules m p) (rules p)
   few_below block = block_below list_below

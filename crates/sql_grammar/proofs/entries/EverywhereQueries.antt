@@ -23,7 +23,7 @@ use Rattle.sql_grammar.specs.Kinds.{kind_of}
 use Rattle.sql_grammar.specs.Numbering.{Built, both, each, mapped, perhaps, plain, symbol_number}
 use Rattle.sql_grammar.specs.QueryEntries.{Further, few_froms, few_rules, further_entries, items_of, next_entry, parted}
 use Rattle.sql_grammar.specs.QueryGrammar as grammar
-use Rattle.sql_grammar.specs.QueryGrammar.{Production, Read, The, parens, listed, query, part, operand, block, item, entry, reference, expr, conj, neg, test, rest, value, term, unary, primary, agg}
+use Rattle.sql_grammar.specs.QueryGrammar.{Production, Read, The, parens, listed, query, part, operand, block, item, entry, reference, expr, conj, neg, test, rest, value, term, unary, primary, agg, most_operators, most_separators}
 use Rattle.sql_grammar.specs.QueryTrees as t
 use Rattle.sql_grammar.specs.QueryTrees.{Left, Listed, SetWord}
 use Rattle.sql_grammar.specs.TokenValues.{name_of}
@@ -508,7 +508,7 @@ module _ (literal : ℕ → ℕ → Type 0) (entries : ℕ → Type 0) (m : ℕ)
           block_keeps
 
       sets_tell : {p : The (Built Query)} {word : The SetWord} → Same word word → Tells p p AQuery
-          → Tells (map (λ v. t.sets v.0 v.1) (seq p (star (Some 63) (seq word p)))) (map (λ v. t.sets v.0 v.1) (seq p (star (Some 63) (seq word p)))) AQuery
+          → Tells (map (λ v. t.sets v.0 v.1) (seq p (star (Some most_operators) (seq word p)))) (map (λ v. t.sets v.0 v.1) (seq p (star (Some most_operators) (seq word p)))) AQuery
       sets_tell same one = of_map (λ v. t.sets v.0 v.1) (of_both one (of_each (of_second same one))) (λ v. sets_keep v.1 v.0)
 
       item_tells : Tells (few_rules m item) (few_rules m item) AnItem
@@ -532,11 +532,11 @@ module _ (literal : ℕ → ℕ → Type 0) (entries : ℕ → Type 0) (m : ℕ)
       -- ---- expressions
 
       chain_tells : {p : The (Built Expr)} {word : The Lexeme} (node : List Expr → ℕ → Expr) → HoldsOf node → Same word word → Tells p p AnExpr
-          → Tells (map (t.chained node) (seq p (star (Some 255) (skip_then word p)))) (map (t.chained node) (seq p (star (Some 255) (skip_then word p)))) AnExpr
+          → Tells (map (t.chained node) (seq p (star (Some most_separators) (skip_then word p)))) (map (t.chained node) (seq p (star (Some most_separators) (skip_then word p)))) AnExpr
       chain_tells node g same one = of_map (t.chained node) (of_both one (of_each (behind same one))) (chained_keeps node g)
 
       operators_tell : {p : The (Built Expr)} {sign : The Lexeme} → Same sign sign → Tells p p AnExpr
-          → Tells (map (λ v. t.operated v.0 v.1) (seq p (star (Some 63) (seq sign p)))) (map (λ v. t.operated v.0 v.1) (seq p (star (Some 63) (seq sign p)))) AnExpr
+          → Tells (map (λ v. t.operated v.0 v.1) (seq p (star (Some most_operators) (seq sign p)))) (map (λ v. t.operated v.0 v.1) (seq p (star (Some most_operators) (seq sign p)))) AnExpr
       operators_tell same one = of_map (λ v. t.operated v.0 v.1) (of_both one (of_each (of_second same one))) (λ v. operated_keeps v.1 v.0)
 
       neg_tells : Tells (few_rules m neg) (few_rules m neg) AnExpr

@@ -9,7 +9,7 @@ use Rattle.grammar.proofs.factorings.Factorings.{below_included}
 use Rattle.grammar.proofs.readers.Predictions.{AreWithin, named}
 use Rattle.sql_grammar.specs.Kinds.{kind_of}
 use Rattle.sql_grammar.specs.QueryEntries.{few_froms, few_rules}
-use Rattle.sql_grammar.specs.QueryGrammar.{Production, block, from, listed}
+use Rattle.sql_grammar.specs.QueryGrammar.{Production, block, from, listed, most_separators}
 use Rattle.sql_grammar.specs.QueryLookahead.{table}
 use Rattle.sql_grammar.specs.FactoredQueries.{few_factored, of_factored, factored}
 use Rattle.sql_grammar.proofs.entries.EntryLists.{block_below, list_below}
@@ -21,7 +21,7 @@ use Rattle.grammar.proofs.factorings.Alike.{itself}
 use Rattle.sql_grammar.proofs.queries.QueryWords.{Below}
 use Rattle.sql_grammar.proofs.queries.Variants.{Variant}
 
-module _ (m : ℕ) (few : suc m ≤ 255) where
+module _ (m : ℕ) (few : suc m ≤ most_separators) where
   pub list_left_factored : Below of_factored (few_froms m) (listed (ref from))
   list_left_factored = record {
     holds = λ room. includes_through _ _ _ (known_includes room (few_froms m)) (includes_through _ _ _ ((list_below m few).holds room) (left_factored_includes room (listed (ref from))));
@@ -32,16 +32,16 @@ module _ (m : ℕ) (few : suc m ≤ 255) where
   few_below other = itself (factored other)
 
   -- what has few entries is in the left-factored grammar
-  pub few_left_factored : (room : Room) (p : Production) → Includes (of_factored room p) (language kind_of (few_factored m) room p)
-  few_left_factored = below_included kind_of (few_factored m) factored few_below
+  pub few_factored_included : (room : Room) (p : Production) → Includes (of_factored room p) (language kind_of (few_factored m) room p)
+  few_factored_included = below_included kind_of (few_factored m) factored few_below
 
   pub few_within : AreWithin left_factored (language kind_of (few_factored m))
-  few_within = record { included = few_left_factored; prefixes = name_prefixes kind_of (few_factored m) }
+  few_within = record { included = few_factored_included; prefixes = name_prefixes kind_of (few_factored m) }
 
   few_variant : Variant
   few_variant = record {
     froms = few_froms m;
-    known = λ room p. narrowed kind_of (language kind_of (few_factored m) room p) (of_factored room p) (table p) (few_left_factored room p) (name_prefixes kind_of (few_factored m) room p) (named left_factored room p);
+    known = λ room p. narrowed kind_of (language kind_of (few_factored m) room p) (of_factored room p) (table p) (few_factored_included room p) (name_prefixes kind_of (few_factored m) room p) (named left_factored room p);
   }
 
   -- the same languages

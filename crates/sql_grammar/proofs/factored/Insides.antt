@@ -11,7 +11,7 @@ use Rattle.sql_grammar.specs.Kinds.{kind_of}
 use Rattle.sql_grammar.specs.Numbering.{Built}
 use Rattle.sql_grammar.specs.QueryTrees as t
 use Rattle.sql_grammar.specs.QueryTrees.{Left, not_sub}
-use Rattle.sql_grammar.specs.QueryGrammar.{Production, Read, The, rules_with, next_product, next_sum, next_and, next_or, expr, unary, primary, set_tail, expr_tail, rest}
+use Rattle.sql_grammar.specs.QueryGrammar.{Production, Read, The, rules_with, next_product, next_sum, next_and, next_or, expr, unary, primary, set_tail, expr_tail, rest, most_operators, most_separators}
 use Rattle.sql_grammar.specs.QueryTails.{tail_rules}
 use Rattle.sql_grammar.specs.Queries.{rules}
 use Rattle.sql_grammar.proofs.queries.QuerySplits.{is_kept}
@@ -92,9 +92,9 @@ module _ (variant : Variant) where
           by_something : Something u.0 u.1.0 u.1.1.0 u.1.1.1 → not_sub (f left) ≡ true
           by_something (something m) = subst (λ z. not_sub (z left) ≡ true) (sym i) (m left)
           by_something (nothing p1 p2 p3 p4 p5) = absurd (n (e ∙ joined x y
-              (e1 ∙ joined x1 y1 (star_empty room (Some 63) next_product x1 (subst (λ z. (gl room (star (Some 63) next_product)).spells x1 z) p1 ps)) (star_empty room (Some 63) next_sum y1 (subst (λ z. (gl room (star (Some 63) next_sum)).spells y1 z) p2 ss)))
+              (e1 ∙ joined x1 y1 (star_empty room (Some most_operators) next_product x1 (subst (λ z. (gl room (star (Some most_operators) next_product)).spells x1 z) p1 ps)) (star_empty room (Some most_operators) next_sum y1 (subst (λ z. (gl room (star (Some most_operators) next_sum)).spells y1 z) p2 ss)))
               (e2 ∙ joined a b (no_rest a u.1.0 p3 r)
-              (e3 ∙ joined x3 y3 (star_empty room (Some 255) next_and x3 (subst (λ z. (gl room (star (Some 255) next_and)).spells x3 z) p4 as_)) (star_empty room (Some 255) next_or y3 (subst (λ z. (gl room (star (Some 255) next_or)).spells y3 z) p5 os))))))
+              (e3 ∙ joined x3 y3 (star_empty room (Some most_separators) next_and x3 (subst (λ z. (gl room (star (Some most_separators) next_and)).spells x3 z) p4 as_)) (star_empty room (Some most_separators) next_or y3 (subst (λ z. (gl room (star (Some most_separators) next_or)).spells y3 z) p5 os))))))
 
   -- ---- expressions by first parts
 

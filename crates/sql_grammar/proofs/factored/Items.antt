@@ -1,5 +1,5 @@
 -- What the left-factored grammar reads as an item stands so in the grammar.
-use Rattle.std.proofs.Common.{◌≡◌, Bool, true, List, [], ◌∷◌, ◌++◌, length, ◌⊎◌, inl, inr, sym, ◌∙◌, ap, subst}
+use Rattle.std.proofs.Common.{◌≡◌, Bool, true, List, [], ◌++◌, length, ◌⊎◌, inl, inr, sym, ◌∙◌, ap, subst}
 use Rattle.std.proofs.lemmas.List.{append-nil}
 use Rattle.grammar.specs.Form.{Room, token, seq, alt, map, counted, ref}
 use Rattle.grammar.specs.Productions.{optional}
@@ -40,11 +40,11 @@ module _ (variant : Variant) where
   starred_left_factored =
       either (through (of_alike (star_parts (grammar.a k.Quoted))) (of_kinds (same k.Quoted) (quoted_name variant) (at_first _ (itself (with_dot dot_name column_of (grammar.a k.Quoted))))))
       (either (through (of_alike (starred_parts called_word arguments))
-      (of_kinds (among (k.Word ∷ k.Key ∷ k.View ∷ k.Index ∷ [])) (called_name variant) (at_second _ (at_first _ (itself (plain_word variant called_word arguments))))))
+      (of_kinds (among k.called_kinds) (called_name variant) (at_second _ (at_first _ (itself (plain_word variant called_word arguments))))))
       (either (through (of_alike (starred_parts (grammar.a k.Count) count_arguments))
       (of_kinds (same k.Count) (count_name variant) (at_second _ (at_second _ (at_first _ (itself (plain_word variant (grammar.a k.Count) count_arguments)))))))
       (through (of_alike (starred_parts other_aggregate (parens one_argument)))
-      (of_kinds (among (k.Sum ∷ k.Avg ∷ k.Min ∷ k.Max ∷ [])) (other_name variant) (at_second _ (at_second _ (at_second _ (itself (plain_word variant other_aggregate (parens one_argument))))))))))
+      (of_kinds (among k.other_aggregates) (other_name variant) (at_second _ (at_second _ (at_second _ (itself (plain_word variant other_aggregate (parens one_argument))))))))))
 
   -- ---- items
 

@@ -13,7 +13,7 @@ use Rattle.sql_grammar.specs.QueryTrees as t
 use Rattle.sql_grammar.specs.QueryTailTrees as tails
 use Rattle.sql_grammar.specs.QueryTrees.{not_sub}
 use Rattle.sql_grammar.specs.QueryTailTrees.{Inside}
-use Rattle.sql_grammar.specs.QueryGrammar.{The, a, in_parentheses, parens, listed, comparison, in_query, in_list, between, like, query, expr, value, rest, in_inner}
+use Rattle.sql_grammar.specs.QueryGrammar.{The, a, in_parentheses, parens, listed, comparison, in_query, in_list, between, like, query, expr, value, rest, in_inner, most_separators}
 use Rattle.sql_grammar.specs.QueryTails.{commas, next_comma, insides}
 use Rattle.sql_grammar.specs.Queries.{rules}
 use Rattle.sql_grammar.specs.FactoredQueries.{factored, by_word}
@@ -50,7 +50,7 @@ module _ (variant : Variant) where
     where
       wrapped : (room : Room) (ts : List Lexeme) (v : Lexeme → Test) (p : Lexeme × Built Query) (ms : List (Built Expr)) → (gl variant room (seq (in_parentheses (ref query)) commas)).spells ts (p, ms) → v ≡ inside_test (inr (inl (p, ms)))
           → (gl variant room query_or_list).spells ts v
-      wrapped room ts v p [] (x, y, e, r, c) j = inl (p.1, wrapped_query variant room ts x y p e r (star_empty variant room (Some 255) next_comma y c), j)
+      wrapped room ts v p [] (x, y, e, r, c) j = inl (p.1, wrapped_query variant room ts x y p e r (star_empty variant room (Some most_separators) next_comma y c), j)
       wrapped room ts v p (m ∷ ms) (x, y, e, r, c) j = inr ((t.sub p, m ∷ ms), ((x, y, e, first_alone variant room x (t.sub p) (subquery_first variant room x p r), c), refl), j)
 
       plainly : (room : Room) (ts : List Lexeme) (v : Lexeme → Test) (w : Built Expr × List (Built Expr)) → (gl variant room (seq (only not_sub (ref expr)) commas)).spells ts w → v ≡ inside_test (inr (inr w)) → (gl variant room query_or_list).spells ts v

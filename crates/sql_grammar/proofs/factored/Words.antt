@@ -42,14 +42,14 @@ module _ (variant : Variant) where
   pub quoted_name : (kind : Kind) → same k.Quoted kind ≡ true → among name_kinds kind ≡ true
   quoted_name kind e = implied (same k.Quoted kind) (among name_kinds kind) (every_kind_is_there (λ x. not (same k.Quoted x) || among name_kinds x) refl kind) e
 
-  pub called_name : (kind : Kind) → among (k.Word ∷ k.Key ∷ k.View ∷ k.Index ∷ []) kind ≡ true → among name_kinds kind ≡ true
-  called_name kind e = implied _ (among name_kinds kind) (every_kind_is_there (λ x. not (among (k.Word ∷ k.Key ∷ k.View ∷ k.Index ∷ []) x) || among name_kinds x) refl kind) e
+  pub called_name : (kind : Kind) → among k.called_kinds kind ≡ true → among name_kinds kind ≡ true
+  called_name kind e = implied _ (among name_kinds kind) (every_kind_is_there (λ x. not (among k.called_kinds x) || among name_kinds x) refl kind) e
 
   pub count_name : (kind : Kind) → same k.Count kind ≡ true → among name_kinds kind ≡ true
   count_name kind e = implied (same k.Count kind) (among name_kinds kind) (every_kind_is_there (λ x. not (same k.Count x) || among name_kinds x) refl kind) e
 
-  pub other_name : (kind : Kind) → among (k.Sum ∷ k.Avg ∷ k.Min ∷ k.Max ∷ []) kind ≡ true → among name_kinds kind ≡ true
-  other_name kind e = implied _ (among name_kinds kind) (every_kind_is_there (λ x. not (among (k.Sum ∷ k.Avg ∷ k.Min ∷ k.Max ∷ []) x) || among name_kinds x) refl kind) e
+  pub other_name : (kind : Kind) → among k.other_aggregates kind ≡ true → among name_kinds kind ≡ true
+  other_name kind e = implied _ (among name_kinds kind) (every_kind_is_there (λ x. not (among k.other_aggregates x) || among name_kinds x) refl kind) e
 
   column_is : (w : Lexeme) (o : Option Lexeme) → column_of w o ≡ plain (column_or w o)
   column_is w None = refl
@@ -95,13 +95,13 @@ module _ (variant : Variant) where
   count_below =
       through (of_alike count_parts)
       (below_alt (itself rows_counted)
-      (below_map aggregate_of (below_seq (token_below (same k.Count) (among (k.Count ∷ k.Sum ∷ k.Avg ∷ k.Min ∷ k.Max ∷ [])) (λ kind e. or_left _ _ e)) (itself (parens distinct_argument)))))
+      (below_map aggregate_of (below_seq (token_below (same k.Count) (among (k.Count ∷ k.other_aggregates)) (λ kind e. or_left _ _ e)) (itself (parens distinct_argument)))))
 
   other_below : Below (G variant) (map applied_to (seq other_aggregate (parens one_argument))) (rules agg)
   other_below =
       through (of_alike (after_word other_aggregate))
       (at_second rows_counted
-      (below_map aggregate_of (below_seq (token_below (among (k.Sum ∷ k.Avg ∷ k.Min ∷ k.Max ∷ [])) (among (k.Count ∷ k.Sum ∷ k.Avg ∷ k.Min ∷ k.Max ∷ [])) (λ kind e. or_right _ _ e)) (itself (parens distinct_argument)))))
+      (below_map aggregate_of (below_seq (token_below (among k.other_aggregates) (among (k.Count ∷ k.other_aggregates)) (λ kind e. or_right _ _ e)) (itself (parens distinct_argument)))))
 
   pub agg_left_factored : Below (G variant) (factored agg) (rules agg)
   agg_left_factored = either count_below other_below
@@ -124,6 +124,6 @@ module _ (variant : Variant) where
   pub named_first_left_factored : Below (G variant) named_first (rules primary)
   named_first_left_factored =
       either (dotted_first (same k.Quoted) quoted_name)
-      (either (word_first (among (k.Word ∷ k.Key ∷ k.View ∷ k.Index ∷ [])) called_name arguments (through (of_alike call_part) call_first))
+      (either (word_first (among k.called_kinds) called_name arguments (through (of_alike call_part) call_first))
       (either (word_first (same k.Count) count_name count_arguments (through count_below agg_first))
-      (word_first (among (k.Sum ∷ k.Avg ∷ k.Min ∷ k.Max ∷ [])) other_name (parens one_argument) (through other_below agg_first))))
+      (word_first (among k.other_aggregates) other_name (parens one_argument) (through other_below agg_first))))

@@ -13,7 +13,7 @@ use Rattle.sql_grammar.specs.QueryTrees as t
 use Rattle.sql_grammar.specs.QueryTailTrees as tails
 use Rattle.sql_grammar.specs.QueryTrees.{Left}
 use Rattle.sql_grammar.specs.QueryTailTrees.{Enclosed, Inside}
-use Rattle.sql_grammar.specs.QueryGrammar.{Production, Read, The, in_parentheses, next_intersect, next_union, next_product, next_sum, next_and, next_or, intersects, unions, query, operand, block, set_tail, expr_tail, inner}
+use Rattle.sql_grammar.specs.QueryGrammar.{Production, Read, The, in_parentheses, next_intersect, next_union, next_product, next_sum, next_and, next_or, intersects, unions, query, operand, block, set_tail, expr_tail, inner, most_operators, most_separators}
 use Rattle.sql_grammar.specs.Queries.{rules}
 use Rattle.sql_grammar.specs.FactoredQueries.{factored_with, sort}
 use Rattle.sql_grammar.proofs.queries.Variants.{Variant}
@@ -34,7 +34,7 @@ module _ (E : Names) where
   star_none (Some levels) (Some most) f = (refl, omega arith)
 
   pub no_set_words : (room : Room) → (el room (rules set_tail)).spells [] (λ q. q)
-  no_set_words room = (([], []), ([], [], refl, star_none room (Some 63) next_intersect, star_none room (Some 63) next_union), refl)
+  no_set_words room = (([], []), ([], [], refl, star_none room (Some most_operators) next_intersect, star_none room (Some most_operators) next_union), refl)
 
   pub no_operators : (room : Room) → (el room (rules expr_tail)).spells [] (λ left. left.0)
   no_operators room = (
@@ -43,8 +43,8 @@ module _ (E : Names) where
       [],
       [],
       refl,
-      (([], [], refl, star_none room (Some 63) next_product, star_none room (Some 63) next_sum), refl),
-      ([], [], refl, inr (tt, refl, refl), ([], [], refl, star_none room (Some 255) next_and, star_none room (Some 255) next_or)),
+      (([], [], refl, star_none room (Some most_operators) next_product, star_none room (Some most_operators) next_sum), refl),
+      ([], [], refl, inr (tt, refl, refl), ([], [], refl, star_none room (Some most_separators) next_and, star_none room (Some most_separators) next_or)),
     ),
     refl,
   )

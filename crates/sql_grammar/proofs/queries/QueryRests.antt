@@ -12,7 +12,7 @@ use Rattle.sql_grammar.specs.QueryTrees as t
 use Rattle.sql_grammar.specs.QueryTailTrees as tails
 use Rattle.sql_grammar.specs.QueryTrees.{Left}
 use Rattle.sql_grammar.specs.QueryTailTrees.{Enclosed, Inside}
-use Rattle.sql_grammar.specs.QueryGrammar.{The, a, in_parentheses, parens, listed, comparison, query, operand, set_tail, expr, expr_tail, value, rest, inner, in_inner}
+use Rattle.sql_grammar.specs.QueryGrammar.{The, a, in_parentheses, parens, listed, comparison, query, operand, set_tail, expr, expr_tail, value, rest, inner, in_inner, most_separators}
 use Rattle.sql_grammar.specs.QueryTails.{commas, next_comma, insides}
 use Rattle.sql_grammar.specs.Queries.{rules}
 use Rattle.sql_grammar.specs.FactoredQueries.{factored, factored_of_insides, going_on, going_on_by_and, enclosed_first, by_word}
@@ -27,7 +27,7 @@ module _ (variant : Variant) where
   left_factored_list = factored_of_insides commas
 
   abbrev no_commas : (room : Room) → (fl variant room commas).spells [] []
-  no_commas room = star_none (P variant) room (Some 255) next_comma
+  no_commas room = star_none (P variant) room (Some most_separators) next_comma
 
   -- ---- a list
 

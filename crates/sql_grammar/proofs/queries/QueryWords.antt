@@ -232,12 +232,12 @@ or_cases true y e = inl refl
 or_cases false y e = inr e
 
 abbrev by_kind : Kind → Bool
-by_kind kind = same k.Quoted kind || (among (k.Word ∷ k.Key ∷ k.View ∷ k.Index ∷ []) kind || (same k.Count kind || among (k.Sum ∷ k.Avg ∷ k.Min ∷ k.Max ∷ []) kind))
+by_kind kind = same k.Quoted kind || (among k.called_kinds kind || (same k.Count kind || among k.other_aggregates kind))
 
 name_by_kind : (kind : Kind) → among name_kinds kind ≡ true → by_kind kind ≡ true
 name_by_kind kind e = implied (among name_kinds kind) (by_kind kind) (every_kind_is_there (λ x. not (among name_kinds x) || by_kind x) refl kind) e
 
-aggregate_by_kind : (kind : Kind) → among (k.Count ∷ k.Sum ∷ k.Avg ∷ k.Min ∷ k.Max ∷ []) kind ≡ true → (same k.Count kind || among (k.Sum ∷ k.Avg ∷ k.Min ∷ k.Max ∷ []) kind) ≡ true
+aggregate_by_kind : (kind : Kind) → among (k.Count ∷ k.other_aggregates) kind ≡ true → (same k.Count kind || among k.other_aggregates kind) ≡ true
 aggregate_by_kind kind e = e
 
 module _ (variant : Variant) where
@@ -253,20 +253,20 @@ module _ (variant : Variant) where
       prefix room ts (inr (v, e, s)) = elim (or_cases (q (kind_of v)) (r (kind_of v)) (m (kind_of v) s)) [ inl x ↦ inl (inr (v, e, x)) | inr y ↦ inr (inr (v, e, y)) ]
 
   abbrev after_quoted : Kind → Bool
-  after_quoted kind = among (k.Word ∷ k.Key ∷ k.View ∷ k.Index ∷ []) kind || (same k.Count kind || among (k.Sum ∷ k.Avg ∷ k.Min ∷ k.Max ∷ []) kind)
+  after_quoted kind = among k.called_kinds kind || (same k.Count kind || among k.other_aggregates kind)
 
   abbrev aggregates : Kind → Bool
-  aggregates kind = same k.Count kind || among (k.Sum ∷ k.Avg ∷ k.Min ∷ k.Max ∷ []) kind
+  aggregates kind = same k.Count kind || among k.other_aggregates kind
 
   pub name_parts : Below (P variant) name (alt (a k.Quoted) (alt called_word (alt (a k.Count) other_aggregate)))
   name_parts =
       through (token_parts (among name_kinds) (same k.Quoted) after_quoted name_by_kind)
       (below_alt (itself (a k.Quoted))
-      (through (token_parts after_quoted (among (k.Word ∷ k.Key ∷ k.View ∷ k.Index ∷ [])) aggregates (λ kind e. e))
-      (below_alt (itself called_word) (token_parts aggregates (same k.Count) (among (k.Sum ∷ k.Avg ∷ k.Min ∷ k.Max ∷ [])) (λ kind e. e)))))
+      (through (token_parts after_quoted (among k.called_kinds) aggregates (λ kind e. e))
+      (below_alt (itself called_word) (token_parts aggregates (same k.Count) (among k.other_aggregates) (λ kind e. e)))))
 
   pub aggregate_parts : Below (P variant) aggregate_word (alt (a k.Count) other_aggregate)
-  aggregate_parts = token_parts (among (k.Count ∷ k.Sum ∷ k.Avg ∷ k.Min ∷ k.Max ∷ [])) (same k.Count) (among (k.Sum ∷ k.Avg ∷ k.Min ∷ k.Max ∷ [])) aggregate_by_kind
+  aggregate_parts = token_parts (among (k.Count ∷ k.other_aggregates)) (same k.Count) (among k.other_aggregates) aggregate_by_kind
 
   -- ---- words
 

@@ -1,12 +1,13 @@
 -- All readers agree with the left-factored grammar: each level from the one below it, and so, by induction, all of them.
 use Rattle.std.proofs.Common.{◌≡◌, ◌-◌, sym, ℕ, zero, suc, Result, Ok, Err, subst, arith}
 use Rattle.grammar.specs.Form.{ref}
-use Rattle.sql_read.specs.declared.fault.ReadFault.{ReadFault}
-use Rattle.sql_read.specs.declared.fault.ReadFault.TheVariants.{NoMemory}
+use Rattle.sql_cursor.specs.declared.fault.ReadFault.{ReadFault}
+use Rattle.sql_cursor.specs.declared.fault.ReadFault.TheVariants.{NoMemory}
 use Rattle.sql_read.specs.Copied.{Copied}
-use Rattle.sql_read.specs.Cursor.{Cursor}
+use Rattle.sql_cursor.specs.Cursor.{Cursor}
 use Rattle.sql_read.specs.Reads.{Reads}
-use Rattle.sql_read.specs.Reading.{Gives, Reading, at, query}
+use Rattle.sql_read.specs.Reading.{at, query}
+use Rattle.sql_cursor.specs.Readers.{Gives, Reading}
 use Rattle.sql_grammar.specs.Numbering.{Built}
 use Rattle.sql_grammar.specs.QueryGrammar as grammar
 use Rattle.sql_grammar.specs.QueryGrammar.{The}

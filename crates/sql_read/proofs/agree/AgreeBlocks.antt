@@ -8,18 +8,19 @@ use Rattle.sql_model.specs.declared.tree.Entry.{Entry}
 use Rattle.sql_model.specs.declared.tree.Expr.{Expr}
 use Rattle.sql_model.specs.declared.tree.Item.{Item}
 use Rattle.sql_model.specs.declared.tree.Query.{Query}
-use Rattle.sql_read.specs.Cursor.{Cursor}
-use Rattle.sql_read.specs.Eating.{Extends, Passes, PassesWithin}
+use Rattle.sql_cursor.specs.Cursor.{Cursor}
+use Rattle.sql_cursor.specs.Eating.{Extends, Passes, PassesWithin}
 use Rattle.sql_read.specs.Reads.{Takes, entries_too, few_form}
 use Rattle.sql_read.specs.Reading as r
-use Rattle.sql_read.specs.Reading.{Deeper, Reader, Reading, ◌>>=◌, accepted, block, clauses, comma, condition, done, entries, expected, expr, group_by, item, items, reference}
+use Rattle.sql_read.specs.Reading.{Deeper, block, clauses, comma, condition, entries, expr, group_by, item, items, reference}
+use Rattle.sql_cursor.specs.Readers.{Reader, Reading, ◌>>=◌, accepted, done, expected}
 use Rattle.sql_grammar.specs.declared.kinds.Kind.TheVariants as kind
 use Rattle.sql_grammar.specs.declared.kinds.Kind.{Kind}
 use Rattle.sql_grammar.specs.Kinds.{same}
 use Rattle.sql_grammar.specs.Numbering.{Built, each, perhaps, plain}
 use Rattle.sql_grammar.specs.QueryEntries.{few_froms, most_further}
 use Rattle.sql_grammar.specs.QueryGrammar as grammar
-use Rattle.sql_grammar.specs.QueryGrammar.{The, listed}
+use Rattle.sql_grammar.specs.QueryGrammar.{The, listed, most_separators}
 use Rattle.sql_grammar.specs.QueryTrees.{all_entries, all_of, block_node, block_of, columns_of, is_given}
 use Rattle.sql_grammar.proofs.copies.QueryFillings.{fill_block, fill_from, fill_froms, fill_groups, fill_having, fill_listed, fill_none, fill_reference, fill_seq, fill_token, fill_where, word}
 use Rattle.sql_grammar.proofs.queries.QueryTable.{left_factored}
@@ -28,7 +29,7 @@ use Rattle.sql_read.proofs.steps.AgreeChains.{listed_agrees}
 use Rattle.sql_read.proofs.steps.AgreeLoops.{parts_repeat, skipped_word}
 use Rattle.sql_read.proofs.steps.AgreeSteps.{by_eaten_alone, none_here}
 use Rattle.sql_read.proofs.steps.Agreeing.{Agrees, AgreesWithin, Residual, ResidualIn, all_left, behind, behind_taken, built, by_eaten, by_expected, by_read, by_token, first_of, first_to, inside, makes, mapped, mapped_to, needs_at, production, refused_here, second, second_to, stopped, then_part, then_rest, whole, whole_in}
-use Rattle.sql_read.proofs.steps.Extending.{◌⨟◌, extends_itself, extends_passes}
+use Rattle.sql_cursor.proofs.code.Extending.{◌⨟◌, extends_itself, extends_passes}
 use Rattle.sql_read.proofs.steps.ReadLoops.{begins_skip, takes}
 use Rattle.sql_read.proofs.steps.ReadPassing.{◌then◌, Alike, alike_passes, built_from}
 use Rattle.sql_read.proofs.parts.ReadBlocks.{Items, after_distinct, after_from, after_items, alike_columns, block_built, built_columns, clause_below, distinct_below, any_froms, fewer_froms, from_clause, froms_below, items_below, optional_below}
@@ -67,8 +68,8 @@ module _ (levels : ℕ) where
       (λ room now go. by_eaten_alone (Grouped c) kind.Comma now room go)
       refl (begins_skip commas (ref grammar.reference)) refl reference (reference_agrees levels) (λ xs t x. xs ++ x ∷ []) (λ some. plain (first.read ∷ some)) (λ some t x. record { numbers = λ n. refl; copies = refl })
       (λ some. refl) (λ fault end t. t)
-      (λ some xs now r none n t e. built whole (Some (first.read, some)) t e (built_map (λ z. Some z) r)) 255 (x ∷ []) (built_map (λ z. z ∷ []) (built_from alike first.builds)) (second l refl t))
-      (λ fault end t. stopped (first_of l refl (fill_none (Some 255) (skip_then (grammar.a kind.Comma) (ref grammar.reference)))) (λ v. omega (arith, alike.copies)) t)
+      (λ some xs now r none n t e. built whole (Some (first.read, some)) t e (built_map (λ z. Some z) r)) most_separators (x ∷ []) (built_map (λ z. z ∷ []) (built_from alike first.builds)) (second l refl t))
+      (λ fault end t. stopped (first_of l refl (fill_none (Some most_separators) (skip_then (grammar.a kind.Comma) (ref grammar.reference)))) (λ v. omega (arith, alike.copies)) t)
 
   pub group_by_agrees : (c : Cursor) → Agrees grammar.group_by levels columns columns c c (group_by c)
   unfolding group_by

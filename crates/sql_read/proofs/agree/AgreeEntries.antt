@@ -5,12 +5,13 @@ use Rattle.grammar.specs.Productions.{optional, skip_then}
 use Rattle.grammar.proofs.readers.Predictions.{ahead}
 use Rattle.sql_lex.specs.Lexemes.{Lexeme}
 use Rattle.sql_model.specs.declared.tree.Entry.{Entry}
-use Rattle.sql_read.specs.declared.fault.ReadFault.{ReadFault}
+use Rattle.sql_cursor.specs.declared.fault.ReadFault.{ReadFault}
 use Rattle.sql_read.specs.Copied.{Copied}
-use Rattle.sql_read.specs.Cursor.{Cursor}
-use Rattle.sql_read.specs.Eating.{Extends, Passes, PassesWithin, allowed_entry, is_next, Overflows}
+use Rattle.sql_cursor.specs.Cursor.{Cursor}
+use Rattle.sql_cursor.specs.Eating.{Extends, Passes, PassesWithin, allowed_entry, is_next, Overflows}
 use Rattle.sql_read.specs.Reads.{Takes, entries_too, few_form, Builds, RefusesWithin}
-use Rattle.sql_read.specs.Reading.{Deeper, Reader, Reading, ◌>>=◌, accepted, done, eaten_within, entry, expected, joined_entry, joined_on, on}
+use Rattle.sql_read.specs.Reading.{Deeper, entry, joined_entry, joined_on}
+use Rattle.sql_cursor.specs.Readers.{Reader, Reading, ◌>>=◌, accepted, done, eaten_within, expected, on}
 use Rattle.sql_read.specs.Reading as reading
 use Rattle.sql_grammar.specs.declared.kinds.Kind.TheVariants as k
 use Rattle.sql_grammar.specs.declared.listed.Listed.{Listed}
@@ -26,11 +27,11 @@ use Rattle.sql_grammar.proofs.queries.QueryWords.{Below}
 use Rattle.grammar.proofs.factorings.Alike.{below_seq, itself}
 use Rattle.sql_grammar.specs.FactoredQueries.{of_factored}
 use Rattle.grammar.proofs.readers.Begun.{nothing_began}
-use Rattle.sql_read.specs.declared.fault.ReadFault.TheVariants.{TooDeep}
+use Rattle.sql_cursor.specs.declared.fault.ReadFault.TheVariants.{TooDeep}
 use Rattle.sql_read.proofs.steps.AgreeDeeper.{DeeperAgrees}
 use Rattle.sql_read.proofs.steps.AgreeSteps.{by_eaten_alone, fill_group}
 use Rattle.sql_read.proofs.steps.Agreeing.{Agrees, AgreesWithin, Residual, ResidualIn, StopsIn, all_left, behind, behind_taken, built, by_eaten, by_next, ends_in, first, first_of, first_to, inside, mapped, mapped_to, needs_at, nested, one_to, other, other_to, production, second, second_to, then_part, too_deep_here, whole, by_expected, missing, refused_here, whole_in}
-use Rattle.sql_read.proofs.steps.Extending.{◌⨟◌, extends_itself, extends_passes, extends_within}
+use Rattle.sql_cursor.proofs.code.Extending.{◌⨟◌, extends_itself, extends_passes, extends_within}
 use Rattle.sql_read.proofs.agree.AgreeItems.{fill_alias, alias_agrees, table_entry_agrees}
 use Rattle.sql_read.proofs.steps.ReadCopies.{copied_before}
 use Rattle.sql_read.proofs.code.Loops.{no_level, no_name}

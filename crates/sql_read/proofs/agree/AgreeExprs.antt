@@ -6,17 +6,18 @@ use Rattle.grammar.specs.Productions.{optional}
 use Rattle.sql_lex.specs.Lexemes.{Lexeme}
 use Rattle.sql_model.specs.declared.tree.Expr.{Expr}
 use Rattle.sql_model.specs.declared.tree.Expr.TheVariants as an_expr
-use Rattle.sql_read.specs.declared.tokens.counting.Mark.{Mark}
-use Rattle.sql_read.specs.Cursor.{Cursor}
-use Rattle.sql_read.specs.Eating.{Extends, IsMark, PassesWithin, is_next}
+use Rattle.sql_cursor.specs.declared.tokens.counting.Mark.{Mark}
+use Rattle.sql_cursor.specs.Cursor.{Cursor}
+use Rattle.sql_cursor.specs.Eating.{Extends, IsMark, PassesWithin, is_next}
 use Rattle.sql_read.specs.Reads.{Builds, IsBuilt, Takes}
 use Rattle.sql_read.specs.Reading as reading
-use Rattle.sql_read.specs.Reading.{Deeper, Reader, Reading, ◌>>=◌, accepted, aggregated, ands, argument, conj, done, expr, expr_kinds, expr_tail, exprs, negated, neg, ors, products, sums, tested_value, tested, eaten, eaten_within, mark, term, unary, value}
+use Rattle.sql_read.specs.Reading.{Deeper, aggregated, ands, argument, conj, expr, expr_kinds, expr_tail, exprs, negated, neg, ors, products, sums, tested_value, tested, term, unary, value}
+use Rattle.sql_cursor.specs.Readers.{Reader, Reading, ◌>>=◌, accepted, done, eaten, eaten_within, mark}
 use Rattle.sql_grammar.specs.declared.kinds.Kind.TheVariants as k
 use Rattle.sql_grammar.specs.Kinds.{among, kind_of, same, every_kind}
 use Rattle.sql_grammar.specs.Numbering.{Built, each}
 use Rattle.sql_grammar.specs.QueryGrammar as grammar
-use Rattle.sql_grammar.specs.QueryGrammar.{The, a, exists, listed, next_and, next_or, next_sum, not_neg}
+use Rattle.sql_grammar.specs.QueryGrammar.{The, a, exists, listed, next_and, next_or, next_sum, not_neg, most_operators, most_separators}
 use Rattle.sql_grammar.specs.FactoredQueries.{one_argument}
 use Rattle.sql_grammar.specs.QueryTrees.{aggregate, and_node, chained, is_given, listed_or_none, not_of, operated, or_node}
 use Rattle.sql_grammar.proofs.copies.QueryFillings.{fill_absent, fill_none, fill_other, fill_seq, fill_test, fill_token, Filled, fill_map, fill_neg, fill_nest, fill_one, number_one, word}
@@ -27,7 +28,7 @@ use Rattle.sql_read.proofs.agree.AgreeNames.{word_kinds}
 use Rattle.sql_read.proofs.agree.AgreeTests.{exists_agrees, test_agrees, tested_agrees}
 use Rattle.sql_read.proofs.agree.AgreePrimaries.{products_agrees, sums_agrees}
 use Rattle.sql_read.proofs.steps.Agreeing.{Agrees, Residual, behind, behind_taken, built, by_eaten, by_next, makes, ends_in, mapped, production, second, then_rest, then_tail, whole}
-use Rattle.sql_read.proofs.steps.Extending.{extends_itself, extends_passes}
+use Rattle.sql_cursor.proofs.code.Extending.{extends_itself, extends_passes}
 use Rattle.sql_read.proofs.steps.ReadPassing.{Alike, alike_passes, alike_within, built_from}
 use Rattle.sql_read.proofs.steps.ReadSteps as steps
 use Rattle.sql_read.proofs.steps.ReadSteps.{built_map, none_taken, plain_here, starts, took_token}
@@ -39,7 +40,7 @@ use Rattle.sql_grammar.specs.declared.kinds.Kind.{Kind}
 use Rattle.sql_grammar.proofs.lists.EveryKind.{every_kind_is_there}
 
 fill_chain : Filled (seq grammar.ands grammar.ors) ([], [])
-fill_chain = fill_seq (fill_none (Some 255) next_and) (fill_none (Some 255) next_or)
+fill_chain = fill_seq (fill_none (Some most_separators) next_and) (fill_none (Some most_separators) next_or)
 
 fill_not : Filled (alt not_neg exists) (t.not_of (word (codes "not"), number_one))
 fill_not = fill_one _ (fill_map t.not_of (fill_nest (fill_seq (fill_token k.Not (word (codes "not")) refl refl) fill_neg)))
@@ -108,7 +109,7 @@ module _ (levels : ℕ) (deeper : Deeper) (d : DeeperAgrees levels deeper) where
   pub conj_agrees : (c : Cursor) → Agrees (ref grammar.conj) levels (λ read. read) (λ read. read) c c (conj levels deeper c)
   unfolding conj
   conj_agrees c =
-      then_tail (neg levels deeper c) (ands levels deeper) (neg_agrees c) (mapped (production grammar.conj whole)) refl (fill_none (Some 255) next_and) (λ v. refl) (λ read first mid b. ands_agrees read c mid first b)
+      then_tail (neg levels deeper c) (ands levels deeper) (neg_agrees c) (mapped (production grammar.conj whole)) refl (fill_none (Some most_separators) next_and) (λ v. refl) (λ read first mid b. ands_agrees read c mid first b)
 
   pub ors_agrees : (before : Built Expr) (start now : Cursor) (first : Expr) → Builds before start first now
       → Agrees grammar.ors levels (λ more. chained or_node (before, more)) (λ more. chained or_node (before, more)) start now (ors levels deeper first now)
@@ -118,7 +119,7 @@ module _ (levels : ℕ) (deeper : Deeper) (d : DeeperAgrees levels deeper) where
   pub expr_agrees : (c : Cursor) → Agrees (ref grammar.expr) levels (λ read. read) (λ read. read) c c (expr levels deeper c)
   unfolding expr
   expr_agrees c =
-      then_tail (conj levels deeper c) (ors levels deeper) (conj_agrees c) (mapped (production grammar.expr whole)) refl (fill_none (Some 255) next_or) (λ v. refl) (λ read first mid b. ors_agrees read c mid first b)
+      then_tail (conj levels deeper c) (ors levels deeper) (conj_agrees c) (mapped (production grammar.expr whole)) refl (fill_none (Some most_separators) next_or) (λ v. refl) (λ read first mid b. ors_agrees read c mid first b)
 
   -- ---- what follows a first part
 
@@ -128,14 +129,14 @@ module _ (levels : ℕ) (deeper : Deeper) (d : DeeperAgrees levels deeper) where
   pub and_tail_agrees : (before : Built Expr) (start now : Cursor) (first : Expr) → Builds before start first now
       → Agrees (ref grammar.and_tail) levels (λ tail. tail before) (λ tail. tail before) start now (and_tail first now)
   and_tail_agrees before start now first b =
-      then_tail (ands levels deeper first now) (ors levels deeper) (ands_agrees before start now first b) (mapped (production grammar.and_tail whole)) refl (fill_none (Some 255) next_or) (λ v. refl)
+      then_tail (ands levels deeper first now) (ors levels deeper) (ands_agrees before start now first b) (mapped (production grammar.and_tail whole)) refl (fill_none (Some most_separators) next_or) (λ v. refl)
       (λ read left mid b. ors_agrees _ start mid left b)
 
   -- operators behind a first part
   operators_agree : (before : Built Expr) (start now : Cursor) (first : Expr) → Builds before start first now
       → Agrees (seq grammar.products grammar.sums) levels (λ v. operated (operated before v.0) v.1) (λ v. operated (operated before v.0) v.1) start now (products levels deeper first now >>= sums levels deeper)
   operators_agree before start now first b =
-      then_tail (products levels deeper first now) (sums levels deeper) (products_agrees levels deeper d b) whole refl (fill_none (Some 63) next_sum) (λ v. refl) (λ read left mid b. sums_agrees levels deeper d b)
+      then_tail (products levels deeper first now) (sums levels deeper) (products_agrees levels deeper d b) whole refl (fill_none (Some most_operators) next_sum) (λ v. refl) (λ read left mid b. sums_agrees levels deeper d b)
 
   module _ (before : Built Expr) (count : ℕ) (began now : Cursor) (start : Mark) (first : Expr) (marked : IsMark start began) (b : IsBuilt before count began first now) where
     abbrev Tail : Reading Expr → Type 0
@@ -149,7 +150,7 @@ module _ (levels : ℕ) (deeper : Deeper) (d : DeeperAgrees levels deeper) where
     together = then_counted (products levels deeper first now >>= sums levels deeper) (λ v left. operated (operated left.0 v.0) v.1) (operators_agree before began now first b.builds)
         (mapped (production grammar.expr_tail (whole {start = now}))) refl (fill_seq (fill_absent (ref grammar.rest)) fill_chain) (λ u count. refl) (λ v. refl)
         (λ left mid t l. then_rest (tested levels deeper start left mid) (tested_agrees levels deeper d _ _ began mid start left marked (counted_on b t.extends t.reads.answers.builds))
-        (λ left next u. then_tail (ands levels deeper left next) (ors levels deeper) (ands_agrees _ began next left u.reads.answers.builds) (second l refl u) refl (fill_none (Some 255) next_or) (λ v. refl)
+        (λ left next u. then_tail (ands levels deeper left next) (ors levels deeper) (ands_agrees _ began next left u.reads.answers.builds) (second l refl u) refl (fill_none (Some most_separators) next_or) (λ v. refl)
         (λ read left last b. ors_agrees _ began last left b))
         l refl fill_chain (λ v. refl))
 

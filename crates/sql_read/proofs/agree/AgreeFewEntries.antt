@@ -8,18 +8,19 @@ use Rattle.grammar.specs.Productions.{skip_then}
 use Rattle.grammar.proofs.readers.Predictions.{ahead}
 use Rattle.sql_lex.specs.Lexemes.{Lexeme}
 use Rattle.sql_model.specs.declared.tree.Entry.{Entry}
-use Rattle.sql_read.specs.declared.fault.ReadFault.{ReadFault}
-use Rattle.sql_read.specs.Cursor.{Cursor}
-use Rattle.sql_read.specs.Eating.{PassesWithin, is_next}
-use Rattle.sql_read.specs.Reads.{Builds, GivesWithin, TakesWithin, depth_alone, entries_too, few_form, of_form, Told, RefusesWithin}
-use Rattle.sql_read.specs.Reading.{Deeper, Reading, ◌>>=◌, comma, done, entries, entry, from, joined, next_from, on}
+use Rattle.sql_cursor.specs.declared.fault.ReadFault.{ReadFault}
+use Rattle.sql_cursor.specs.Cursor.{Cursor}
+use Rattle.sql_cursor.specs.Eating.{PassesWithin, is_next}
+use Rattle.sql_read.specs.Reads.{Builds, GivesWithin, TakesWithin, depth_alone, entries_too, few_form, Told, RefusesWithin}
+use Rattle.sql_read.specs.Reading.{Deeper, comma, entries, entry, from, joined, next_from}
+use Rattle.sql_cursor.specs.Readers.{Reading, ◌>>=◌, done, on}
 use Rattle.sql_grammar.specs.declared.kinds.Kind.TheVariants as k
 use Rattle.sql_grammar.specs.declared.listed.Listed.{Listed}
 use Rattle.sql_grammar.specs.Kinds.{same}
 use Rattle.sql_grammar.specs.Numbering.{Built, Numbers, both, each, mapped as built_mapped, plain}
 use Rattle.sql_grammar.specs.QueryEntries.{few_froms, most_entries, most_further}
 use Rattle.sql_grammar.specs.QueryGrammar as grammar
-use Rattle.sql_grammar.specs.QueryGrammar.{The, listed}
+use Rattle.sql_grammar.specs.QueryGrammar.{The, listed, most_separators}
 use Rattle.sql_grammar.specs.QueryTrees as t
 use Rattle.sql_grammar.specs.QueryTrees.{all_entries, appended, concatenated, entry_of}
 use Rattle.sql_grammar.proofs.copies.QueryFillings.{fill_none}
@@ -37,6 +38,7 @@ use Rattle.sql_read.proofs.steps.ReadPassing.{alike_within, built_until}
 use Rattle.grammar.proofs.readers.Residuals.{residual_whole}
 use Rattle.sql_read.proofs.steps.ReadSteps.{built_both, built_map, halts_of, plain_here, absent_unless, refuses_less}
 use Rattle.sql_read.proofs.steps.AgreeDeeper.{DeeperAgrees}
+use Rattle.sql_grammar.specs.FactoredQueries.{in_factored}
 
 module _ {A : Type 0} {f : The A} {B C : Language Lexeme A} {d : ℕ} where
   taken_alone : {told : Told} {here rest : List Lexeme} {v : A} → TakesWithin told f B d here v rest → TakesWithin depth_alone f C d here v rest
@@ -45,7 +47,7 @@ module _ {A : Type 0} {f : The A} {B C : Language Lexeme A} {d : ℕ} where
   refused_alone : (a b : Cursor) (fault : ReadFault) → RefusesWithin entries_too f B d a fault b → RefusesWithin depth_alone f C d a fault b
   refused_alone a b fault t =
       refuses_less entries_too {less = depth_alone} {f = f} {B = B} {d = d} {N = f} {NB = C} {e = d} (λ n. absurd n) (λ n. n) (λ n. n) a a b fault
-      (record { halts = halts_of (residual_whole (of_form None f) (of_form (Some d) f) a.tokens); few = λ n. absurd n }) t
+      (record { halts = halts_of (residual_whole (in_factored None f) (in_factored (Some d) f) a.tokens); few = λ n. absurd n }) t
 
 -- what is told of the limit on depth and length alone
 alone : {V A : Type 0} {f : The V} {B C : Language Lexeme V} {d : ℕ} {k w : V → Built A} {began a : Cursor} {r : Reading A} → AgreesWithin entries_too f B d k w began a r → AgreesWithin depth_alone f C d k w began a r
@@ -68,7 +70,7 @@ none_found count n g =
     let s = (g.takes.few tt).spelled in no_joins _ g.read (subst (λ (b : Bool). (few_form (joins_of (fitting b))).spells (g.takes.few tt).taken g.read) n s)
 
 full : (count : ℕ) → 0 ≡ most_entries - count → fits count ≡ false
-full count e = false_from_ne_true (fits count) (λ n. let less : count < 32 = ltb-true count 32 n in omega (arith, less, e))
+full count e = false_from_ne_true (fits count) (λ n. let less : count < most_entries = ltb-true count most_entries n in omega (arith, less, e))
 
 one_longer : (es : List Entry) (value : Entry) → length es + 1 ≡ length (es ++ value ∷ [])
 one_longer es value = omega (arith, length-append es (value ∷ []))
@@ -217,5 +219,5 @@ module _ (levels : ℕ) (deeper : Deeper) (d : DeeperAgrees levels deeper) where
       (from_agrees (all_entries (first.read, some)) es c mid c.tokens (built_until i.builds (alike_within q)) (behind_comma now word q.passes i.few.further))
       (λ found end v. let read = v.agrees.reads.answers in go read.read found end read.takes v.agrees.extends (record { builds = built_same (listed_same first.read some read.read) read.builds; few = v.few.answers }))
       (λ fault end v. items_stopped (stopped s (λ x. ap (λ z. c.copies + z) (listed_same first.read some x).copies) v.agrees) v.few.answers))
-      255 [] es mid (record { builds = built_same (alone_same first.read) first.builds; few = u.few.answers }) (λ e. refl) (second whole refl u.agrees))
-      (λ fault end u. items_stopped (stopped (first_of whole refl (fill_none (Some 255) (skip_then (grammar.a k.Comma) (ref grammar.from)))) (λ v. omega arith) u.agrees) u.few.answers)
+      most_separators [] es mid (record { builds = built_same (alone_same first.read) first.builds; few = u.few.answers }) (λ e. refl) (second whole refl u.agrees))
+      (λ fault end u. items_stopped (stopped (first_of whole refl (fill_none (Some most_separators) (skip_then (grammar.a k.Comma) (ref grammar.from)))) (λ v. omega arith) u.agrees) u.few.answers)

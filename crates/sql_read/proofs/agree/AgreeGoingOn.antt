@@ -7,12 +7,13 @@ use Rattle.sql_model.specs.declared.tree.Item.{Item}
 use Rattle.sql_model.specs.declared.tree.Item.TheVariants as an_item
 use Rattle.sql_read.specs.declared.reading.item.Starred.{Starred}
 use Rattle.sql_read.specs.declared.reading.item.Starred.TheVariants as starred
-use Rattle.sql_read.specs.Cursor.{Cursor}
+use Rattle.sql_cursor.specs.Cursor.{Cursor}
 use Rattle.sql_read.specs.Parts.{built_starred}
-use Rattle.sql_read.specs.Reads.{Builds, entries_too, few_form, of_form}
-use Rattle.sql_read.specs.Reading.{Deeper, Reading, ◌>>=◌, enclosed, expr_tail, item, item_name, mark, name_or_star, named_first, named_item, negative, seen, starred_item, called_kinds, eaten, eaten_within, expected, expected_within, expr, in_parentheses, neg, other_aggregates, primary, unary}
+use Rattle.sql_read.specs.Reads.{Builds, entries_too, few_form}
+use Rattle.sql_read.specs.Reading.{Deeper, enclosed, expr_tail, item, item_name, name_or_star, named_first, named_item, negative, starred_item, expr, in_parentheses, neg, primary, unary}
+use Rattle.sql_cursor.specs.Readers.{Reading, ◌>>=◌, mark, seen, eaten, eaten_within, expected, expected_within}
 use Rattle.sql_grammar.specs.declared.kinds.Kind.TheVariants as kind
-use Rattle.sql_grammar.specs.Kinds.{among, name_kinds, same}
+use Rattle.sql_grammar.specs.Kinds.{among, called_kinds, name_kinds, other_aggregates, same}
 use Rattle.sql_grammar.specs.Numbering.{Built, plain}
 use Rattle.sql_grammar.specs.QueryGrammar as grammar
 use Rattle.sql_grammar.specs.QueryGrammar.{The, minus}
@@ -27,8 +28,8 @@ use Rattle.sql_read.proofs.steps.ReadForks.{first_of, star_of, takes_mapped}
 use Rattle.sql_read.proofs.parts.ReadInsides.{takes_nothing}
 use Rattle.sql_read.proofs.steps.AgreeSteps.{behind_first, counted_of, fork_of, behind_other, first_unless, first_where, other_where, then_counted}
 use Rattle.sql_read.proofs.steps.Agreeing.{StopsIn, Agrees, Residual, all_left, built, by_eaten, by_next, by_token, ends_in, inside, makes, mapped, other_unless, production, second, then_part, then_rest, then_tail, whole}
-use Rattle.sql_read.proofs.steps.Extending.{extends_itself, extends_passes}
-use Rattle.sql_grammar.specs.FactoredQueries.{enclosed_first, going_on, going_on_by_and, star_or_left}
+use Rattle.sql_cursor.proofs.code.Extending.{extends_itself, extends_passes}
+use Rattle.sql_grammar.specs.FactoredQueries.{enclosed_first, going_on, going_on_by_and, star_or_left, in_factored}
 use Rattle.sql_grammar.proofs.queries.QueryTable.{left_factored}
 use Rattle.sql_read.proofs.agree.AgreeItems.{item_name_agrees, name_or_star_agrees}
 use Rattle.sql_read.proofs.steps.ReadPassing.{alike_passes, built_counted, took_counted}
@@ -37,7 +38,7 @@ use Rattle.sql_read.proofs.agree.AgreeNames.{literal_kinds, word_kinds, by_liter
 use Rattle.sql_read.proofs.steps.AgreeDeeper.{DeeperAgrees}
 use Rattle.sql_read.proofs.agree.AgreeExprs.{and_tail_agrees, expr_tail_agrees, not_or_exists_agrees, and_tail, expr_by_neg, expr_by_unary, none_among}
 use Rattle.sql_read.proofs.agree.AgreePrimaries.{enclosed_agrees, named_first_agrees, negative_agrees}
-use Rattle.sql_read.specs.Eating.{is_next}
+use Rattle.sql_cursor.specs.Eating.{is_next}
 
 -- ---- items with their names
 
@@ -132,7 +133,7 @@ module _ (levels : ℕ) (deeper : Deeper) (d : DeeperAgrees levels deeper) where
   star_stops c = counted_of (inside (fork_of whole refl (fill_map (λ nothing qual. t.alias_star_item qual) fill_empty)
       (fill_map (λ p left. t.value_item (p.0 left) p.1) (fill_seq fill_expr_tail (fill_absent grammar.alias)))) (all_left (mapped whole))) same_item
     where
-      same_item : (v : factored.Starred) (count : ℕ) → either_of left_factored 0 copies_nothing (of_form None factored.named_item) c.tokens t.alias_star_item item_alone (star_or_left (v, count)) ≡ item_of v
+      same_item : (v : factored.Starred) (count : ℕ) → either_of left_factored 0 copies_nothing (in_factored None factored.named_item) c.tokens t.alias_star_item item_alone (star_or_left (v, count)) ≡ item_of v
       same_item (inl qual) count = refl
       same_item (inr x) count = refl
 

@@ -6,19 +6,20 @@ use Rattle.sql_lex.specs.Lexemes.{Lexeme}
 use Rattle.sql_model.specs.declared.tree.Expr.{Expr}
 use Rattle.sql_model.specs.declared.tree.Expr.TheVariants as an_expr
 use Rattle.sql_model.specs.declared.tree.Query.{Query}
-use Rattle.sql_read.specs.declared.fault.ReadFault.{ReadFault}
+use Rattle.sql_cursor.specs.declared.fault.ReadFault.{ReadFault}
 use Rattle.sql_read.specs.declared.reading.inside.Grouped.{Grouped}
 use Rattle.sql_read.specs.declared.reading.inside.Grouped.TheVariants as grouped
 use Rattle.sql_read.specs.declared.reading.inside.Inside.{Inside}
 use Rattle.sql_read.specs.declared.reading.inside.Inside.TheVariants as inside
 use Rattle.sql_read.specs.declared.reading.test.Sought.{Sought}
-use Rattle.sql_read.specs.declared.tokens.counting.Mark.{Mark}
+use Rattle.sql_cursor.specs.declared.tokens.counting.Mark.{Mark}
 use Rattle.sql_read.specs.Copied.{CopiedToFault}
-use Rattle.sql_read.specs.Cursor.{Cursor}
-use Rattle.sql_read.specs.Eating.{IsMark, is_next}
+use Rattle.sql_cursor.specs.Cursor.{Cursor}
+use Rattle.sql_cursor.specs.Eating.{IsMark, is_next}
 use Rattle.sql_read.specs.Parts.{built_grouped, built_inside}
-use Rattle.sql_read.specs.Reads.{Builds, IsBuilt, entries_too, few_form, of_form}
-use Rattle.sql_read.specs.Reading.{Deeper, Reading, ◌>>=◌, after_group, after_query, block, done, expr_tail, in_after_group, in_after_query, in_inner, in_parentheses, inner, mark, members, expr, set_kinds, set_tail, tail_kinds}
+use Rattle.sql_read.specs.Reads.{Builds, IsBuilt, entries_too, few_form}
+use Rattle.sql_read.specs.Reading.{Deeper, after_group, after_query, block, expr_tail, in_after_group, in_after_query, in_inner, in_parentheses, inner, members, expr, set_kinds, set_tail, tail_kinds}
+use Rattle.sql_cursor.specs.Readers.{Reading, ◌>>=◌, done, mark}
 use Rattle.sql_grammar.specs.declared.kinds.Kind.TheVariants as kind
 use Rattle.sql_grammar.specs.declared.kinds.Kind.{Kind}
 use Rattle.sql_grammar.specs.Kinds.{among, same}
@@ -26,7 +27,7 @@ use Rattle.sql_grammar.specs.Numbering.{Built}
 use Rattle.grammar.proofs.readers.Completing.{either_of}
 use Rattle.sql_grammar.specs.QueryCopies.{copies_nothing}
 use Rattle.sql_grammar.specs.QueryGrammar as grammar
-use Rattle.sql_grammar.specs.QueryGrammar.{The}
+use Rattle.sql_grammar.specs.QueryGrammar.{The, most_separators}
 use Rattle.sql_grammar.specs.QueryTails.{commas, next_comma}
 use Rattle.sql_grammar.specs.FactoredQueries as factored
 use Rattle.sql_grammar.specs.QueryTrees as t
@@ -35,7 +36,7 @@ use Rattle.sql_grammar.proofs.copies.QueryFillings.{Filled, fill_empty, fill_exp
 use Rattle.sql_grammar.proofs.queries.QueryTable.{left_factored}
 use Rattle.sql_read.proofs.steps.AgreeSteps.{behind_first, behind_other, counted_of, first_next, fork_of, first_unless, first_where, other_where}
 use Rattle.sql_read.proofs.steps.Agreeing.{Agrees, Residual, StopsIn, all_left, built, by_next, ends_in, inside, makes, mapped, other_unless, production, second, then_part, then_rest, then_tail, whole}
-use Rattle.sql_read.proofs.steps.Extending.{extends_itself}
+use Rattle.sql_cursor.proofs.code.Extending.{extends_itself}
 use Rattle.sql_read.proofs.parts.ReadBegins.{expr_tail_begins, set_tail_begins}
 use Rattle.sql_read.proofs.steps.ReadCopies.{SameCost, copied_in}
 use Rattle.sql_read.proofs.parts.ReadInsides.{sorted_parentheses, built_in_query, built_sub, closed, closed_cost, expr_of, in_closed_cost, listed_cost, more_listed, no_commas, query_of, some_expr_tail, some_part, some_set_tail, takes_nothing, takes_some}
@@ -50,6 +51,7 @@ use Rattle.sql_read.proofs.agree.AgreeMembers.{members_agrees}
 use Rattle.sql_read.proofs.agree.AgreeBlocks.{block_agrees}
 use Rattle.sql_read.proofs.agree.AgreeGoingOn.{no_parenthesis_agrees}
 use Rattle.sql_read.proofs.agree.AgreePrimaries.{in_parentheses_agrees}
+use Rattle.sql_grammar.specs.FactoredQueries.{in_factored}
 
 -- ---- what has a token, and what nothing follows
 
@@ -90,7 +92,7 @@ module _ {A M : Type 0} {N : The A} {e d : ℕ} {start here : Cursor} {more : Th
       expr_closed : Filled (factored.after_expression more) expr_of
       expr_closed = fill_map (λ p left. inr (inr (p.0 left, p.1))) (fill_seq fill_expr_tail b)
 
-      same : (v : Lexeme × tails.Inside (Unit {0})) (count : ℕ) → h (either_of left_factored 0 copies_nothing (of_form None N) start.tokens query_of expr_of (factored.sort (v, count))) ≡ h (closed m v)
+      same : (v : Lexeme × tails.Inside (Unit {0})) (count : ℕ) → h (either_of left_factored 0 copies_nothing (in_factored None N) start.tokens query_of expr_of (factored.sort (v, count))) ≡ h (closed m v)
       same (open_, inl q) count = refl
       same (open_, inr (inl p)) count = refl
       same (open_, inr (inr p)) count = refl
@@ -178,7 +180,7 @@ module _ (levels : ℕ) (deeper : Deeper) (d : DeeperAgrees levels deeper) where
         (λ no_set. let l = other_unless (among set_kinds) (whole {start = now}) refl refl no_set in
         by_next InAfter (among tail_kinds) now
         (λ n. let l = mapped (first_next (among tail_kinds) l refl (λ u i. inl (expr_tail_begins u i)) n) in
-        then_tail (expr_tail levels deeper start (an_expr.Sub q at) now) (members levels deeper sought) (expr_tail_there opening found tokens_inside middle now start q at place marked b n) l refl (fill_none (Some 255) next_comma)
+        then_tail (expr_tail levels deeper start (an_expr.Sub q at) now) (members levels deeper sought) (expr_tail_there opening found tokens_inside middle now start q at place marked b n) l refl (fill_none (Some most_separators) next_comma)
         (λ v. omega (arith, value.copies)) (λ read x mid b. members_agrees levels deeper d before (read (t.sub (opening, found), tokens_inside)) count began middle mid sought x weight value b))
         (λ n. let l = mapped (other_unless (among tail_kinds) l refl refl n) in
         by_next InAfter (same kind.Comma) now (λ m. listed_there m l) (λ m. built l [] (no_commas now m) extends_itself (built_in_query word before found count in_at value b.builds))))
@@ -198,7 +200,7 @@ module _ (levels : ℕ) (deeper : Deeper) (d : DeeperAgrees levels deeper) where
     in_behind l (grouped.Expr x) mid u =
         let read = u.reads.answers in let i = expr_of u.extends read.read read.takes read.builds in
         let l = mapped (behind_other l refl i.takes u.extends) in
-        then_tail (expr_tail levels deeper (mark c) x mid) (members levels deeper sought) (expr_tail_agrees levels deeper d i.built (mid.passed - c.passed) c mid (mark c) x (refl, refl) i.builds) l refl (fill_none (Some 255) next_comma)
+        then_tail (expr_tail levels deeper (mark c) x mid) (members levels deeper sought) (expr_tail_agrees levels deeper d i.built (mid.passed - c.passed) c mid (mark c) x (refl, refl) i.builds) l refl (fill_none (Some most_separators) next_comma)
         (λ v. omega (arith, value.copies)) (λ read y end b. members_agrees levels deeper d before (read (i.built, mid.passed - c.passed)) count began c end sought y weight value b)
 
     pub in_inner_agrees : In (in_inner levels deeper sought c)
@@ -214,8 +216,8 @@ module _ (levels : ℕ) (deeper : Deeper) (d : DeeperAgrees levels deeper) where
         l refl fill_set_tail (λ v. omega (arith, value.copies)))
         (λ n. by_next In (same kind.Open) c
         (λ m. let l = other_where (same kind.Open) (other_unless (same kind.Select) l refl refl n) refl refl m in
-        then_part (in_parentheses levels deeper c) (in_after_group levels deeper sought (mark c)) (in_parentheses_agrees levels deeper d c) (group_stops l refl (fill_none (Some 255) next_comma))
+        then_part (in_parentheses levels deeper c) (in_after_group levels deeper sought (mark c)) (in_parentheses_agrees levels deeper d c) (group_stops l refl (fill_none (Some most_separators) next_comma))
         (λ v. omega (arith, in_closed_cost word (before, count) v, value.copies)) (in_behind l))
         (λ m. let l = mapped (first_unless (same kind.Open) (other_unless (same kind.Select) l refl refl n) refl refl m) in
-        then_tail (expr levels deeper c) (members levels deeper sought) (no_parenthesis_agrees levels deeper d c m) l refl (fill_none (Some 255) next_comma) (λ v. omega (arith, value.copies))
+        then_tail (expr levels deeper c) (members levels deeper sought) (no_parenthesis_agrees levels deeper d c m) l refl (fill_none (Some most_separators) next_comma) (λ v. omega (arith, value.copies))
         (λ read x mid b. members_agrees levels deeper d before read count began c mid sought x weight value b)))

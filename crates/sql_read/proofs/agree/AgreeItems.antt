@@ -5,11 +5,12 @@ use Rattle.grammar.specs.Productions.{optional}
 use Rattle.sql_lex.specs.Lexemes.{Lexeme}
 use Rattle.sql_read.specs.declared.reading.item.Starred.{Starred}
 use Rattle.sql_read.specs.declared.reading.item.Starred.TheVariants as starred
-use Rattle.sql_read.specs.Cursor.{Cursor}
-use Rattle.sql_read.specs.Eating.{Passes}
+use Rattle.sql_cursor.specs.Cursor.{Cursor}
+use Rattle.sql_cursor.specs.Eating.{Passes}
 use Rattle.sql_read.specs.Parts.{built_starred}
 use Rattle.sql_read.specs.Reads.{Builds}
-use Rattle.sql_read.specs.Reading.{Deeper, Reading, ◌>>=◌, alias, column_or_star, done, item_name, name_or_star, optional_alias, table_entry, table_named}
+use Rattle.sql_read.specs.Reading.{Deeper, alias, column_or_star, item_name, name_or_star, optional_alias, table_entry, table_named}
+use Rattle.sql_cursor.specs.Readers.{Reading, ◌>>=◌, done}
 use Rattle.sql_grammar.specs.declared.kinds.Kind.TheVariants as kind
 use Rattle.sql_grammar.specs.declared.kinds.Kind.{Kind}
 use Rattle.sql_grammar.specs.Kinds.{among, name_kinds, same}
@@ -22,7 +23,7 @@ use Rattle.sql_grammar.specs.QueryTrees as t
 use Rattle.sql_grammar.proofs.copies.QueryFillings.{fill_absent, fill_seq, fill_token_of, fill_second, Filled, word}
 use Rattle.sql_read.proofs.steps.AgreeSteps.{ends_alike, none_here, token_agrees}
 use Rattle.sql_read.proofs.steps.Agreeing.{Agrees, behind, behind_taken, built, by_eaten, by_eaten_last, by_token, makes, mapped, needs, needs_last, other_unless, Residual, whole}
-use Rattle.sql_read.proofs.steps.Extending.{extends_itself, extends_passes}
+use Rattle.sql_cursor.proofs.code.Extending.{extends_itself, extends_passes}
 use Rattle.sql_read.proofs.steps.ReadLoops.{takes}
 use Rattle.sql_read.proofs.steps.ReadPassing.{◌then◌, alike_passes, built_from, neither_next}
 use Rattle.sql_read.proofs.steps.ReadSteps as steps

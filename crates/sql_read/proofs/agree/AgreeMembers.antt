@@ -6,14 +6,15 @@ use Rattle.grammar.proofs.readers.Completing.{overspends_from}
 use Rattle.sql_lex.specs.Lexemes.{Lexeme}
 use Rattle.sql_model.specs.declared.tree.Expr.{Expr}
 use Rattle.sql_model.specs.declared.tree.Expr.TheVariants as an_expr
-use Rattle.sql_read.specs.declared.fault.LimitKind.TheVariants as limit
-use Rattle.sql_read.specs.declared.fault.ReadFault.TheVariants.{Limit}
+use Rattle.sql_cursor.specs.declared.fault.LimitKind.TheVariants as limit
+use Rattle.sql_cursor.specs.declared.fault.ReadFault.TheVariants.{Limit}
 use Rattle.sql_read.specs.declared.reading.test.Sought.{Sought}
 use Rattle.sql_read.specs.Copied.{CopiesTooMuch}
-use Rattle.sql_read.specs.Cursor.{Cursor}
-use Rattle.sql_read.specs.Eating.{Copies, Extends, PassesWithin}
-use Rattle.sql_read.specs.Reads.{Builds, Takes, of_form}
-use Rattle.sql_read.specs.Reading.{Deeper, Reading, ◌>>=◌, any_of, comma, compared_copy, done, expr, members, next_member, repeated}
+use Rattle.sql_cursor.specs.Cursor.{Cursor}
+use Rattle.sql_cursor.specs.Eating.{Copies, Extends, PassesWithin}
+use Rattle.sql_read.specs.Reads.{Builds, Takes}
+use Rattle.sql_read.specs.Reading.{Deeper, any_of, comma, compared_copy, expr, members, next_member}
+use Rattle.sql_cursor.specs.Readers.{Reading, ◌>>=◌, done, repeated}
 use Rattle.sql_grammar.specs.declared.kinds.Kind.TheVariants as k
 use Rattle.sql_grammar.specs.Kinds.{same}
 use Rattle.sql_grammar.specs.Numbering.{Built, Numbers, both, each}
@@ -29,11 +30,13 @@ use Rattle.sql_read.proofs.agree.AgreeExprs.{expr_agrees}
 use Rattle.sql_read.proofs.steps.AgreeLoops.{repeats, skipped_word}
 use Rattle.sql_read.proofs.steps.AgreeSteps.{Paid, by_copied, by_eaten_alone, extends_copied, there, tokens_copied, too_many_copies}
 use Rattle.sql_read.proofs.steps.Agreeing.{Agrees, all_left, built, by_made, inside, stopped, whole}
-use Rattle.sql_read.proofs.steps.Extending.{◌⨟◌}
+use Rattle.sql_cursor.proofs.code.Extending.{◌⨟◌}
 use Rattle.sql_read.proofs.parts.ReadChains.{each_more}
 use Rattle.sql_read.proofs.steps.ReadLoops.{begins_skip}
 use Rattle.sql_read.proofs.steps.ReadSteps as steps
 use Rattle.sql_read.proofs.steps.ReadSteps.{built_both, plain_here}
+use Rattle.sql_grammar.specs.QueryGrammar.{most_separators}
+use Rattle.sql_grammar.specs.FactoredQueries.{in_factored}
 
 -- ---- what is built
 
@@ -119,14 +122,14 @@ module _ (levels : ℕ) (deeper : Deeper) (d : DeeperAgrees levels deeper) where
         }
 
         -- a copy passes the limit
-        too_much : Continues copies_nothing (of_form None tails.commas) now.tokens (of_form None tails.commas) begun.tokens (λ others. some ++ others) → Copies sought.weight mid (Err (Limit limit.Copies)) mid
+        too_much : Continues copies_nothing (in_factored None tails.commas) now.tokens (in_factored None tails.commas) begun.tokens (λ others. some ++ others) → Copies sought.weight mid (Err (Limit limit.Copies)) mid
             → CopiesTooMuch tails.commas (λ others. t.in_list None (member, others) (before, count)) began begun mid
         too_much goes over = record {
           token = word;
-          overspends = overspends_from copies_nothing (of_form None tails.commas) now.tokens (of_form None tails.commas) begun.tokens (λ others. some ++ others) goes
+          overspends = overspends_from copies_nothing (in_factored None tails.commas) now.tokens (in_factored None tails.commas) begun.tokens (λ others. some ++ others) goes
               (members_cost (before, count)) own_cost most_copies now.copies began.copies
               (λ others. omega (arith, cost_more some others, l.copies)) (word ∷ mid.tokens)
-              (subst (λ z. Overspends copies_nothing (of_form None tails.commas) (members_cost (before, count)) most_copies now.copies z (word ∷ mid.tokens)) (sym i.passes.stood)
+              (subst (λ z. Overspends copies_nothing (in_factored None tails.commas) (members_cost (before, count)) most_copies now.copies z (word ∷ mid.tokens)) (sym i.passes.stood)
               (comma_too_much (before, count) most_copies now.copies (word ∷ mid.tokens) mid.tokens word refl i.passes.of_kind within passed));
         }
           where
@@ -136,7 +139,7 @@ module _ (levels : ℕ) (deeper : Deeper) (d : DeeperAgrees levels deeper) where
             passed : most_copies < now.copies + t.weight (before, count)
             passed = omega (arith, still, over.2, weighs)
 
-    all_members : (found : List Expr × Expr) → SoFar [] found begun → Tested (repeated comma (next_member levels deeper sought) 255 found begun)
+    all_members : (found : List Expr × Expr) → SoFar [] found begun → Tested (repeated comma (next_member levels deeper sought) most_separators found begun)
     unfolding compared_copy
     all_members found l = repeats begun (ref grammar.expr) (λ word x. x) (same k.Comma) (λ others. others) Tested comma (λ room now t mid. PassesWithin (same k.Comma) room now t mid) (λ room now t mid i. skipped_word refl i)
         (λ room now go. by_eaten_alone Tested k.Comma now room go) refl (begins_skip (same k.Comma) (ref grammar.expr)) refl (next_member levels deeper sought) SoFar (λ some x now l. l.copies) (λ some x now l room at v t. t)
@@ -149,7 +152,7 @@ module _ (levels : ℕ) (deeper : Deeper) (d : DeeperAgrees levels deeper) where
         (λ y after u. let read = u.reads.answers in go read.read _ after (steps.takes m.left read.takes) (m.extends ⨟ u.extends) (one_read some found now l i read.read c read.builds))
         (λ fault after u. stopped (inside s (all_left m)) (λ x. omega (arith, cost_one some x, l.copies, still some found now l i, ap (λ z. z.copies) c)) u))
         (λ over. record { reads = record { answers = steps.refuses s.blocks (too_many_copies sought.weight mid mid over) }; copied = record { answers = record { says = too_much some found now l i goes over } }; extends = s.extends }))
-        255 [] found begun l (λ e. refl) whole
+        most_separators [] found begun l (λ e. refl) whole
 
   pub members_agrees : (before member : Built Expr) (count : ℕ) (began middle now : Cursor) (sought : Sought) (first : Expr) → sought.weight ≡ t.weight (before, count)
       → Builds before began sought.value middle → Builds member middle first now

@@ -5,10 +5,11 @@ use Rattle.grammar.specs.Productions.{skip_then}
 use Rattle.sql_lex.specs.Lexemes.{Lexeme}
 use Rattle.sql_model.specs.declared.tree.Expr.{Expr}
 use Rattle.sql_model.specs.declared.tree.Expr.TheVariants as an_expr
-use Rattle.sql_read.specs.Cursor.{Cursor}
-use Rattle.sql_read.specs.Eating.{Numbers, Passes, is_next}
+use Rattle.sql_cursor.specs.Cursor.{Cursor}
+use Rattle.sql_cursor.specs.Eating.{Numbers, Passes, is_next}
 use Rattle.sql_read.specs.Reads.{Builds, Takes}
-use Rattle.sql_read.specs.Reading.{Reader, Reading, ◌>>=◌, column, done, literal, numbered, reference}
+use Rattle.sql_read.specs.Reading.{column, literal, reference}
+use Rattle.sql_cursor.specs.Readers.{Reader, Reading, ◌>>=◌, done, numbered}
 use Rattle.sql_grammar.specs.declared.kinds.Kind.TheVariants as k
 use Rattle.sql_grammar.specs.declared.kinds.Kind.{Kind}
 use Rattle.sql_grammar.specs.Kinds.{name_kinds, same, among}
@@ -20,7 +21,7 @@ use Rattle.sql_grammar.specs.QueryTrees as t
 use Rattle.sql_grammar.proofs.copies.QueryFillings.{fill_absent, fill_seq, fill_token_of, word as spelled, word}
 use Rattle.sql_read.proofs.steps.Agreeing.{Agrees, Residual, behind, built, by_eaten, by_token, ends_by, mapped, needs, needs_last, other_unless, production, whole}
 use Rattle.sql_read.proofs.steps.AgreeSteps.{by_numbered, extends_literal, none_here}
-use Rattle.sql_read.proofs.steps.Extending.{◌⨟◌, extends_itself, extends_passes}
+use Rattle.sql_cursor.proofs.code.Extending.{◌⨟◌, extends_itself, extends_passes}
 use Rattle.sql_read.proofs.steps.ReadPassing.{alike_passes, built_from, either_next, neither_next, or_next, numbered as number_built}
 use Rattle.sql_read.proofs.steps.ReadSteps.{before, next_there, none_taken, plain_here, starts, took_token, built_map}
 use Rattle.sql_grammar.specs.QueryGrammar.{a, The}

@@ -6,14 +6,15 @@ use Rattle.grammar.proofs.readers.Predictions.{ok, ahead}
 use Rattle.sql_lex.specs.Lexemes.{Lexeme}
 use Rattle.sql_model.specs.declared.tree.Expr.{Expr}
 use Rattle.sql_model.specs.declared.tree.Expr.TheVariants as an_expr
-use Rattle.sql_read.specs.Cursor.{Cursor}
+use Rattle.sql_cursor.specs.Cursor.{Cursor}
 use Rattle.sql_read.specs.Parts.{built_grouped, grouped_of}
-use Rattle.sql_read.specs.Reading.{Deeper, Reader, Reading, aggregate, arguments, called_kinds, column, count_arguments, enclosed, enclosed_of, in_parentheses, named_first, negative, other_aggregates, primary, seen, unary, words, products, sums, term, value}
+use Rattle.sql_read.specs.Reading.{Deeper, aggregate, arguments, column, count_arguments, enclosed, enclosed_of, in_parentheses, named_first, negative, primary, unary, words, products, sums, term, value}
+use Rattle.sql_cursor.specs.Readers.{Reader, Reading, seen}
 use Rattle.sql_grammar.specs.declared.kinds.Kind.TheVariants as k
-use Rattle.sql_grammar.specs.Kinds.{among, same}
+use Rattle.sql_grammar.specs.Kinds.{among, called_kinds, other_aggregates, same}
 use Rattle.sql_grammar.specs.Numbering.{Built, symbol_number}
 use Rattle.sql_grammar.specs.QueryGrammar as grammar
-use Rattle.sql_grammar.specs.QueryGrammar.{The, a, listed, parens, next_product, next_sum}
+use Rattle.sql_grammar.specs.QueryGrammar.{The, a, listed, parens, next_product, next_sum, most_operators}
 use Rattle.sql_grammar.specs.FactoredQueries.{column_of, dot_name, enclosed_first, one_argument}
 use Rattle.sql_grammar.specs.FactoredQueries as factored
 use Rattle.sql_grammar.specs.QueryTrees as t
@@ -24,13 +25,13 @@ use Rattle.sql_read.proofs.steps.AgreeDeeper.{DeeperAgrees}
 use Rattle.sql_read.proofs.agree.AgreeNames.{by_literal, column_agrees, literal_kinds}
 use Rattle.sql_read.proofs.steps.AgreeSteps.{by_numbered, closes, ends_alike, extends_symbol, fill_group, first_unless, first_where, opens_alone, opens_parens, other_next, other_where, there}
 use Rattle.sql_read.proofs.steps.Agreeing.{Agrees, behind, behind_taken, built, by_eaten, by_next, by_token, ends_in, makes, mapped, needs, needs_last, other_unless, production, Residual, whole, then_tail}
-use Rattle.sql_read.proofs.steps.Extending.{extends_passes}
+use Rattle.sql_cursor.proofs.code.Extending.{extends_passes}
 use Rattle.sql_read.proofs.steps.ReadPassing.{numbered as number_built, Alike, ◌then◌, alike_passes, alike_within, built_from}
 use Rattle.sql_read.proofs.parts.ReadInsides.{built_enclosed, enclosed_cost}
 use Rattle.sql_read.proofs.steps.ReadLoops.{Begins, takes}
 use Rattle.sql_read.proofs.steps.ReadSteps as steps
 use Rattle.sql_read.proofs.steps.ReadSteps.{built_both, begins_with, built_map, plain_here, starts, took_token}
-use Rattle.sql_read.specs.Eating.{Passes}
+use Rattle.sql_cursor.specs.Eating.{Passes}
 use Rattle.sql_grammar.specs.QueryTrees.{count_rows, operated}
 use Rattle.sql_read.specs.Reads.{Takes, Builds}
 use Rattle.sql_read.proofs.steps.AgreeChains.{operators_agree}
@@ -176,7 +177,7 @@ module _ (levels : ℕ) (deeper : Deeper) (d : DeeperAgrees levels deeper) where
   pub term_agrees : (c : Cursor) → Agrees (ref grammar.term) levels (λ read. read) (λ read. read) c c (term levels deeper c)
   unfolding term
   term_agrees c =
-      then_tail (unary levels deeper c) (products levels deeper) (unary_agrees c) (mapped (production grammar.term whole)) refl (fill_none (Some 63) next_product) (λ v. refl) (λ read first mid b. products_agrees b)
+      then_tail (unary levels deeper c) (products levels deeper) (unary_agrees c) (mapped (production grammar.term whole)) refl (fill_none (Some most_operators) next_product) (λ v. refl) (λ read first mid b. products_agrees b)
 
   pub sums_agrees : {before : Built Expr} {start now : Cursor} {left : Expr} → Builds before start left now
       → Agrees grammar.sums levels (λ more. operated before more) (λ more. operated before more) start now (sums levels deeper left now)
@@ -186,4 +187,4 @@ module _ (levels : ℕ) (deeper : Deeper) (d : DeeperAgrees levels deeper) where
   pub value_agrees : (c : Cursor) → Agrees (ref grammar.value) levels (λ read. read) (λ read. read) c c (value levels deeper c)
   unfolding value
   value_agrees c =
-      then_tail (term levels deeper c) (sums levels deeper) (term_agrees c) (mapped (production grammar.value whole)) refl (fill_none (Some 63) next_sum) (λ v. refl) (λ read first mid b. sums_agrees b)
+      then_tail (term levels deeper c) (sums levels deeper) (term_agrees c) (mapped (production grammar.value whole)) refl (fill_none (Some most_operators) next_sum) (λ v. refl) (λ read first mid b. sums_agrees b)

@@ -6,18 +6,19 @@ use Rattle.sql_lex.specs.Lexemes.{Lexeme}
 use Rattle.sql_model.specs.declared.tree.Query.{Query}
 use Rattle.sql_model.specs.declared.tree.Query.TheVariants as a_query
 use Rattle.sql_model.specs.Syntax.{Except, Intersect, Union, UnionAll}
-use Rattle.sql_read.specs.declared.fault.ReadFault.{ReadFault}
-use Rattle.sql_read.specs.declared.fault.ReadFault.TheVariants.{TooDeep}
-use Rattle.sql_read.specs.Cursor.{Cursor}
-use Rattle.sql_read.specs.Eating.{Extends, Overflows, is_next}
+use Rattle.sql_cursor.specs.declared.fault.ReadFault.{ReadFault}
+use Rattle.sql_cursor.specs.declared.fault.ReadFault.TheVariants.{TooDeep}
+use Rattle.sql_cursor.specs.Cursor.{Cursor}
+use Rattle.sql_cursor.specs.Eating.{Extends, Overflows, is_next}
 use Rattle.sql_read.specs.Reads.{Builds, Takes, entries_too}
-use Rattle.sql_read.specs.Reading.{Deeper, Reader, Reading, ◌>>=◌, block, done, intersect_word, intersects, operand, part, query, repeated, set_tail, set_word, unions}
+use Rattle.sql_read.specs.Reading.{Deeper, block, intersect_word, intersects, operand, part, query, set_tail, set_word, unions}
+use Rattle.sql_cursor.specs.Readers.{Reader, Reading, ◌>>=◌, done, repeated}
 use Rattle.sql_grammar.specs.declared.kinds.Kind.TheVariants as kind
 use Rattle.sql_grammar.specs.declared.kinds.Kind.{Kind}
 use Rattle.sql_grammar.specs.Kinds.{among, same}
 use Rattle.sql_grammar.specs.Numbering.{Built, both, mapped as built_mapped}
 use Rattle.sql_grammar.specs.QueryGrammar as grammar
-use Rattle.sql_grammar.specs.QueryGrammar.{The, intersect, next_intersect, next_union, union_or_except}
+use Rattle.sql_grammar.specs.QueryGrammar.{The, intersect, next_intersect, next_union, union_or_except, most_operators}
 use Rattle.sql_grammar.specs.QueryTrees.{SetWord, sets}
 use Rattle.sql_grammar.proofs.copies.QueryFillings.{fill_none, fill_query}
 use Rattle.sql_grammar.proofs.queries.QueryTable.{left_factored}
@@ -25,7 +26,7 @@ use Rattle.sql_read.proofs.steps.AgreeDeeper.{DeeperAgrees}
 use Rattle.sql_read.proofs.steps.AgreeLoops.{IsWord, parts_repeat, same_by}
 use Rattle.sql_read.proofs.steps.AgreeSteps.{by_eaten_alone, closes, fill_group, first_unless, none_here, other_where}
 use Rattle.sql_read.proofs.steps.Agreeing.{Agrees, Residual, all_left, behind, behind_taken, built, by_eaten, by_eaten_within, by_token, ends_in, mapped, nested, other_unless, production, then_tail, too_deep_here, whole}
-use Rattle.sql_read.proofs.steps.Extending.{◌⨟◌, extends_passes, extends_within}
+use Rattle.sql_cursor.proofs.code.Extending.{◌⨟◌, extends_passes, extends_within}
 use Rattle.sql_read.proofs.steps.ReadLoops.{Begins}
 use Rattle.sql_read.proofs.steps.ReadPassing as p
 use Rattle.sql_read.proofs.steps.ReadPassing.{Alike, ◌then◌, alike_passes, alike_within, built_from, passes_alone, either_next, neither_next, or_next}
@@ -52,14 +53,14 @@ module _ {W : Type 0} (f : The SetWord) (g : The (Built Query)) (q : Kind → Bo
 
   module _ (first : Built Query) (start begun : Cursor) where
     abbrev Chain : Reading Query → Type 0
-    Chain r = Agrees (star (Some 63) (seq f g)) levels (λ more. sets first more) (λ more. sets first more) start begun r
+    Chain r = Agrees (star (Some most_operators) (seq f g)) levels (λ more. sets first more) (λ more. sets first more) start begun r
 
     abbrev Word : ℕ → Cursor → W → Cursor → Type 0
     Word room now w mid = IsWord entries_too (seq f g) g (λ u. (value w, u)) q levels room now mid
 
-    sets_agree : (left : Query) → Builds first start left begun → Chain (repeated word set 63 left begun)
+    sets_agree : (left : Query) → Builds first start left begun → Chain (repeated word set most_operators left begun)
     sets_agree left t = parts_repeat begun g (λ w u. (value w, u)) q (λ more. more) Chain word Word (λ room now w mid has. has) (by_word Chain) o i b right right_agrees (λ left w r. a_query.Set (value w).0 left r (value w).1) (sets first)
-        (λ done w u. same_by (sets_more first done (value w) u)) (λ done. refl) (λ fault end t. t) (λ done x now r none n t e. built whole done t e r) 63 left t whole
+        (λ done w u. same_by (sets_more first done (value w) u)) (λ done. refl) (λ fault end t. t) (λ done x now r none n t e. built whole done t e r) most_operators left t whole
 
 -- ---- the words of set operators
 
@@ -134,7 +135,7 @@ module _ (levels : ℕ) (deeper : Deeper) (d : DeeperAgrees levels deeper) where
   pub part_agrees : (c : Cursor) → Agrees (ref grammar.part) levels (λ read. read) (λ read. read) c c (part levels deeper c)
   unfolding part
   part_agrees c =
-      then_tail (operand levels deeper c) (intersects levels deeper) (operand_agrees c) (mapped (production grammar.part whole)) refl (fill_none (Some 63) next_intersect) (λ v. refl)
+      then_tail (operand levels deeper c) (intersects levels deeper) (operand_agrees c) (mapped (production grammar.part whole)) refl (fill_none (Some most_operators) next_intersect) (λ v. refl)
       (λ read first mid b. intersects_agrees read c mid first b)
 
   pub unions_agrees : (before : Built Query) (start now : Cursor) (left : Query) → Builds before start left now
@@ -146,11 +147,11 @@ module _ (levels : ℕ) (deeper : Deeper) (d : DeeperAgrees levels deeper) where
   pub query_agrees : (c : Cursor) → Agrees (ref grammar.query) levels (λ read. read) (λ read. read) c c (query levels deeper c)
   unfolding query
   query_agrees c =
-      then_tail (part levels deeper c) (unions levels deeper) (part_agrees c) (mapped (production grammar.query whole)) refl (fill_none (Some 63) next_union) (λ v. refl) (λ read first mid b. unions_agrees read c mid first b)
+      then_tail (part levels deeper c) (unions levels deeper) (part_agrees c) (mapped (production grammar.query whole)) refl (fill_none (Some most_operators) next_union) (λ v. refl) (λ read first mid b. unions_agrees read c mid first b)
 
   pub set_tail_agrees : (before : Built Query) (start now : Cursor) (first : Query) → Builds before start first now
       → Agrees (ref grammar.set_tail) levels (λ tail. tail before) (λ tail. tail before) start now (set_tail levels deeper first now)
   unfolding set_tail
   set_tail_agrees before start now first b =
-      then_tail (intersects levels deeper first now) (unions levels deeper) (intersects_agrees before start now first b) (mapped (production grammar.set_tail whole)) refl (fill_none (Some 63) next_union) (λ v. refl)
+      then_tail (intersects levels deeper first now) (unions levels deeper) (intersects_agrees before start now first b) (mapped (production grammar.set_tail whole)) refl (fill_none (Some most_operators) next_union) (λ v. refl)
       (λ read left mid b. unions_agrees (sets before read) start mid left b)

@@ -6,17 +6,18 @@ use Rattle.sql_lex.specs.Lexemes.{Lexeme}
 use Rattle.sql_model.specs.declared.tree.Expr.{Expr}
 use Rattle.sql_model.specs.declared.tree.Expr.TheVariants as an_expr
 use Rattle.sql_read.specs.declared.reading.test.Sought.{Sought}
-use Rattle.sql_read.specs.declared.tokens.counting.Mark.{Mark}
-use Rattle.sql_read.specs.Cursor.{Cursor}
-use Rattle.sql_read.specs.Eating.{IsMark, Passes, is_next, Copies}
-use Rattle.sql_read.specs.Reads.{Builds, IsBuilt, of_form, Takes}
-use Rattle.sql_read.specs.Reading.{Deeper, ◌>>=◌, Reading, bounds, by_word, closed, comparisons, done, exists_of, expected, opened, mark, rest, tested_value, test_kinds, tested, value, weight_since}
+use Rattle.sql_cursor.specs.declared.tokens.counting.Mark.{Mark}
+use Rattle.sql_cursor.specs.Cursor.{Cursor}
+use Rattle.sql_cursor.specs.Eating.{IsMark, Passes, is_next, Copies}
+use Rattle.sql_read.specs.Reads.{Builds, IsBuilt, Takes}
+use Rattle.sql_read.specs.Reading.{Deeper, bounds, by_word, closed, exists_of, opened, rest, tested_value, test_kinds, tested, value}
+use Rattle.sql_cursor.specs.Readers.{◌>>=◌, Reading, done, expected, mark, weight_since}
 use Rattle.sql_grammar.specs.declared.kinds.Kind.TheVariants as k
-use Rattle.sql_grammar.specs.Kinds.{among, kind_of, same}
+use Rattle.sql_grammar.specs.Kinds.{among, comparisons, kind_of, same}
 use Rattle.sql_grammar.specs.Numbering.{Built, both, copying, mapped as mapped_built}
 use Rattle.sql_grammar.specs.QueryGrammar as grammar
 use Rattle.sql_grammar.specs.QueryGrammar.{The, parens}
-use Rattle.sql_grammar.specs.FactoredQueries.{between_values}
+use Rattle.sql_grammar.specs.FactoredQueries.{between_values, in_factored}
 use Rattle.sql_grammar.specs.FactoredQueries as factored
 use Rattle.sql_grammar.specs.QueryTrees as t
 use Rattle.sql_grammar.specs.QueryTailTrees as tails
@@ -26,7 +27,7 @@ use Rattle.sql_read.proofs.steps.AgreeDeeper.{DeeperAgrees}
 use Rattle.sql_read.proofs.steps.AgreeSteps.{Paid, by_copied, closes, extends_copied, first_next, none_here, opens_parens, then_counted, there, tokens_copied, too_many_copies}
 use Rattle.sql_read.proofs.agree.AgreePrimaries.{value_agrees}
 use Rattle.sql_read.proofs.steps.Agreeing.{Agrees, Residual, all_left, behind, built, by_eaten, by_next, by_token, ends_in, makes, mapped, needs, other_unless, production, second, then_part, then_rest, whole}
-use Rattle.sql_read.proofs.steps.Extending.{extends_itself}
+use Rattle.sql_cursor.proofs.code.Extending.{extends_itself}
 use Rattle.sql_read.proofs.steps.ReadPassing.{Alike, ◌then◌, alike_passes, alike_within, built_counted, built_from, built_until}
 use Rattle.sql_read.proofs.steps.ReadSteps as steps
 use Rattle.sql_read.proofs.steps.ReadSteps.{built_both, built_map, none_taken, starts, blocks, refuses}
@@ -34,7 +35,7 @@ use Rattle.sql_read.proofs.parts.ReadBegins.{rest_begins}
 use Rattle.sql_grammar.specs.declared.kinds.Kind.{Kind}
 use Rattle.sql_read.proofs.parts.ReadChains.{built_by}
 use Rattle.grammar.specs.Completions.{Overspends}
-use Rattle.sql_read.specs.declared.fault.ReadFault.{ReadFault}
+use Rattle.sql_cursor.specs.declared.fault.ReadFault.{ReadFault}
 use Rattle.sql_read.specs.Copied.{CopiesTooMuch}
 use Rattle.sql_grammar.specs.QueryCopies.{copies_nothing, most_copies}
 
@@ -70,7 +71,7 @@ in_negates sign word (inr (inr p)) left = refl
 abbrev Negates : (Option Lexeme → t.Left → Built Expr) → Lexeme → t.Left → Type 0
 Negates f sign left = f (Some sign) left ≡ mapped_built (t.negated (Some sign)) (f None left)
 
-negates : (room : Option ℕ) (ts : List Lexeme) (f : Option Lexeme → t.Left → Built Expr) (sign : Lexeme) (left : t.Left) → (of_form room factored.by_word).spells ts f → Negates f sign left
+negates : (room : Option ℕ) (ts : List Lexeme) (f : Option Lexeme → t.Left → Built Expr) (sign : Lexeme) (left : t.Left) → (in_factored room factored.by_word).spells ts f → Negates f sign left
 negates room ts f sign left (inl (u, s, e)) = subst (λ z. Negates z sign left) (sym e) (in_negates sign u.0 u.1 left)
 negates room ts f sign left (inr (inl (u, s, e))) = subst (λ z. Negates z sign left) (sym e) refl
 negates room ts f sign left (inr (inr (u, s, e))) = subst (λ z. Negates z sign left) (sym e) refl
@@ -90,7 +91,7 @@ in_cost (Some sign) word inside left = ap (λ z. z.copies) (in_negates sign word
 -- ---- where the limit on copies is passed
 
 abbrev Over : Option Lexeme → t.Left → Cursor → List Lexeme → List Lexeme → Type 0
-Over not_word left began here rest = Overspends copies_nothing (of_form None factored.by_word) (λ f. (f not_word left).copies) most_copies began.copies here rest
+Over not_word left began here rest = Overspends copies_nothing (in_factored None factored.by_word) (λ f. (f not_word left).copies) most_copies began.copies here rest
 
 module _ {at now : Cursor} {sign : Lexeme} (q : Passes (same k.Between) at sign now) where
   between_over : (not_word : Option Lexeme) {before : Built Expr} {value : Expr} {began : Cursor} (count weight : ℕ) {after : Cursor} {fault : ReadFault} → weight ≡ t.weight (before, count)

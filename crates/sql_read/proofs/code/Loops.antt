@@ -13,14 +13,15 @@ use Rattle.sql_lex.specs.Lexemes.{Lexeme}
 use Rattle.sql_model.specs.declared.tree.Entry.{Entry}
 use Rattle.sql_model.specs.declared.tree.Expr.{Expr}
 use Rattle.sql_model.specs.declared.tree.Expr.TheVariants.{Or}
-use Rattle.sql_read.specs.declared.fault.ReadFault.{ReadFault}
-use Rattle.sql_read.specs.declared.fault.ReadFault.TheVariants.{Limit, NoMemory}
-use Rattle.sql_read.specs.declared.fault.LimitKind.TheVariants as limit
-use Rattle.sql_read.specs.declared.tokens.counting.Mark.{Mark}
-use Rattle.sql_read.specs.Cursor.{Cursor}
-use Rattle.sql_read.specs.Eating.{PassesWithin, Stays, allowed_entry, is_next}
-use Rattle.sql_read.specs.Refusals.{refusal}
-use Rattle.sql_read.specs.Reading.{Gives, Reader, Reading, Stops, ◌>>=◌, any_of, eaten, eaten_within, expected, mark, table_entry, repeated, joined, joined_entry, at, deeper_than}
+use Rattle.sql_cursor.specs.declared.fault.ReadFault.{ReadFault}
+use Rattle.sql_cursor.specs.declared.fault.ReadFault.TheVariants.{Limit, NoMemory}
+use Rattle.sql_cursor.specs.declared.fault.LimitKind.TheVariants as limit
+use Rattle.sql_cursor.specs.declared.tokens.counting.Mark.{Mark}
+use Rattle.sql_cursor.specs.Cursor.{Cursor}
+use Rattle.sql_cursor.specs.Eating.{PassesWithin, Stays, allowed_entry, is_next}
+use Rattle.sql_cursor.specs.Refusals.{refusal}
+use Rattle.sql_read.specs.Reading.{any_of, table_entry, joined, joined_entry, at, deeper_than}
+use Rattle.sql_cursor.specs.Readers.{Gives, Reader, Reading, Stops, ◌>>=◌, eaten, eaten_within, expected, mark, repeated}
 
 -- what stops stops what would go on behind it
 pub stops_first : {A B : Type 0} (fault : ReadFault) (here : Cursor) (reading : Reading A) (next : A → Reader B) → Stops fault here reading → Stops fault here (reading >>= next)

@@ -8,15 +8,14 @@ use Rattle.grammar.proofs.readers.Predictions.{produced}
 use Rattle.grammar.proofs.languages.Sets.{implied}
 use Rattle.sql_lex.specs.Lexemes.{Lexeme}
 use Rattle.sql_model.specs.declared.tree.Expr.{Expr}
-use Rattle.sql_read.specs.Reading.{called_kinds, comparisons, expr_kinds, other_aggregates, set_kinds, tail_kinds, test_kinds}
+use Rattle.sql_read.specs.Reading.{expr_kinds, set_kinds, tail_kinds, test_kinds}
 use Rattle.sql_grammar.specs.declared.kinds.Kind.TheVariants as k
 use Rattle.sql_grammar.specs.declared.kinds.Kind.{Kind}
-use Rattle.sql_grammar.specs.Kinds.{among, every_kind, kind_of, same}
-use Rattle.sql_grammar.specs.QueryGrammar.{Production, The, ands, conj, expr, expr_tail, intersect, intersects, neg, next_and, next_intersect, next_or, next_product, next_sum, next_union, operand, ors, part, primary, products, rest, set_tail, sums, term, test, unary, union_or_except, unions, value}
-use Rattle.sql_grammar.specs.FactoredQueries.{factored, factored_of_rest}
+use Rattle.sql_grammar.specs.Kinds.{among, called_kinds, comparisons, every_kind, kind_of, other_aggregates, same}
+use Rattle.sql_grammar.specs.QueryGrammar.{Production, The, ands, conj, expr, expr_tail, intersect, intersects, neg, next_and, next_intersect, next_or, next_product, next_sum, next_union, operand, ors, part, primary, products, rest, set_tail, sums, term, test, unary, union_or_except, unions, value, most_operators, most_separators}
+use Rattle.sql_grammar.specs.FactoredQueries.{factored, factored_of_rest, in_factored}
 use Rattle.sql_grammar.specs.Numbering.{Built}
 use Rattle.sql_grammar.specs.QueryTrees.{Left}
-use Rattle.sql_read.specs.Reads.{of_form}
 use Rattle.sql_grammar.proofs.lists.EveryKind.{every_kind_is_there}
 use Rattle.sql_grammar.proofs.queries.QueryTable.{left_factored}
 use Rattle.sql_read.proofs.steps.ReadLoops.{Begins}
@@ -52,7 +51,7 @@ module _ (p : Kind → Bool) where
   begins_first f g b t i = inl (b t i)
 
   -- behind what may be nothing
-  begins_second : {A B : Type 0} (f : The A) (g : The B) (v : A) → (of_form None f).spells [] v → Begins p g → Begins p (seq f g)
+  begins_second : {A B : Type 0} (f : The A) (g : The B) (v : A) → (in_factored None f).spells [] v → Begins p g → Begins p (seq f g)
   begins_second f g v s b t i = inr ([], t ∷ [], v, refl, s, b t i)
 
   begins_star : {A : Type 0} (most : Option ℕ) (f : The A) → Begins p f → Begins p (star most f)
@@ -108,13 +107,13 @@ rest_begins = begins_name (among test_kinds) rest factored_begins
 -- ---- what follows the first part of a query
 
 by_next_union : (p : Kind → Bool) → Begins p union_or_except → Begins p (ref set_tail)
-by_next_union p b = begins_name p set_tail (begins_second p intersects unions [] refl (begins_star p (Some 63) next_union (begins_first p union_or_except (ref part) b)))
+by_next_union p b = begins_name p set_tail (begins_second p intersects unions [] refl (begins_star p (Some most_operators) next_union (begins_first p union_or_except (ref part) b)))
 
 pub set_tail_begins : Begins (among set_kinds) (ref set_tail)
 set_tail_begins =
     let p = same k.Intersect in
     begins_each (ref set_tail) set_kinds
-    ((p, begins_name p set_tail (begins_first p intersects unions (begins_star p (Some 63) next_intersect (begins_first p intersect (ref operand) (λ t i. inr (t, refl, i))))))
+    ((p, begins_name p set_tail (begins_first p intersects unions (begins_star p (Some most_operators) next_intersect (begins_first p intersect (ref operand) (λ t i. inr (t, refl, i))))))
     ∷ (same k.Union, by_next_union (same k.Union) (λ t i. inl (inl (inr (t, refl, i)))))
     ∷ (same k.Except, by_next_union (same k.Except) (λ t i. inr (inr (t, refl, i))))
     ∷ []) refl
@@ -145,9 +144,9 @@ sum_kinds = among (k.Plus ∷ k.Minus ∷ k.Concat ∷ [])
 
 pub expr_tail_begins : Begins (among tail_kinds) (ref expr_tail)
 expr_tail_begins = begins_each (ref expr_tail) tail_kinds
-    ((product_kinds, by_operators product_kinds (begins_first product_kinds products sums (begins_star product_kinds (Some 63) next_product (λ t i. inl (inr (t, refl, i))))))
-    ∷ (sum_kinds, by_operators sum_kinds (begins_second sum_kinds products sums [] refl (begins_star sum_kinds (Some 63) next_sum (λ t i. inl (inr (t, refl, i))))))
+    ((product_kinds, by_operators product_kinds (begins_first product_kinds products sums (begins_star product_kinds (Some most_operators) next_product (λ t i. inl (inr (t, refl, i))))))
+    ∷ (sum_kinds, by_operators sum_kinds (begins_second sum_kinds products sums [] refl (begins_star sum_kinds (Some most_operators) next_sum (λ t i. inl (inr (t, refl, i))))))
     ∷ (among test_kinds, by_others (among test_kinds) (begins_first (among test_kinds) (optional (ref rest)) (seq ands ors) (λ t i. inl (rest_begins t i))))
-    ∷ (same k.And, by_chains (same k.And) (begins_first (same k.And) ands ors (begins_star (same k.And) (Some 255) next_and (λ t i. inl (inr (t, refl, i))))))
-    ∷ (same k.Or, by_chains (same k.Or) (begins_second (same k.Or) ands ors [] refl (begins_star (same k.Or) (Some 255) next_or (λ t i. inl (inr (t, refl, i))))))
+    ∷ (same k.And, by_chains (same k.And) (begins_first (same k.And) ands ors (begins_star (same k.And) (Some most_separators) next_and (λ t i. inl (inr (t, refl, i))))))
+    ∷ (same k.Or, by_chains (same k.Or) (begins_second (same k.Or) ands ors [] refl (begins_star (same k.Or) (Some most_separators) next_or (λ t i. inl (inr (t, refl, i))))))
     ∷ []) refl

@@ -7,8 +7,8 @@ use Rattle.sql_lex.specs.Lexemes.{Lexeme}
 use Rattle.sql_model.specs.declared.tree.Expr.{Expr}
 use Rattle.sql_model.specs.declared.tree.Item.{Item}
 use Rattle.sql_model.specs.declared.tree.Entry.{Entry}
-use Rattle.sql_read.specs.Cursor.{Cursor}
-use Rattle.sql_read.specs.Eating.{Eats, Extends}
+use Rattle.sql_cursor.specs.Cursor.{Cursor}
+use Rattle.sql_cursor.specs.Eating.{Eats, Extends}
 use Rattle.sql_grammar.specs.declared.kinds.Kind.TheVariants as k
 use Rattle.sql_grammar.specs.declared.kinds.Kind.{Kind}
 use Rattle.sql_grammar.specs.Numbering.{Built, Numbers, each, perhaps, plain}
@@ -21,7 +21,7 @@ use Rattle.sql_read.specs.Reads.{Builds}
 use Rattle.sql_grammar.proofs.entries.FewFactored.{list_left_factored}
 use Rattle.sql_grammar.proofs.queries.QueryWords.{Below}
 use Rattle.grammar.proofs.factorings.Alike.{below_map, below_seq, itself}
-use Rattle.sql_read.proofs.steps.Extending.{extends_passes, extends_stays}
+use Rattle.sql_cursor.proofs.code.Extending.{extends_passes, extends_stays}
 use Rattle.sql_read.proofs.steps.ReadPassing.{Alike}
 
 -- ---- a token that may be left out

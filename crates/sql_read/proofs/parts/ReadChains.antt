@@ -1,6 +1,6 @@
 -- What is built of one more part, behind those that were built before it.
 use Rattle.std.proofs.Common.{◌≡◌, ◌+◌, List, [], ◌∷◌, ◌++◌, refl, sym, ◌∙◌, ap, subst, arith}
-use Rattle.sql_read.specs.Cursor.{Cursor}
+use Rattle.sql_cursor.specs.Cursor.{Cursor}
 use Rattle.sql_grammar.specs.Numbering.{Built, Numbers, each}
 use Rattle.sql_read.specs.Reads.{Builds}
 

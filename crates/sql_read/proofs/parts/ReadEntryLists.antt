@@ -23,12 +23,12 @@ use Rattle.sql_grammar.specs.Kinds.{kind_of, same, among}
 use Rattle.sql_grammar.specs.Numbering.{Built}
 use Rattle.sql_grammar.specs.QueryEntries.{Further, before_entry, further_entries, most_entries, most_further, next_entry}
 use Rattle.sql_grammar.specs.QueryGrammar.{The, a, entry, expr}
-use Rattle.sql_grammar.specs.FactoredQueries.{of_factored, factored}
+use Rattle.sql_grammar.specs.FactoredQueries.{of_factored, factored, in_factored}
 use Rattle.sql_grammar.specs.QueryTrees as t
 use Rattle.sql_grammar.specs.declared.listed.Listed.{Listed}
-use Rattle.sql_read.specs.Cursor.{Cursor}
-use Rattle.sql_read.specs.Eating.{Passes}
-use Rattle.sql_read.specs.Reads.{TakesWithin, entries_too, few_form, of_form}
+use Rattle.sql_cursor.specs.Cursor.{Cursor}
+use Rattle.sql_cursor.specs.Eating.{Passes}
+use Rattle.sql_read.specs.Reads.{TakesWithin, entries_too, few_form}
 use Rattle.sql_grammar.proofs.copies.QueryFillings.{word}
 use Rattle.sql_grammar.proofs.queries.QueryTable.{left_factored}
 use Rattle.sql_grammar.proofs.queries.QueryWords.{Below}
@@ -132,33 +132,33 @@ cross_below fits = below_map t.cross_joined (below_map (λ p. p.1) (below_seq (i
 joins_below : (fits : Bool) → Below of_factored (join_of (fitting fits)) (join_of (ref entry))
 joins_below fits = below_map (λ joined. inr joined) (below_alt (on_below fits) (cross_below fits))
 
-next_within : (fits : Bool) → IsWithin (of_form None next_entry) (few_form (next_of (fitting fits)))
+next_within : (fits : Bool) → IsWithin (in_factored None next_entry) (few_form (next_of (fitting fits)))
 next_within fits = fewer_within (below_alt (comma_below fits) (joins_below fits))
 
 -- ---- further entries are within a repetition
 
 abbrev all_next : Language Lexeme (List Further)
-all_next = of_form None (star None next_entry)
+all_next = in_factored None (star None next_entry)
 
-before_begins : (ts : List Lexeme) → (of_form None before_entry).prefix ts → (of_form None next_entry).prefix ts
+before_begins : (ts : List Lexeme) → (in_factored None before_entry).prefix ts → (in_factored None next_entry).prefix ts
 before_begins ts (inl c) = inl (inl c)
 before_begins ts (inr (inl j)) = inr (inl (inl j))
 before_begins ts (inr (inr c)) = inr (inr (inl c))
 
-one_begins_all : (ts : List Lexeme) → (of_form None next_entry).prefix ts → all_next.prefix ts
+one_begins_all : (ts : List Lexeme) → (in_factored None next_entry).prefix ts → all_next.prefix ts
 one_begins_all ts f = inr ([], ts, [], refl, refl, f)
 
-further_spells : (n : ℕ) (ts : List Lexeme) (v : List Further) → (of_form None (further_entries n)).spells ts v → all_next.spells ts v
+further_spells : (n : ℕ) (ts : List Lexeme) (v : List Further) → (in_factored None (further_entries n)).spells ts v → all_next.spells ts v
 further_spells zero ts v (inl (u, e, i)) = subst (λ z. all_next.spells ts z) (sym i) e
 further_spells zero ts v (inr (u, (s, n), i)) = cc
 further_spells (suc n) ts v (inl (u, e, i)) = subst (λ z. all_next.spells ts z) (sym i) e
 further_spells (suc n) ts v (inr (u, (x, y, e, s, q), i)) = subst (λ z. all_next.spells ts z) (sym i) (x, y, e, s, further_spells n y u.1 q)
 
-after_one : (ts x y : List Lexeme) (v : Further) → ts ≡ x ++ y → (of_form None next_entry).spells x v → all_next.prefix y → all_next.prefix ts
-after_one ts x y v e s (inl i) = inr (x, y, v ∷ [], e, (x, [], sym (append-nil x), s, refl), subst (of_form None next_entry).prefix (sym i) (known left_factored next_entry refl).prefixes.empty)
+after_one : (ts x y : List Lexeme) (v : Further) → ts ≡ x ++ y → (in_factored None next_entry).spells x v → all_next.prefix y → all_next.prefix ts
+after_one ts x y v e s (inl i) = inr (x, y, v ∷ [], e, (x, [], sym (append-nil x), s, refl), subst (in_factored None next_entry).prefix (sym i) (known left_factored next_entry refl).prefixes.empty)
 after_one ts x y v e s (inr (p, q, vs, i, c, f)) = inr (x ++ p, q, v ∷ vs, e ∙ (ap (λ z. x ++ z) i ∙ sym (append_assoc x p q)), (x, p, refl, s, c), f)
 
-further_begins : (n : ℕ) (ts : List Lexeme) → (of_form None (further_entries n)).prefix ts → all_next.prefix ts
+further_begins : (n : ℕ) (ts : List Lexeme) → (in_factored None (further_entries n)).prefix ts → all_next.prefix ts
 further_begins zero ts (inl e) = inl e
 further_begins zero ts (inr b) = one_begins_all ts (before_begins ts b)
 further_begins (suc n) ts (inl e) = inl e
@@ -234,11 +234,11 @@ one_more_behind count = go (fits count) refl
   where
     go : (b : Bool) → fits count ≡ b → IsOneMore (few_form (next_of (fitting b))) (few_form (further_entries (most_entries - (count + 1)))) (few_form (further_entries (most_entries - count)))
     go true e =
-        let n : count < 32 = ltb-true count 32 e in
+        let n : count < most_entries = ltb-true count most_entries e in
         let more : most_entries - count ≡ suc (most_entries - (count + 1)) = omega (arith, n) in
         subst (λ z. IsOneMore (few_form next_entry) (few_form (further_entries (most_entries - (count + 1)))) (few_form (further_entries z))) (sym more) (room_for_one (most_entries - (count + 1)))
     go false e =
-        let n : 32 ≤ count = ltb-false count 32 e in
+        let n : most_entries ≤ count = ltb-false count most_entries e in
         let none : most_entries - count ≡ zero = omega (arith, n) in
         let still : most_entries - (count + 1) ≡ zero = omega (arith, n) in
         subst (λ z. IsOneMore (few_form no_next) (few_form (further_entries z)) (few_form (further_entries (most_entries - count)))) (sym still)
@@ -249,7 +249,7 @@ one_more_behind count = go (fits count) refl
 -- further entries may follow here, behind so many of a list that began at the start
 pub record FurtherLeft (count : ℕ) (start here : List Lexeme) : Type 0 where
   pub join : List Further → Built Listed × List Further
-  pub residual : Residual (of_form None (star None next_entry)) (few_form (further_entries (most_entries - count))) here (of_form None one_list) (few_form few_list) start join
+  pub residual : Residual (in_factored None (star None next_entry)) (few_form (further_entries (most_entries - count))) here (in_factored None one_list) (few_form few_list) start join
 
 -- an entry is to stand here: the first of the list, or one behind a comma
 pub data EntryAwaited (count : ℕ) (start : List Lexeme) (here : Cursor) : Type 0 where
@@ -265,13 +265,13 @@ module _ {count : ℕ} {start here : List Lexeme} (l : FurtherLeft count start h
   abbrev next : Language Lexeme Further
   next = few_form (next_of (entry_behind count))
 
-  next_taken : (v : Further) (mid : List Lexeme) → Took (of_form None next_entry) next here v mid → FurtherLeft (count + 1) start mid
+  next_taken : (v : Further) (mid : List Lexeme) → Took (in_factored None next_entry) next here v mid → FurtherLeft (count + 1) start mid
   next_taken v mid s = record {
     join = λ vs. l.join (v ∷ vs);
     residual = r.left_more left_factored _ _ start None next_entry next (next_within (fits count)) refl _ _ (further_within (most_entries - (count + 1))) (one_more_behind count) here l.join l.residual v mid s;
   }
 
-  next_halts : (token : Lexeme) (more : List Lexeme) → here ≡ token ∷ more → (of_form None next_entry).prefix (token ∷ []) → Halts (of_form None next_entry) next here (of_form None one_list) (few_form few_list) start
+  next_halts : (token : Lexeme) (more : List Lexeme) → here ≡ token ∷ more → (in_factored None next_entry).prefix (token ∷ []) → Halts (in_factored None next_entry) next here (in_factored None one_list) (few_form few_list) start
   next_halts token more e b = record {
     failed = r.left_more_failed left_factored _ _ start None next_entry next (next_within (fits count)) refl _ _ (further_within (most_entries - (count + 1))) (one_more_behind count) here l.join l.residual token more e b;
     exceeded = r.left_more_exceeded left_factored _ _ start None next_entry next (next_within (fits count)) refl _ _ (further_within (most_entries - (count + 1))) (one_more_behind count) here l.join l.residual;
@@ -283,13 +283,13 @@ module _ {count : ℕ} {start here : List Lexeme} (l : FurtherLeft count start h
   list_begins = l.residual.began here (nothing_began (few_form (further_entries (most_entries - count))) (entries_within (further_entries (most_entries - count))).prefixes here)
 
   -- no further entry
-  pub list_ended : is_absent kind_of (ahead left_factored next_entry) here ≡ true → Took (of_form None one_list) (few_form few_list) start (l.join []) here
+  pub list_ended : is_absent kind_of (ahead left_factored next_entry) here ≡ true → Took (in_factored None one_list) (few_form few_list) start (l.join []) here
   list_ended n = r.left_last left_factored _ _ start None next_entry next (next_within (fits count)) refl (few_form (further_entries (most_entries - count))) (none_further (most_entries - count)) here l.join l.residual n
 
 -- ---- the entry that is to stand here
 
 comma_left : (fits : Bool) {before here : Cursor} {comma : Lexeme} → Passes (same k.Comma) before comma here
-    → Residual (of_form None (ref entry)) (few_form (fitting fits)) here.tokens (of_form None next_entry) (few_form (next_of (fitting fits))) before.tokens (λ listed. inl listed)
+    → Residual (in_factored None (ref entry)) (few_form (fitting fits)) here.tokens (in_factored None next_entry) (few_form (next_of (fitting fits))) before.tokens (λ listed. inl listed)
 comma_left fits {before = before} {here = here} {comma = comma} q =
     let choice = steps.next_to (comma_of (fitting fits)) (whole_within {told = entries_too} {N = next_entry} {NB = few_form (next_of (fitting fits))} {e = 0} {start = before.tokens})
     (joins_below fits) refl comma here.tokens q.stood (inl (starts q)) in
@@ -313,25 +313,25 @@ module _ {count : ℕ} {start : List Lexeme} {here : Cursor} where
             (subst (λ n. TakesWithin entries_too (ref entry) (few_form (entry_behind n)) levels here.tokens v mid) z s))).few tt;
       })
 
-  pub entry_halts : EntryAwaited count start here → Halts (of_form None (ref entry)) (few_form (entry_behind count)) here.tokens (of_form None one_list) (few_form few_list) start
+  pub entry_halts : EntryAwaited count start here → Halts (in_factored None (ref entry)) (few_form (entry_behind count)) here.tokens (in_factored None one_list) (few_form few_list) start
   entry_halts (behind_comma before comma q l) =
       halts_through (next_halts l comma here.tokens q.stood (inl (inl (starts q)))) (halts_of (comma_left (fits count) q))
   entry_halts (at_start z e) =
-      subst (λ n. Halts (of_form None (ref entry)) (few_form (entry_behind n)) here.tokens (of_form None one_list) (few_form few_list) start) (sym z)
-      (subst (λ u. Halts (of_form None (ref entry)) (few_form (ref entry)) u (of_form None one_list) (few_form few_list) start) (sym e)
+      subst (λ n. Halts (in_factored None (ref entry)) (few_form (entry_behind n)) here.tokens (in_factored None one_list) (few_form few_list) start) (sym z)
+      (subst (λ u. Halts (in_factored None (ref entry)) (few_form (ref entry)) u (in_factored None one_list) (few_form few_list) start) (sym e)
       ((steps.first_in {f = ref entry} {g = star None next_entry} (few_form (ref entry)) (few_form (further_entries most_further)) (entries_within (ref entry)) (further_within most_further)
       (whole_list 0 start) refl).few tt))
 
 -- ---- an entry behind JOIN
 
 module _ {count : ℕ} {start here : List Lexeme} (l : FurtherLeft count start here) (n : is_absent kind_of (ahead left_factored comma_entry) here ≡ true) where
-  joins_left : Residual (of_form None joins) (few_form (joins_behind count)) here (of_form None next_entry) (few_form (next_of (entry_behind count))) here (λ j. inr j)
+  joins_left : Residual (in_factored None joins) (few_form (joins_behind count)) here (in_factored None next_entry) (few_form (next_of (entry_behind count))) here (λ j. inr j)
   joins_left = (steps.mapped_to (joins_behind count)
       (steps.other_to (join_of (entry_behind count)) (whole_within {told = entries_too} {N = next_entry} {NB = few_form (next_of (entry_behind count))} {e = 0} {start = here}) (comma_below (fits count)) refl n)).few tt
 
-  pub join_read : (j : Built Entry) (mid : List Lexeme) → Took (of_form None joins) (few_form (joins_behind count)) here j mid → FurtherLeft (count + 1) start mid
+  pub join_read : (j : Built Entry) (mid : List Lexeme) → Took (in_factored None joins) (few_form (joins_behind count)) here j mid → FurtherLeft (count + 1) start mid
   join_read j mid s = next_taken l (inr j) mid (joins_left.took j mid s)
 
-  pub join_halts : (token : Lexeme) (more : List Lexeme) → here ≡ token ∷ more → (of_form None joins).prefix (token ∷ [])
-      → Halts (of_form None joins) (few_form (joins_behind count)) here (of_form None one_list) (few_form few_list) start
+  pub join_halts : (token : Lexeme) (more : List Lexeme) → here ≡ token ∷ more → (in_factored None joins).prefix (token ∷ [])
+      → Halts (in_factored None joins) (few_form (joins_behind count)) here (in_factored None one_list) (few_form few_list) start
   join_halts token more e b = halts_through (next_halts l token more e (inr b)) (halts_of joins_left)

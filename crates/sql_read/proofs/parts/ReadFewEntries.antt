@@ -10,21 +10,21 @@ use Rattle.grammar.proofs.languages.Heights.{from_rule}
 use Rattle.grammar.proofs.readers.Predictions.{ahead, known, ok}
 use Rattle.sql_lex.specs.Lexemes.{Lexeme}
 use Rattle.sql_model.specs.declared.tree.Entry.{Entry}
-use Rattle.sql_read.specs.declared.fault.LimitKind.TheVariants as limit
-use Rattle.sql_read.specs.declared.fault.ReadFault.{ReadFault}
-use Rattle.sql_read.specs.declared.fault.ReadFault.TheVariants.{TooDeep, Limit, NoMemory}
-use Rattle.sql_read.specs.Cursor.{Cursor}
-use Rattle.sql_read.specs.Eating.{allowed_entry, is_next}
+use Rattle.sql_cursor.specs.declared.fault.LimitKind.TheVariants as limit
+use Rattle.sql_cursor.specs.declared.fault.ReadFault.{ReadFault}
+use Rattle.sql_cursor.specs.declared.fault.ReadFault.TheVariants.{TooDeep, Limit, NoMemory}
+use Rattle.sql_cursor.specs.Cursor.{Cursor}
+use Rattle.sql_cursor.specs.Eating.{allowed_entry, is_next}
 use Rattle.sql_grammar.specs.declared.kinds.Kind.TheVariants as k
 use Rattle.sql_grammar.specs.declared.kinds.Kind.{Kind}
 use Rattle.sql_grammar.specs.Kinds.{among, kind_of, name_kinds, same, every_kind}
 use Rattle.sql_grammar.specs.Numbering.{Built}
 use Rattle.sql_grammar.specs.QueryEntries.{Further, few_froms, items_of, most_further, next_entry}
 use Rattle.sql_grammar.specs.QueryGrammar.{The, Froms, entry, from, listed}
-use Rattle.sql_grammar.specs.FactoredQueries.{factored}
+use Rattle.sql_grammar.specs.FactoredQueries.{factored, in_factored}
 use Rattle.sql_grammar.specs.declared.listed.Listed.{Listed}
 use Rattle.sql_grammar.specs.QueryTrees.{all_entries}
-use Rattle.sql_read.specs.Reads.{depth_alone, entries_too, few_form, of_form, Crowds, GivesWithin, RefusesWithin, TakesWithin}
+use Rattle.sql_read.specs.Reads.{depth_alone, entries_too, few_form, Crowds, GivesWithin, RefusesWithin, TakesWithin}
 use Rattle.sql_grammar.proofs.lists.EveryKind.{every_kind_is_there}
 use Rattle.sql_grammar.proofs.entries.FewFactored.{list_left_factored}
 use Rattle.sql_grammar.proofs.queries.QueryTable.{left_factored}
@@ -46,7 +46,7 @@ both_next [] = refl
 both_next (t ∷ ts) = refl
 
 abbrev deep : ℕ → Language Lexeme (Built Listed)
-deep levels = of_form (Some levels) (ref entry)
+deep levels = in_factored (Some levels) (ref entry)
 
 -- a parenthesis or a name begins one, where a level is left for the parenthesis
 entry_begins : (levels : ℕ) (t : Lexeme) → begins_entry (kind_of t) ≡ true → ((levels == 0) && same k.Open (kind_of t)) ≡ false → (deep levels).prefix (t ∷ [])
@@ -58,7 +58,7 @@ entry_begins levels t e f = go levels f (or_cases (same k.Open (kind_of t)) (amo
     go (suc levels) f (inl o) = (from_rule kind_of factored (Some (suc levels)) entry).prefix (t ∷ []) (inr (inl (inl (inr (t, refl, o)))))
 
 -- what a form begins with is of these kinds
-first_is : {A : Type 0} (f : The A) (p : Kind → Bool) → ok left_factored f ≡ true → list_all (λ kind. not ((ahead left_factored f).first kind) || p kind) every_kind ≡ true → (t : Lexeme) (x : List Lexeme) → (of_form None f).prefix
+first_is : {A : Type 0} (f : The A) (p : Kind → Bool) → ok left_factored f ≡ true → list_all (λ kind. not ((ahead left_factored f).first kind) || p kind) every_kind ≡ true → (t : Lexeme) (x : List Lexeme) → (in_factored None f).prefix
     (t ∷ x) → p (kind_of t) ≡ true
 first_is f p o e t x s = implied ((ahead left_factored f).first (kind_of t)) (p (kind_of t)) (every_kind_is_there (λ kind. not ((ahead left_factored f).first kind) || p kind) e (kind_of t)) ((known left_factored f o).ahead.first t x s)
 
@@ -81,7 +81,7 @@ pub all_fits : (count : ℕ) → fits count ≡ true → few_form (ref entry) �
 all_fits count e = sym (ap (λ (b : Bool). few_form (fitting b)) e)
 
 -- one begins, and none fits
-beyond_all : (t : Lexeme) (rest : List Lexeme) → (of_form None (ref entry)).prefix (t ∷ []) → Exceeded (of_form None (ref entry)) (few_form (fitting false)) (t ∷ rest) (t ∷ rest)
+beyond_all : (t : Lexeme) (rest : List Lexeme) → (in_factored None (ref entry)).prefix (t ∷ []) → Exceeded (in_factored None (ref entry)) (few_form (fitting false)) (t ∷ rest) (t ∷ rest)
 unfolding few_form
 beyond_all t rest f = record { taken = []; whole = refl; begun = refl; passes = (f, λ e. cc) }
 
@@ -94,8 +94,8 @@ not_allowed levels count {a = a} {fault = fault} e =
         more = f.others;
         next = f.stood;
         goes_on = record { taken = f.first ∷ []; whole = f.stood; begun = begins };
-        few = λ n. subst (λ b. Exceeded (of_form None (ref entry)) (few_form (fitting b)) a.tokens a.tokens) (sym none)
-            (subst (λ ts. Exceeded (of_form None (ref entry)) (few_form (fitting false)) ts ts) (sym f.stood)
+        few = λ n. subst (λ b. Exceeded (in_factored None (ref entry)) (few_form (fitting b)) a.tokens a.tokens) (sym none)
+            (subst (λ ts. Exceeded (in_factored None (ref entry)) (few_form (fitting false)) ts ts) (sym f.stood)
             (beyond_all f.first f.others ((deep_within levels (ref entry)).includes.prefix (f.first ∷ []) begins)));
       };
     })
@@ -120,18 +120,18 @@ not_allowed levels count {a = a} {fault = fault} e =
 -- what each fault says of the list that began at the start
 abbrev pub ListSays : List Lexeme → ReadFault → List Lexeme → Type 0
 ListSays start (TooDeep at) rest = Began (few_form few_list) start rest
-ListSays start (Limit limit.Entries) rest = Exceeded (of_form None one_list) (few_form few_list) start rest
+ListSays start (Limit limit.Entries) rest = Exceeded (in_factored None one_list) (few_form few_list) start rest
 ListSays start (Limit limit.Copies) rest = Began (few_form few_list) start rest
 ListSays start (Limit other) rest = Unit {0}
 ListSays start NoMemory rest = Unit {0}
-ListSays start other rest = Failed (of_form None one_list) (few_form few_list) start rest
+ListSays start other rest = Failed (in_factored None one_list) (few_form few_list) start rest
 
 pub record ListRefused (start : List Lexeme) (fault : ReadFault) (rest : List Lexeme) : Type 0 where
   pub says : ListSays start fault rest
 
 -- what stops a part stops the list
 pub list_stopped : (start : List Lexeme) {A : Type 0} {N : The A} {B : Language Lexeme A} {levels : ℕ} {a b : Cursor} (fault : ReadFault)
-    → Halts (of_form None N) B a.tokens (of_form None one_list) (few_form few_list) start
+    → Halts (in_factored None N) B a.tokens (in_factored None one_list) (few_form few_list) start
     → RefusesWithin entries_too N B levels a fault b → ListRefused start fault b.tokens
 list_stopped start {b = b} (TooDeep at) h t = record { says = h.began b.tokens (t.says.few tt) }
 list_stopped start {b = b} (Limit limit.Entries) h t = record { says = h.exceeded b.tokens (t.says.few tt) }
@@ -161,14 +161,14 @@ unfolding few_form
 froms_begun ts f = f
 
 -- one value is read
-same_read : (ts : List Lexeme) (v : Froms) (w : Built Listed × List Further) → (of_form None froms).spells ts v → (few_form few_list).spells ts w → v ≡ items_of w
+same_read : (ts : List Lexeme) (v : Froms) (w : Built Listed × List Further) → (in_factored None froms).spells ts v → (few_form few_list).spells ts w → v ≡ items_of w
 same_read ts v w s q = (known left_factored froms refl).unique ts v (items_of w) s ((fewer_within (list_left_factored most_further (omega arith))).includes.spells ts (items_of w) (as_froms ts w q))
 
 pub list_given : {levels : ℕ} {a b : Cursor} {es : List Entry} {C : Language Lexeme Froms} (w : Built Listed × List Further) → GivesWithin depth_alone froms C levels all_entries a a es b
-    → Took (of_form None one_list) (few_form few_list) a.tokens w b.tokens → GivesWithin entries_too froms few levels all_entries a a es b
+    → Took (in_factored None one_list) (few_form few_list) a.tokens w b.tokens → GivesWithin entries_too froms few levels all_entries a a es b
 list_given {levels = levels} {a = a} {b = b} w g t = record { read = g.read; takes = record { took = g.takes.took; few = λ n. taken }; builds = g.builds }
   where
-    d : Took (of_form None froms) (of_form (Some levels) froms) a.tokens g.read b.tokens
+    d : Took (in_factored None froms) (in_factored (Some levels) froms) a.tokens g.read b.tokens
     d = g.takes.took
 
     i : t.taken ≡ d.taken
@@ -177,7 +177,7 @@ list_given {levels = levels} {a = a} {b = b} w g t = record { read = g.read; tak
     spelled : (few_form few_list).spells d.taken w
     spelled = subst (λ z. (few_form few_list).spells z w) i t.spelled
 
-    taken : Took (of_form None froms) few a.tokens g.read b.tokens
+    taken : Took (in_factored None froms) few a.tokens g.read b.tokens
     taken = record {
       taken = d.taken;
       whole = d.whole;
@@ -186,7 +186,7 @@ list_given {levels = levels} {a = a} {b = b} w g t = record { read = g.read; tak
     }
 
 module _ (levels : ℕ) (a b : Cursor) where
-  list_failed : Failed (of_form None froms) (of_form (Some levels) froms) a.tokens b.tokens → Failed (of_form None one_list) (few_form few_list) a.tokens b.tokens → Failed (of_form None froms) few a.tokens b.tokens
+  list_failed : Failed (in_factored None froms) (in_factored (Some levels) froms) a.tokens b.tokens → Failed (in_factored None one_list) (few_form few_list) a.tokens b.tokens → Failed (in_factored None froms) few a.tokens b.tokens
   list_failed d t = record {
     taken = d.taken;
     whole = d.whole;
@@ -198,20 +198,20 @@ module _ (levels : ℕ) (a b : Cursor) where
   list_begun : Began (few_form few_list) a.tokens b.tokens → Began few a.tokens b.tokens
   list_begun t = record { taken = t.taken; whole = t.whole; begun = begun_froms t.taken t.begun }
 
-  list_crowded : Crowds depth_alone froms few levels a b → Exceeded (of_form None one_list) (few_form few_list) a.tokens b.tokens → Exceeded (of_form None froms) few a.tokens b.tokens
+  list_crowded : Crowds depth_alone froms few levels a b → Exceeded (in_factored None one_list) (few_form few_list) a.tokens b.tokens → Exceeded (in_factored None froms) few a.tokens b.tokens
   list_crowded d t = record { taken = t.taken; whole = t.whole; begun = begun_froms t.taken t.begun; passes = go b.tokens d.next t.whole t.passes }
     where
-      goes_on : a.tokens ≡ t.taken ++ d.token ∷ d.more → (of_form None froms).prefix (t.taken ++ d.token ∷ [])
+      goes_on : a.tokens ≡ t.taken ++ d.token ∷ d.more → (in_factored None froms).prefix (t.taken ++ d.token ∷ [])
       goes_on e =
           (deep_within levels froms).includes.prefix _
-          (subst (of_form (Some levels) froms).prefix (same_taken a.tokens d.more d.goes_on.taken (t.taken ++ d.token ∷ []) d.goes_on.whole (e ∙ sym (append_assoc t.taken (d.token ∷ []) d.more))) d.goes_on.begun)
+          (subst (in_factored (Some levels) froms).prefix (same_taken a.tokens d.more d.goes_on.taken (t.taken ++ d.token ∷ []) d.goes_on.whole (e ∙ sym (append_assoc t.taken (d.token ∷ []) d.more))) d.goes_on.begun)
 
-      go : (rest : List Lexeme) → rest ≡ d.token ∷ d.more → a.tokens ≡ t.taken ++ rest → reading.Passes (of_form None one_list) (few_form few_list) t.taken rest → reading.Passes (of_form None froms) few t.taken rest
+      go : (rest : List Lexeme) → rest ≡ d.token ∷ d.more → a.tokens ≡ t.taken ++ rest → reading.Passes (in_factored None one_list) (few_form few_list) t.taken rest → reading.Passes (in_factored None froms) few t.taken rest
       go [] i e p = p
       go (u ∷ rest) i e p =
           let h : d.token ≡ u = cc in
           let m : d.more ≡ rest = cc in
-          (subst (λ z. (of_form None froms).prefix (t.taken ++ z ∷ [])) h (goes_on (e ∙ ap (λ z. t.taken ++ z) i)), λ f. p.1 (froms_begun _ f))
+          (subst (λ z. (in_factored None froms).prefix (t.taken ++ z ∷ [])) h (goes_on (e ∙ ap (λ z. t.taken ++ z) i)), λ f. p.1 (froms_begun _ f))
 
 pub list_refused : {levels : ℕ} {a b : Cursor} {C : Language Lexeme Froms} (fault : ReadFault) → RefusesWithin depth_alone froms C levels a fault b → ListRefused a.tokens fault b.tokens
     → RefusesWithin entries_too froms few levels a fault b
@@ -248,7 +248,7 @@ no_further here n m = absent_unless (λ x. same k.Comma x || join_kinds x) (ahea
 no_comma : (ts : List Lexeme) → is_next join_kinds ts ≡ true → is_absent kind_of (ahead left_factored comma_entry) ts ≡ true
 no_comma ts n = absent_where join_kinds (ahead left_factored comma_entry) refl ts n
 
-joins_next : (start rest : List Lexeme) (v : Built Entry) (taken : List Lexeme) → start ≡ taken ++ rest → (of_form None joins).spells taken v → is_next join_kinds start ≡ true
+joins_next : (start rest : List Lexeme) (v : Built Entry) (taken : List Lexeme) → start ≡ taken ++ rest → (in_factored None joins).spells taken v → is_next join_kinds start ≡ true
 joins_next start rest v [] e s = let i : false ≡ true = (known left_factored joins refl).ahead.nullable v s in cc
 joins_next start rest v (t ∷ x) e s = subst (λ ts. is_next join_kinds ts ≡ true) (sym e) (first_is joins join_kinds refl refl t x ((known left_factored joins refl).prefixes.spelled (t ∷ x) v s))
 
@@ -260,7 +260,7 @@ joined_taken {levels = levels} {here = here} {rest = rest} {read = read} l t =
     join_read l (no_comma here (joins_next here rest read t.took.taken t.took.whole ((deep_within levels joins).includes.spells _ _ t.took.spelled))) read rest (t.few tt)
 
 pub joining_halts : {count : ℕ} {start here : List Lexeme} → FurtherLeft count start here → is_next join_kinds here ≡ true
-    → Halts (of_form None joins) (few_form (joins_behind count)) here (of_form None one_list) (few_form few_list) start
+    → Halts (in_factored None joins) (few_form (joins_behind count)) here (in_factored None one_list) (few_form few_list) start
 joining_halts {here = here} l n =
     let f = first_there join_kinds here n in
     join_halts l (no_comma here n) f.first f.others f.stood (join_begins f.first f.of_kind)

@@ -9,15 +9,15 @@ use Rattle.sql_lex.specs.Lexemes.{Lexeme}
 use Rattle.sql_model.specs.declared.tree.Expr.{Expr}
 use Rattle.sql_model.specs.declared.tree.Expr.TheVariants as expr
 use Rattle.sql_model.specs.declared.tree.Query.{Query}
-use Rattle.sql_read.specs.declared.fault.ReadFault.{ReadFault}
+use Rattle.sql_cursor.specs.declared.fault.ReadFault.{ReadFault}
 use Rattle.sql_read.specs.declared.reading.inside.Grouped.{Grouped}
 use Rattle.sql_read.specs.declared.reading.inside.Grouped.TheVariants as read_grouped
 use Rattle.sql_read.specs.Copied.{CopiedToFault}
-use Rattle.sql_read.specs.Cursor.{Cursor}
-use Rattle.sql_read.specs.Eating.{Extends, Stays, is_next}
+use Rattle.sql_cursor.specs.Cursor.{Cursor}
+use Rattle.sql_cursor.specs.Eating.{Extends, Stays, is_next}
 use Rattle.sql_read.specs.Parts.{built_grouped, built_inside}
 use Rattle.sql_read.specs.Reading.{enclosed_of}
-use Rattle.sql_read.specs.Reads.{of_form, few_form, Builds, Gives, IsBuilt, Reads, Takes}
+use Rattle.sql_read.specs.Reads.{few_form, Builds, Gives, IsBuilt, Reads, Takes}
 use Rattle.sql_grammar.specs.declared.kinds.Kind.TheVariants as k
 use Rattle.sql_grammar.specs.declared.kinds.Kind.{Kind}
 use Rattle.sql_grammar.specs.Kinds.{same}
@@ -25,7 +25,7 @@ use Rattle.sql_grammar.specs.Numbering.{Built, mapped}
 use Rattle.sql_grammar.specs.QueryCopies.{copies_nothing, most_copies}
 use Rattle.sql_grammar.specs.QueryGrammar.{The, expr_tail, in_parentheses, inner, set_tail}
 use Rattle.sql_grammar.specs.QueryTails.{commas}
-use Rattle.sql_grammar.specs.FactoredQueries.{sort}
+use Rattle.sql_grammar.specs.FactoredQueries.{sort, in_factored}
 use Rattle.sql_grammar.specs.QueryTrees as t
 use Rattle.sql_grammar.specs.QueryTailTrees as tails
 use Rattle.sql_grammar.specs.QueryTrees.{Left as Part}
@@ -55,21 +55,21 @@ unfolding few_form
 takes_some {f = f} {d = d} {here = here} {rest = rest} {v = v} p i n s =
     let first = first_there p here n in
     let moved : here ≡ rest → ⊥ =
-    cannot_stay (of_form None f) here first.first first.others s.took.taken rest first.stood (i first.first first.of_kind) s.took.whole s.took.stops in
-    record { took = nonempty_took (of_form None f) (of_form (Some d) f) here v rest moved s.took; few = λ t. nonempty_took (of_form None f) (few_form f) here v rest moved (s.few t) }
+    cannot_stay (in_factored None f) here first.first first.others s.took.taken rest first.stood (i first.first first.of_kind) s.took.whole s.took.stops in
+    record { took = nonempty_took (in_factored None f) (in_factored (Some d) f) here v rest moved s.took; few = λ t. nonempty_took (in_factored None f) (few_form f) here v rest moved (s.few t) }
 
 module _ {A : Type 0} {N : The A} {e : ℕ} {start : List Lexeme} {C : Type 0} {f : The C} {d : ℕ} {here : List Lexeme} {h : C → A} where
   pub some_part : Left (nonempty f) d here N e start h → Blocks f d here N e start
   unfolding few_form
   some_part l = record {
-    halts = halts_as (nonempty_failed (of_form None f) (of_form (Some d) f) here) (nonempty_exceeded (of_form None f) (of_form (Some d) f) here) (λ ts b. b) l.residual;
-    few = λ n. halts_as (nonempty_failed (of_form None f) (few_form f) here) (nonempty_exceeded (of_form None f) (few_form f) here) (λ ts b. b) (l.few n);
+    halts = halts_as (nonempty_failed (in_factored None f) (in_factored (Some d) f) here) (nonempty_exceeded (in_factored None f) (in_factored (Some d) f) here) (λ ts b. b) l.residual;
+    few = λ n. halts_as (nonempty_failed (in_factored None f) (few_form f) here) (nonempty_exceeded (in_factored None f) (few_form f) here) (λ ts b. b) (l.few n);
   }
 
 module _ {C Y : Type 0} {f : The C} {part : C → Built Y} {start before after : Cursor}
-    (reaches : (v : C) (rest : List Lexeme) → Reaches copies_nothing (of_form None f) before.tokens v rest → SomeTail (of_form None f) (λ v. (part v).copies) before.tokens rest (part v).copies)
-    (over : (rest : List Lexeme) → Overspends copies_nothing (of_form None f) (λ v. (part v).copies) most_copies start.copies before.tokens rest
-    → Overspends copies_nothing (of_form None (nonempty f)) (λ v. (part v).copies) most_copies start.copies before.tokens rest) where
+    (reaches : (v : C) (rest : List Lexeme) → Reaches copies_nothing (in_factored None f) before.tokens v rest → SomeTail (in_factored None f) (λ v. (part v).copies) before.tokens rest (part v).copies)
+    (over : (rest : List Lexeme) → Overspends copies_nothing (in_factored None f) (λ v. (part v).copies) most_copies start.copies before.tokens rest
+    → Overspends copies_nothing (in_factored None (nonempty f)) (λ v. (part v).copies) most_copies start.copies before.tokens rest) where
   copied_some : {fault : ReadFault} → CopiedToFault f part start before fault after → CopiedToFault (nonempty f) part start before fault after
   copied_some = copied_by
       (λ r. let some = reaches r.value after.tokens r.up_to in record { value = some.value; up_to = some.reaches; count = omega (arith, r.count, some.same_cost) })
@@ -205,7 +205,7 @@ begins_commas t i = inr ([], t ∷ [], [], refl, refl, inl (inr (t, refl, i)))
 nothing_taken : {d : ℕ} {here rest : List Lexeme} → is_next (same k.Comma) here ≡ true → Takes commas d here [] rest → ⊥
 nothing_taken {here = here} {rest = rest} n s =
     let first = first_there (same k.Comma) here n in
-    cannot_stay (of_form None commas) here first.first first.others s.took.taken rest first.stood (begins_commas first.first first.of_kind) s.took.whole s.took.stops
+    cannot_stay (in_factored None commas) here first.first first.others s.took.taken rest first.stood (begins_commas first.first first.of_kind) s.took.whole s.took.stops
     (s.took.whole ∙ ap (λ z. z ++ rest) s.took.spelled.0)
 
 module _ {d : ℕ} {start m n : Cursor} (comma : is_next (same k.Comma) m.tokens ≡ true) (word : Lexeme) (p : Enclosed) (left : Part) where

@@ -5,7 +5,7 @@ use Rattle.grammar.specs.Productions.{optional}
 use Rattle.sql_lex.specs.Lexemes.{Lexeme}
 use Rattle.sql_model.specs.declared.tree.Expr.{Expr}
 use Rattle.sql_read.specs.declared.reading.test.Sought.{Sought}
-use Rattle.sql_read.specs.Cursor.{Cursor}
+use Rattle.sql_cursor.specs.Cursor.{Cursor}
 use Rattle.sql_read.specs.Parts.{built_inside}
 use Rattle.sql_read.specs.Reads.{Builds}
 use Rattle.sql_read.specs.Reading.{Deeper}

@@ -10,12 +10,12 @@ use Rattle.grammar.specs.Reading.{Took}
 use Rattle.grammar.proofs.readers.Predictions.{ok, ahead}
 use Rattle.grammar.proofs.readers.Repetitions.{once_more}
 use Rattle.sql_lex.specs.Lexemes.{Lexeme}
-use Rattle.sql_read.specs.declared.fault.ReadFault.{ReadFault}
-use Rattle.sql_read.specs.declared.fault.ReadFault.TheVariants.{TooDeep}
-use Rattle.sql_read.specs.Cursor.{Cursor}
-use Rattle.sql_read.specs.Eating.{Extends, Overflows, PassesWithin, is_next}
-use Rattle.sql_read.specs.Reads.{Builds, Told, TakesWithin, few_form, of_form}
-use Rattle.sql_read.specs.Reading.{Reader, Reading, ◌>>=◌, continuing, done as finished, repeated}
+use Rattle.sql_cursor.specs.declared.fault.ReadFault.{ReadFault}
+use Rattle.sql_cursor.specs.declared.fault.ReadFault.TheVariants.{TooDeep}
+use Rattle.sql_cursor.specs.Cursor.{Cursor}
+use Rattle.sql_cursor.specs.Eating.{Extends, Overflows, PassesWithin, is_next}
+use Rattle.sql_read.specs.Reads.{Builds, Told, TakesWithin, few_form}
+use Rattle.sql_cursor.specs.Readers.{Reader, Reading, ◌>>=◌, continuing, done as finished, repeated}
 use Rattle.sql_grammar.specs.declared.kinds.Kind.{Kind}
 use Rattle.sql_grammar.specs.Numbering.{Built, Numbers, both, each, mapped as built_mapped}
 use Rattle.sql_grammar.specs.QueryCopies.{copies_nothing}
@@ -24,13 +24,14 @@ use Rattle.sql_grammar.proofs.copies.QueryFillings.{fill_none}
 use Rattle.sql_grammar.proofs.queries.QueryTable.{left_factored}
 use Rattle.sql_read.proofs.steps.Agreeing.{AgreesWithin, ResidualIn, StopsIn, all_left, behind, by_made, inside, mapped, stopped, too_deep_here, whole}
 use Rattle.sql_read.proofs.steps.AgreeSteps.{none_here}
-use Rattle.sql_read.proofs.steps.Extending.{◌⨟◌}
+use Rattle.sql_cursor.proofs.code.Extending.{◌⨟◌}
 use Rattle.sql_read.proofs.steps.ReadCopiedSteps.{on_last, on_next_taken}
 use Rattle.sql_read.proofs.parts.ReadChains.{each_more, each_more_copies}
 use Rattle.sql_read.proofs.steps.ReadLoops.{Begins, first_there, none_more, one_too_many, repeated_begins, repeated_next}
 use Rattle.sql_read.proofs.steps.ReadPassing.{Alike, alike_within, built_from}
 use Rattle.sql_read.proofs.steps.ReadSteps as steps
 use Rattle.sql_read.proofs.steps.ReadSteps.{begins_with, built_both, built_map, next_there}
+use Rattle.sql_grammar.specs.FactoredQueries.{in_factored}
 
 -- ---- steps through a repetition
 
@@ -43,7 +44,7 @@ module _ {A C : Type 0} {told : Told} {N : The A} {NB : Language Lexeme A} {e : 
   pub so : {f : The C} {B : Language Lexeme C} {here : Cursor} {h k : C → A} → ResidualIn told f B d here N NB e start h → ((v : C) → h v ≡ k v) → ResidualIn told f B d here N NB e start k
   so l i = record {
     left = record { residual = renamed i l.left.residual; few = λ n. renamed i (l.left.few n) };
-    going = record { goes = record { reaches = λ v rest r. subst (λ z. Reaches copies_nothing (of_form None N) start.tokens z rest) (i v) (l.going.goes.reaches v rest r) } };
+    going = record { goes = record { reaches = λ v rest r. subst (λ z. Reaches copies_nothing (in_factored None N) start.tokens z rest) (i v) (l.going.goes.reaches v rest r) } };
     extends = l.extends;
   }
 
@@ -108,7 +109,7 @@ module _ {A C U X Y W : Type 0} {told : Told} {N : The A} {NB : Language Lexeme 
       → AgreesWithin told N NB e whole_of whole_copied built_at start (Err (TooDeep at), now) → P (Err (TooDeep at), now))
       (ends : (done : List C) (x : X) (now : Cursor) → I done x now → (done ≡ [] → is_next q begun.tokens ≡ false) → is_next q now.tokens ≡ false
       → TakesWithin told N NB e start.tokens (h done) now.tokens → Extends start now → P (Ok x, now))
-      (one : (done : List C) (x : X) (now : Cursor) → I done x now → Continues copies_nothing (of_form None (star None f)) now.tokens (of_form None N) start.tokens (λ vs. h (done ++ vs))
+      (one : (done : List C) (x : X) (now : Cursor) → I done x now → Continues copies_nothing (in_factored None (star None f)) now.tokens (in_factored None N) start.tokens (λ vs. h (done ++ vs))
       → (room : ℕ) (w : W) (mid : Cursor) → Has room now w mid → StopsIn told g (few_form g) d mid N NB e start (λ u. h (done ++ make w u ∷ [])) → (again : X → Reader X)
       → ((u : U) (y : X) (after : Cursor) → TakesWithin told g (few_form g) d mid.tokens u after.tokens → Extends mid after → I (done ++ make w u ∷ []) y after → P (again y after)) → P (next x w mid >>= again)) where
     module _ {room : ℕ} {done : List C} {x : X} {now : Cursor} (r : I done x now) (l : ResidualIn told (star (Some room) f) (few_form (star (Some room) f)) d now N NB e start (λ vs. h (done ++ vs))) where

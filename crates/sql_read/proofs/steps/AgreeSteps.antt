@@ -9,12 +9,12 @@ use Rattle.grammar.specs.Productions.{then_skip}
 use Rattle.grammar.proofs.readers.Completing.{either_of}
 use Rattle.grammar.proofs.readers.Predictions.{ok, ahead}
 use Rattle.sql_lex.specs.Lexemes.{Lexeme}
-use Rattle.sql_read.specs.declared.fault.LimitKind.TheVariants as limit
-use Rattle.sql_read.specs.declared.fault.ReadFault.TheVariants.{Limit, TooDeep}
-use Rattle.sql_read.specs.Cursor.{Cursor}
-use Rattle.sql_read.specs.Eating.{Copies, Extends, GoesOn, Numbers, Overflows, PassesWithin, Stays, is_next}
-use Rattle.sql_read.specs.Reads.{Builds, Takes, Told, entries_too, few_form, of_form, Refuses}
-use Rattle.sql_read.specs.Reading.{Reader, Reading, ◌>>=◌, copied, demanded, done, eaten_within, expected, expected_within, numbered}
+use Rattle.sql_cursor.specs.declared.fault.LimitKind.TheVariants as limit
+use Rattle.sql_cursor.specs.declared.fault.ReadFault.TheVariants.{Limit, TooDeep}
+use Rattle.sql_cursor.specs.Cursor.{Cursor}
+use Rattle.sql_cursor.specs.Eating.{Copies, Extends, GoesOn, Numbers, Overflows, PassesWithin, Stays, is_next}
+use Rattle.sql_read.specs.Reads.{Builds, Takes, Told, entries_too, few_form, Refuses}
+use Rattle.sql_cursor.specs.Readers.{Reader, Reading, ◌>>=◌, copied, demanded, done, eaten_within, expected, expected_within, numbered}
 use Rattle.sql_grammar.specs.declared.kinds.Kind.TheVariants as k
 use Rattle.sql_grammar.specs.declared.kinds.Kind.{Kind}
 use Rattle.sql_grammar.specs.Kinds.{among, same}
@@ -26,7 +26,7 @@ use Rattle.sql_grammar.proofs.queries.QueryTable.{left_factored}
 use Rattle.sql_model.specs.declared.symbols.Lit.{Lit}
 use Rattle.sql_model.specs.Syntax.{Name}
 use Rattle.sql_read.proofs.steps.Agreeing.{Agrees, Residual, StopsIn, all_left, behind, behind_taken, built, by_eaten, by_eaten_within, ends_by, first_of, mapped, missing, needs_last, nested, other_unless, refused_here, then_part, then_rest, second, through, too_deep_here, whole}
-use Rattle.sql_read.proofs.steps.Extending.{◌⨟◌, extends_by, extends_passes, goes_nowhere}
+use Rattle.sql_cursor.proofs.code.Extending.{◌⨟◌, extends_by, extends_passes, goes_nowhere}
 use Rattle.sql_read.proofs.steps.ReadCopies as c
 use Rattle.sql_read.proofs.steps.ReadCopies.{Going, SameCost}
 use Rattle.sql_read.proofs.steps.ReadCopiedSteps.{on_behind_first, on_behind_other, on_counted, on_either}
@@ -36,7 +36,8 @@ use Rattle.sql_read.proofs.steps.ReadPassing as p
 use Rattle.sql_read.proofs.steps.ReadPassing.{Alike, alone, built_from}
 use Rattle.sql_read.proofs.steps.ReadSteps as steps
 use Rattle.sql_read.proofs.steps.ReadSteps.{LeftWithin, before, begins_otherwise, begins_with, plain_here, took_token, deep_within, entries_within, refuses}
-use Rattle.sql_read.specs.declared.fault.ReadFault.{ReadFault}
+use Rattle.sql_cursor.specs.declared.fault.ReadFault.{ReadFault}
+use Rattle.sql_grammar.specs.FactoredQueries.{in_factored}
 
 -- ---- readers one by one
 
@@ -229,7 +230,7 @@ module _ {A X : Type 0} {N : The A} {e : ℕ} {whole_of whole_copied : A → Bui
 module _ {A : Type 0} {N : The A} {e : ℕ} {start : Cursor} {C D E : Type 0} {f : The (C ⊎ D)} {g : The (C → E)} {i : The (D → E)} {d : ℕ} {here : Cursor} {h : E → A} (l : Residual (fork f g i) d here N e start h)
     (o : ok left_factored (fork f g i) ≡ true) where
   -- the first part, with something behind it of either kind
-  pub fork_of : {k : C → E} {j : D → E} → Filled g k → Filled i j → StopsIn entries_too f (few_form f) d here N (few_form N) e start (λ v. h (either_of left_factored 0 copies_nothing (of_form None N) start.tokens k j v))
+  pub fork_of : {k : C → E} {j : D → E} → Filled g k → Filled i j → StopsIn entries_too f (few_form f) d here N (few_form N) e start (λ v. h (either_of left_factored 0 copies_nothing (in_factored None N) start.tokens k j v))
   fork_of x y = record { blocks = forks l.left o; going = on_either l.going x y; extends = l.extends }
 
   module _ {mid : Cursor} where

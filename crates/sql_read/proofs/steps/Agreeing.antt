@@ -7,25 +7,25 @@ use Rattle.grammar.specs.Language.{Language}
 use Rattle.grammar.proofs.readers.Choices.{is_absent}
 use Rattle.grammar.proofs.readers.Predictions.{ok, ahead}
 use Rattle.sql_lex.specs.Lexemes.{Lexeme}
-use Rattle.sql_read.specs.declared.fault.ReadFault.{ReadFault}
-use Rattle.sql_read.specs.declared.fault.ReadFault.TheVariants.{TooDeep}
+use Rattle.sql_cursor.specs.declared.fault.ReadFault.{ReadFault}
+use Rattle.sql_cursor.specs.declared.fault.ReadFault.TheVariants.{TooDeep}
 use Rattle.sql_read.specs.Copied.{Copied}
-use Rattle.sql_read.specs.Cursor.{Cursor, behind_next, next_of}
-use Rattle.sql_read.specs.Eating.{Extends, Misses, Overflows, Passes, PassesWithin, is_next}
-use Rattle.sql_read.specs.Reads.{Builds, Told, TakesWithin, ReadsWithin, RefusesWithin, few_form, entries_too, of_form}
-use Rattle.sql_read.specs.Reading.{Reader, Reading, ◌>>=◌, demanded, done, eaten, eaten_within, expected, passed, too_deep}
-use Rattle.sql_read.specs.Refusals.{refusal}
+use Rattle.sql_cursor.specs.Cursor.{Cursor, behind_next, next_of}
+use Rattle.sql_cursor.specs.Eating.{Extends, Misses, Overflows, Passes, PassesWithin, is_next}
+use Rattle.sql_read.specs.Reads.{Builds, Told, TakesWithin, ReadsWithin, RefusesWithin, few_form, entries_too}
+use Rattle.sql_cursor.specs.Readers.{Reader, Reading, ◌>>=◌, demanded, done, eaten, eaten_within, expected, passed, too_deep}
+use Rattle.sql_cursor.specs.Refusals.{refusal}
 use Rattle.sql_grammar.specs.declared.kinds.Kind.{Kind}
 use Rattle.sql_grammar.specs.Kinds.{kind_of}
 use Rattle.sql_grammar.specs.Numbering.{Built}
 use Rattle.sql_grammar.specs.QueryGrammar.{Production, Read, The}
-use Rattle.sql_grammar.specs.FactoredQueries.{few_factored, of_factored, factored}
+use Rattle.sql_grammar.specs.FactoredQueries.{few_factored, of_factored, factored, in_factored}
 use Rattle.sql_grammar.specs.QueryEntries.{most_further}
 use Rattle.sql_grammar.proofs.copies.QueryFillings.{Filled}
 use Rattle.sql_grammar.proofs.queries.QueryTable.{left_factored}
 use Rattle.sql_grammar.proofs.queries.QueryWords.{Below}
 use Rattle.grammar.proofs.factorings.Alike.{itself}
-use Rattle.sql_read.proofs.steps.Extending.{◌⨟◌, extends_itself, extends_passes}
+use Rattle.sql_cursor.proofs.code.Extending.{◌⨟◌, extends_itself, extends_passes}
 use Rattle.sql_read.proofs.steps.ReadSteps as steps
 use Rattle.sql_read.proofs.steps.ReadSteps.{BlocksOf, LeftWithin, begins_with, absent_unless, took_token}
 use Rattle.sql_read.proofs.steps.ReadCopies as c
@@ -120,7 +120,7 @@ module _ {A : Type 0} {told : Told} {N : The A} {NB : Language Lexeme A} {e : �
 
   module _ {C : Type 0} {d : ℕ} {f g : The C} {h : C → A} where
     -- the next token begins the first, or begins none of it, or none of the other
-    pub by_token : {q : Kind → Bool} {a b : Cursor} {t : Lexeme} → ResidualIn told (alt f g) (few_form (alt f g)) d a N NB e start h → ok left_factored (alt f g) ≡ true → Passes q a t b → (of_form None f).prefix (t ∷ [])
+    pub by_token : {q : Kind → Bool} {a b : Cursor} {t : Lexeme} → ResidualIn told (alt f g) (few_form (alt f g)) d a N NB e start h → ok left_factored (alt f g) ≡ true → Passes q a t b → (in_factored None f).prefix (t ∷ [])
         → ResidualIn told f (few_form f) d a N NB e start h
     by_token l o q i = record { left = steps.by_token l.left o q i; going = c.on_one l.going; extends = l.extends }
 

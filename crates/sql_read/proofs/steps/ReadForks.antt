@@ -9,13 +9,13 @@ use Rattle.sql_lex.specs.Lexemes.{Lexeme}
 use Rattle.sql_model.specs.declared.tree.Expr.{Expr}
 use Rattle.sql_model.specs.declared.tree.Item.{Item}
 use Rattle.sql_read.specs.declared.reading.item.Starred.TheVariants as read_starred
-use Rattle.sql_read.specs.Cursor.{Cursor}
+use Rattle.sql_cursor.specs.Cursor.{Cursor}
 use Rattle.sql_grammar.specs.Numbering.{Built, mapped}
 use Rattle.sql_read.specs.Parts.{built_starred}
 use Rattle.sql_grammar.specs.QueryGrammar.{The}
-use Rattle.sql_grammar.specs.FactoredQueries.{Starred}
+use Rattle.sql_grammar.specs.FactoredQueries.{Starred, in_factored}
 use Rattle.sql_grammar.specs.QueryTrees as t
-use Rattle.sql_read.specs.Reads.{Told, of_form, few_form, Builds, Takes, TakesWithin}
+use Rattle.sql_read.specs.Reads.{Told, few_form, Builds, Takes, TakesWithin}
 use Rattle.sql_grammar.proofs.queries.QueryTable.{left_factored}
 use Rattle.sql_read.proofs.steps.ReadSteps.{BlocksOf, LeftOf, deep_within, entries_within}
 
@@ -56,7 +56,7 @@ module _ {A : Type 0} {told : Told} {N : The A} {NB : Language Lexeme A} {m : �
 pub takes_mapped : {C D : Type 0} {told : Told} {f : The C} {d : ℕ} {here rest : List Lexeme} {v : C} (k : C → D) → TakesWithin told f (few_form f) d here v rest
     → TakesWithin told (map k f) (few_form (map k f)) d here (k v) rest
 unfolding few_form
-takes_mapped {f = f} {here = here} {rest = rest} {v = v} k s = record { took = map_took _ _ k here v rest s.took; few = λ n. map_took (of_form None f) (few_form f) k here v rest (s.few n) }
+takes_mapped {f = f} {here = here} {rest = rest} {v = v} k s = record { took = map_took _ _ k here v rest s.took; few = λ n. map_took (in_factored None f) (few_form f) k here v rest (s.few n) }
 
 -- ---- what was built, from what stands around it
 

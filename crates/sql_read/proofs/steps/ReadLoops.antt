@@ -11,18 +11,19 @@ use Rattle.grammar.proofs.readers.Residuals as r
 use Rattle.grammar.proofs.readers.Repetitions.{once_more}
 use Rattle.grammar.proofs.readers.Steps.{counted_failed, counted_exceeded}
 use Rattle.sql_lex.specs.Lexemes.{Lexeme}
-use Rattle.sql_read.specs.declared.fault.ReadFault.{ReadFault}
-use Rattle.sql_read.specs.declared.fault.ReadFault.TheVariants.{TooDeep}
-use Rattle.sql_read.specs.Cursor.{Cursor}
-use Rattle.sql_read.specs.Eating.{ExpectsWithin, Extends, is_next, Stays, Overflows, PassesWithin}
+use Rattle.sql_cursor.specs.declared.fault.ReadFault.{ReadFault}
+use Rattle.sql_cursor.specs.declared.fault.ReadFault.TheVariants.{TooDeep}
+use Rattle.sql_cursor.specs.Cursor.{Cursor}
+use Rattle.sql_cursor.specs.Eating.{ExpectsWithin, Extends, is_next, Stays, Overflows, PassesWithin}
 use Rattle.sql_grammar.specs.declared.kinds.Kind.{Kind}
 use Rattle.sql_grammar.specs.Kinds.{kind_of}
 use Rattle.sql_grammar.specs.QueryGrammar.{The}
-use Rattle.sql_read.specs.Reads.{Told, TellsEntries, of_form, few_form, TakesWithin, RefusesWithin}
+use Rattle.sql_read.specs.Reads.{Told, TellsEntries, few_form, TakesWithin, RefusesWithin}
 use Rattle.sql_grammar.proofs.queries.QueryTable.{left_factored}
 pub use Rattle.sql_read.proofs.steps.ReadSteps.{takes}
-use Rattle.sql_read.proofs.steps.Extending.{extends_misses, extends_overflows}
+use Rattle.sql_cursor.proofs.code.Extending.{extends_misses, extends_overflows}
 use Rattle.sql_read.proofs.steps.ReadSteps.{halts_as, LeftOf, BlocksOf, absent_unless, begins_with, deep_within, entries_within}
+use Rattle.sql_grammar.specs.FactoredQueries.{in_factored}
 
 -- ---- what stands next
 
@@ -39,7 +40,7 @@ first_there p (t ∷ ts) e = record { first = t; others = ts; stood = refl; of_k
 
 -- each token of these kinds begins the form
 abbrev pub Begins : {C : Type 0} → (Kind → Bool) → The C → Type 0
-Begins p f = (t : Lexeme) → p (kind_of t) ≡ true → (of_form None f).prefix (t ∷ [])
+Begins p f = (t : Lexeme) → p (kind_of t) ≡ true → (in_factored None f).prefix (t ∷ [])
 
 pub begins_seq : {C : Type 0} (p : Kind → Bool) (g : The C) → Begins p (seq (token p) g)
 begins_seq p g t i = inl (inr (t, refl, i))
@@ -70,7 +71,7 @@ module _ {A C : Type 0} {told : Told} {N : The A} {NB : Language Lexeme A} {e : 
 
   -- one more begins
   pub repeated_begins : (most : Option ℕ) {here : List Lexeme} {h : List C → A} → LeftOf told (star (once_more most) f) d here N NB e start h
-      → ok left_factored (star (once_more most) f) ≡ true → (t : Lexeme) (more : List Lexeme) → here ≡ t ∷ more → (of_form None f).prefix (t ∷ []) → BlocksOf told f (few_form f) d here N NB e start
+      → ok left_factored (star (once_more most) f) ≡ true → (t : Lexeme) (more : List Lexeme) → here ≡ t ∷ more → (in_factored None f).prefix (t ∷ []) → BlocksOf told f (few_form f) d here N NB e start
   unfolding few_form
   repeated_begins most {here = here} {h = h} l o t more s b = record {
     halts = record {
@@ -103,7 +104,7 @@ module _ {A C : Type 0} {told : Told} {N : The A} {NB : Language Lexeme A} {e : 
   one_begins {room = suc m} {b = b} {t = t} l o i q = repeated_begins (Some m) l o t b.tokens q.passes.stood (i t q.passes.of_kind)
 
   full : (p : Kind → Bool) {here : List Lexeme} {h : List C → A} (room : ℕ) → room ≡ 0 → LeftOf told (star (Some room) f) d here N NB e start h
-      → Begins p f → is_next p here ≡ true → Exceeded (of_form None N) (of_form (Some e) N) start here
+      → Begins p f → is_next p here ≡ true → Exceeded (in_factored None N) (in_factored (Some e) N) start here
   full p {here = here} {h = h} zero z l i n =
       let first = first_there p here n in
       r.left_full left_factored _ _ start d f _ here h l.residual first.first first.others first.stood (i first.first first.of_kind)
@@ -127,8 +128,8 @@ pub counted_part : {A C : Type 0} {told : Told} {N : The A} {NB : Language Lexem
     → LeftOf told (counted f) d here N NB e start h → BlocksOf told f (few_form f) d here N NB e start
 unfolding few_form
 counted_part {f = f} {d = d} {here = here} l = record {
-  halts = halts_as (counted_failed (of_form None f) (of_form (Some d) f) here) (counted_exceeded (of_form None f) (of_form (Some d) f) here) (λ ts b. b) l.residual;
-  few = λ n. halts_as (counted_failed (of_form None f) (few_form f) here) (counted_exceeded (of_form None f) (few_form f) here) (λ ts b. b) (l.few n);
+  halts = halts_as (counted_failed (in_factored None f) (in_factored (Some d) f) here) (counted_exceeded (in_factored None f) (in_factored (Some d) f) here) (λ ts b. b) l.residual;
+  few = λ n. halts_as (counted_failed (in_factored None f) (few_form f) here) (counted_exceeded (in_factored None f) (few_form f) here) (λ ts b. b) (l.few n);
 }
 
 -- a level that was not opened

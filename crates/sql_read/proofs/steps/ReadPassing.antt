@@ -11,17 +11,18 @@ use Rattle.grammar.proofs.readers.Residuals as r
 use Rattle.grammar.proofs.readers.Steps.{IsWithin, Same}
 use Rattle.grammar.specs.Reading.{Failed}
 use Rattle.sql_lex.specs.Lexemes.{Lexeme}
-use Rattle.sql_read.specs.declared.fault.ReadFault.{ReadFault}
-use Rattle.sql_read.specs.declared.fault.ReadFault.TheVariants.{TooDeep}
-use Rattle.sql_read.specs.Cursor.{Cursor}
-use Rattle.sql_read.specs.Eating.{Extends, is_next, Misses, Numbers, Overflows, Passes, PassesWithin, Stays}
+use Rattle.sql_cursor.specs.declared.fault.ReadFault.{ReadFault}
+use Rattle.sql_cursor.specs.declared.fault.ReadFault.TheVariants.{TooDeep}
+use Rattle.sql_cursor.specs.Cursor.{Cursor}
+use Rattle.sql_cursor.specs.Eating.{Extends, is_next, Misses, Numbers, Overflows, Passes, PassesWithin, Stays}
 use Rattle.sql_grammar.specs.declared.kinds.Kind.{Kind}
 use Rattle.sql_grammar.specs.Kinds.{among, kind_of, same}
 use Rattle.sql_grammar.specs.Numbering.{Built}
 use Rattle.sql_grammar.specs.QueryGrammar.{The}
-use Rattle.sql_read.specs.Reads.{Told, of_form, few_form, Builds, IsBuilt, ReadsWithin, RefusesWithin, Takes}
+use Rattle.sql_read.specs.Reads.{Told, few_form, Builds, IsBuilt, ReadsWithin, RefusesWithin, Takes}
 use Rattle.sql_grammar.proofs.queries.QueryTable.{left_factored}
 use Rattle.sql_read.proofs.steps.ReadSteps.{absent_unless, absent_where, begins_otherwise, begins_with, blocks, by_next, deep_within, entries_within, ExceededForm, fails, first, gives, LeftOf, LeftWithin, other, refuses}
+use Rattle.sql_grammar.specs.FactoredQueries.{in_factored}
 
 -- ---- sets of one kind
 
@@ -95,12 +96,12 @@ module _ {C A X : Type 0} {told : Told} {f : The C} {B : Language Lexeme C} {d :
 -- ---- a form that cannot begin here
 
 module _ {C : Type 0} {told : Told} {f : The C} {p : Kind → Bool} {d : ℕ} {a b : Cursor} {fault : ReadFault} where
-  pub misses_in : (B : Language Lexeme C) → IsWithin (of_form None f) B → ok left_factored f ≡ true → begins_with p (ahead left_factored f) ≡ true → Misses p a fault b → RefusesWithin told f B d a fault b
-  misses_in B i o w m = record { says = fails told f B d a b fault (failed (of_form (Some d) f) (deep_within d f)) (λ n. failed B i) m.refusing }
+  pub misses_in : (B : Language Lexeme C) → IsWithin (in_factored None f) B → ok left_factored f ≡ true → begins_with p (ahead left_factored f) ≡ true → Misses p a fault b → RefusesWithin told f B d a fault b
+  misses_in B i o w m = record { says = fails told f B d a b fault (failed (in_factored (Some d) f) (deep_within d f)) (λ n. failed B i) m.refusing }
     where
-      failed : (B : Language Lexeme C) → IsWithin (of_form None f) B → Failed (of_form None f) B a.tokens b.tokens
-      failed B i = subst (λ z. Failed (of_form None f) B a.tokens z.tokens) (sym m.stays.still)
-          (absent_failed kind_of (of_form None f) (ahead left_factored f) (known left_factored f o) B i a.tokens (absent_unless p (ahead left_factored f) w a.tokens m.stays.not_next))
+      failed : (B : Language Lexeme C) → IsWithin (in_factored None f) B → Failed (in_factored None f) B a.tokens b.tokens
+      failed B i = subst (λ z. Failed (in_factored None f) B a.tokens z.tokens) (sym m.stays.still)
+          (absent_failed kind_of (in_factored None f) (ahead left_factored f) (known left_factored f o) B i a.tokens (absent_unless p (ahead left_factored f) w a.tokens m.stays.not_next))
 
   pub misses : ok left_factored f ≡ true → begins_with p (ahead left_factored f) ≡ true → Misses p a fault b → RefusesWithin told f (few_form f) d a fault b
   misses o w m = misses_in (few_form f) (entries_within f) o w m
@@ -125,7 +126,7 @@ module _ {A : Type 0} {told : Told} {N : The A} {NB : Language Lexeme A} {e : �
 
   -- what stands next begins the first
   pub first_next : (p : Kind → Bool) {here : List Lexeme} → LeftOf told (alt f g) d here N NB e start h → ok left_factored (alt f g) ≡ true
-      → ((t : Lexeme) → p (kind_of t) ≡ true → (of_form None f).prefix (t ∷ [])) → is_next p here ≡ true → LeftOf told f d here N NB e start h
+      → ((t : Lexeme) → p (kind_of t) ≡ true → (in_factored None f).prefix (t ∷ [])) → is_next p here ≡ true → LeftOf told f d here N NB e start h
   first_next p {here = []} l o i n = cc
   first_next p {here = t ∷ ts} l o i n =
       by_next l o t ts refl (i t n)
@@ -141,15 +142,15 @@ module _ {A : Type 0} {told : Told} {N : The A} {NB : Language Lexeme A} {e : �
   exchange : {here : List Lexeme} → LeftOf told (alt f g) d here N NB e start h → LeftOf told (alt g f) d here N NB e start h
   unfolding few_form
   exchange {here = here} l =
-      let free = same_exchanged (of_form None g) (of_form None f) in
+      let free = same_exchanged (in_factored None g) (in_factored None f) in
       record {
-        residual = r.residual_same _ _ _ _ free (same_exchanged (of_form (Some d) g) (of_form (Some d) f)) here _ _ start h l.residual;
+        residual = r.residual_same _ _ _ _ free (same_exchanged (in_factored (Some d) g) (in_factored (Some d) f)) here _ _ start h l.residual;
         few = λ n. r.residual_same _ _ _ _ free (same_exchanged (few_form g) (few_form f)) here _ _ start h (l.few n);
       }
 
   -- what stands next begins the second
   pub other_next : (p : Kind → Bool) {here : List Lexeme} → LeftOf told (alt f g) d here N NB e start h → ok left_factored (alt g f) ≡ true
-      → ((t : Lexeme) → p (kind_of t) ≡ true → (of_form None g).prefix (t ∷ [])) → is_next p here ≡ true → LeftOf told g d here N NB e start h
+      → ((t : Lexeme) → p (kind_of t) ≡ true → (in_factored None g).prefix (t ∷ [])) → is_next p here ≡ true → LeftOf told g d here N NB e start h
   other_next p l o i n = first_next p (exchange l) o i n
 
 -- ---- levels

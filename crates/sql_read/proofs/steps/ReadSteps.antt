@@ -17,20 +17,20 @@ use Rattle.grammar.proofs.readers.Residuals as r
 use Rattle.grammar.proofs.languages.Sets.{and_left, and_right, and_both, implied}
 use Rattle.grammar.proofs.readers.Steps.{IsWithin, Same, empty_took, token_took, token_ended, token_failed}
 use Rattle.sql_lex.specs.Lexemes.{Lexeme}
-use Rattle.sql_read.specs.declared.fault.ReadFault.{ReadFault}
-use Rattle.sql_read.specs.declared.fault.ReadFault.TheVariants.{TooDeep, Limit, NoMemory}
-use Rattle.sql_read.specs.declared.fault.LimitKind.{LimitKind}
-use Rattle.sql_read.specs.declared.fault.LimitKind.TheVariants as limit
-use Rattle.sql_read.specs.Cursor.{Cursor, next_of}
-use Rattle.sql_read.specs.Eating.{is_next, Passes, Stays, Misses}
+use Rattle.sql_cursor.specs.declared.fault.ReadFault.{ReadFault}
+use Rattle.sql_cursor.specs.declared.fault.ReadFault.TheVariants.{TooDeep, Limit, NoMemory}
+use Rattle.sql_cursor.specs.declared.fault.LimitKind.{LimitKind}
+use Rattle.sql_cursor.specs.declared.fault.LimitKind.TheVariants as limit
+use Rattle.sql_cursor.specs.Cursor.{Cursor, next_of}
+use Rattle.sql_cursor.specs.Eating.{is_next, Passes, Stays, Misses}
 use Rattle.sql_grammar.specs.declared.kinds.Kind.{Kind}
 use Rattle.sql_grammar.specs.Kinds.{kind_of, every_kind}
 use Rattle.sql_grammar.specs.Numbering.{Built, both, plain, mapped as mapped_built}
 use Rattle.sql_grammar.specs.QueryGrammar.{Production, Read, The}
 use Rattle.sql_grammar.specs.QueryEntries.{most_further}
-use Rattle.sql_grammar.specs.FactoredQueries.{few_factored, of_factored, factored}
-use Rattle.sql_read.specs.Reads.{Told, entries_too, TellsColumns, TellsEntries, TellsRelations, of_form, few_form, Builds, TakesWithin, GivesWithin, Fills, Says, SaysLimit, RefusesWithin, ReadsWithin}
-use Rattle.sql_read.specs.Refusals.{refusal}
+use Rattle.sql_grammar.specs.FactoredQueries.{few_factored, of_factored, factored, in_factored}
+use Rattle.sql_read.specs.Reads.{Told, entries_too, TellsColumns, TellsEntries, TellsRelations, few_form, Builds, TakesWithin, GivesWithin, Fills, Says, SaysLimit, RefusesWithin, ReadsWithin}
+use Rattle.sql_cursor.specs.Refusals.{refusal}
 use Rattle.sql_grammar.proofs.lists.EveryKind.{every_kind_is_there}
 use Rattle.sql_grammar.proofs.entries.FewFactored.{few_within}
 use Rattle.sql_grammar.proofs.queries.QueryTable.{left_factored}
@@ -39,10 +39,10 @@ use Rattle.grammar.proofs.factorings.Alike.{itself}
 use Rattle.sql_read.proofs.steps.RefusedNext.{no_limit, not_too_deep}
 
 abbrev pub FailedForm : {C : Type 0} → The C → ℕ → List Lexeme → List Lexeme → Type 0
-FailedForm f d here rest = Failed (of_form None f) (of_form (Some d) f) here rest
+FailedForm f d here rest = Failed (in_factored None f) (in_factored (Some d) f) here rest
 
 abbrev pub ExceededForm : {C : Type 0} → The C → ℕ → List Lexeme → List Lexeme → Type 0
-ExceededForm f d here rest = Exceeded (of_form None f) (of_form (Some d) f) here rest
+ExceededForm f d here rest = Exceeded (in_factored None f) (in_factored (Some d) f) here rest
 
 -- what stops M here stops N from the start
 pub record Halts {C A : Type 0} (M M' : Language Lexeme C) (here : List Lexeme) (N N' : Language Lexeme A) (start : List Lexeme) : Type 0 where
@@ -72,8 +72,8 @@ halts_through m l = record { failed = λ rest t. m.failed rest (l.failed rest t)
 -- f remains here of the reading of N that began at the start: the value of N is h of that of f. B and NB are what may be read of f and N where no
 -- block has too many entries.
 pub record LeftWithin {C A : Type 0} (told : Told) (f : The C) (B : Language Lexeme C) (d : ℕ) (here : List Lexeme) (N : The A) (NB : Language Lexeme A) (e : ℕ) (start : List Lexeme) (h : C → A) : Type 0 where
-  pub residual : Residual (of_form None f) (of_form (Some d) f) here (of_form None N) (of_form (Some e) N) start h
-  pub few : TellsEntries told → Residual (of_form None f) B here (of_form None N) NB start h
+  pub residual : Residual (in_factored None f) (in_factored (Some d) f) here (in_factored None N) (in_factored (Some e) N) start h
+  pub few : TellsEntries told → Residual (in_factored None f) B here (in_factored None N) NB start h
 
 abbrev pub LeftOf : {C A : Type 0} → Told → The C → ℕ → List Lexeme → (N : The A) → Language Lexeme A → ℕ → List Lexeme → (C → A) → Type 0
 LeftOf told f d here N NB e start h = LeftWithin told f (few_form f) d here N NB e start h
@@ -83,8 +83,8 @@ Left f d here N e start h = LeftOf entries_too f d here N (few_form N) e start h
 
 -- what stops f here stops N
 pub record BlocksOf {C A : Type 0} (told : Told) (f : The C) (B : Language Lexeme C) (d : ℕ) (here : List Lexeme) (N : The A) (NB : Language Lexeme A) (e : ℕ) (start : List Lexeme) : Type 0 where
-  pub halts : Halts (of_form None f) (of_form (Some d) f) here (of_form None N) (of_form (Some e) N) start
-  pub few : TellsEntries told → Halts (of_form None f) B here (of_form None N) NB start
+  pub halts : Halts (in_factored None f) (in_factored (Some d) f) here (in_factored None N) (in_factored (Some e) N) start
+  pub few : TellsEntries told → Halts (in_factored None f) B here (in_factored None N) NB start
 
 abbrev pub Blocks : {C A : Type 0} → The C → ℕ → List Lexeme → The A → ℕ → List Lexeme → Type 0
 Blocks f d here N e start = BlocksOf entries_too f (few_form f) d here N (few_form N) e start
@@ -95,15 +95,15 @@ same_taken start rest x y e i = append_cancel_right x y rest (sym e ∙ i)
 
 -- ---- languages within the left-factored grammar's
 
-pub deep_within : {A : Type 0} (d : ℕ) (f : The A) → IsWithin (of_form None f) (of_form (Some d) f)
+pub deep_within : {A : Type 0} (d : ℕ) (f : The A) → IsWithin (in_factored None f) (in_factored (Some d) f)
 deep_within d f = bounded_within left_factored d f
 
-pub entries_within : {A : Type 0} (f : The A) → IsWithin (of_form None f) (few_form f)
+pub entries_within : {A : Type 0} (f : The A) → IsWithin (in_factored None f) (few_form f)
 unfolding few_form
 entries_within f = within left_factored (language kind_of (few_factored most_further)) (few_within most_further (omega arith)) None f
 
 -- what is read of a form that spells less
-pub fewer_within : {A : Type 0} {f f' : The A} → Below of_factored f' f → IsWithin (of_form None f) (few_form f')
+pub fewer_within : {A : Type 0} {f f' : The A} → Below of_factored f' f → IsWithin (in_factored None f) (few_form f')
 fewer_within {f' = f'} b = let w = entries_within f' in record { includes = includes_through _ _ _ w.includes (b.holds None); prefixes = w.prefixes }
 
 -- ---- what stands next
@@ -138,12 +138,12 @@ pub took_token : {told : Told} {p : Kind → Bool} (d : ℕ) {a b : Cursor} {t :
 unfolding few_form
 took_token {p = p} d {b = b} {t = t} q =
     let it = token_took kind_of p t b.tokens q.of_kind in
-    record { took = subst (λ ts. Took (of_form None (token p)) (of_form (Some d) (token p)) ts t b.tokens) (sym q.stood) it; few = λ n. subst (λ ts. Took (of_form None (token p)) (few_form (token p)) ts t b.tokens) (sym q.stood) it }
+    record { took = subst (λ ts. Took (in_factored None (token p)) (in_factored (Some d) (token p)) ts t b.tokens) (sym q.stood) it; few = λ n. subst (λ ts. Took (in_factored None (token p)) (few_form (token p)) ts t b.tokens) (sym q.stood) it }
 
 -- ---- from a form to its parts
 
 pub whole_within : {A : Type 0} {told : Told} {N : The A} {NB : Language Lexeme A} {e : ℕ} {start : List Lexeme} → LeftWithin told N NB e start N NB e start (λ v. v)
-whole_within {N = N} {NB = NB} {e = e} {start = start} = record { residual = r.residual_whole (of_form None N) (of_form (Some e) N) start; few = λ n. r.residual_whole (of_form None N) NB start }
+whole_within {N = N} {NB = NB} {e = e} {start = start} = record { residual = r.residual_whole (in_factored None N) (in_factored (Some e) N) start; few = λ n. r.residual_whole (in_factored None N) NB start }
 
 pub whole : {A : Type 0} {told : Told} {N : The A} {e : ℕ} {start : List Lexeme} → LeftOf told N e start N (few_form N) e start (λ v. v)
 whole = whole_within
@@ -169,7 +169,7 @@ module _ {A : Type 0} {told : Told} {N : The A} {NB : Language Lexeme A} {e : �
     pub mapped : {k : C → D} {f : The C} {h : D → A} → LeftOf told (map k f) d here N NB e start h → LeftOf told f d here N NB e start (λ v. h (k v))
     mapped {f = f} l = mapped_to f l
 
-    module _ {f : The C} {g : The D} (F : Language Lexeme C) (G : Language Lexeme D) (m : IsWithin (of_form None f) F) (n : IsWithin (of_form None g) G) {h : C × D → A}
+    module _ {f : The C} {g : The D} (F : Language Lexeme C) (G : Language Lexeme D) (m : IsWithin (in_factored None f) F) (n : IsWithin (in_factored None g) G) {h : C × D → A}
         (l : LeftWithin told (seq f g) (seq_language F G) d here N NB e start h) (o : ok left_factored (seq f g) ≡ true) where
       pub second_in : {v : C} {mid : List Lexeme} → TakesWithin told f F d here v mid → LeftWithin told g G d mid N NB e start (λ w. h (v, w))
       second_in {v = v} {mid = mid} t = record {
@@ -229,7 +229,7 @@ module _ {A : Type 0} {told : Told} {N : The A} {NB : Language Lexeme A} {e : �
 
       -- the next token begins the first
       pub next_to : (f' : The C) {g' : The C} → LeftWithin told (alt f g) (few_form (alt f' g')) d here N NB e start h → Below of_factored g' g → ok left_factored (alt f g) ≡ true → (t : Lexeme) (more : List Lexeme) → here ≡ t ∷ more
-          → (of_form None f).prefix (t ∷ []) → LeftWithin told f (few_form f') d here N NB e start h
+          → (in_factored None f).prefix (t ∷ []) → LeftWithin told f (few_form f') d here N NB e start h
       unfolding few_form
       next_to f' {g' = g'} l b o t more s i = record {
         residual = r.left_by_token left_factored _ _ start f g _ _ here h l.residual (deep_within d g) o t more s i;
@@ -242,11 +242,11 @@ module _ {A : Type 0} {told : Told} {N : The A} {NB : Language Lexeme A} {e : �
       pub other : LeftOf told (alt f g) d here N NB e start h → ok left_factored f ≡ true → is_absent kind_of (ahead left_factored f) here ≡ true → LeftOf told g d here N NB e start h
       other l o n = other_to g l (itself f) o n
 
-      pub by_next : LeftOf told (alt f g) d here N NB e start h → ok left_factored (alt f g) ≡ true → (t : Lexeme) (more : List Lexeme) → here ≡ t ∷ more → (of_form None f).prefix (t ∷ []) → LeftOf told f d here N NB e start h
+      pub by_next : LeftOf told (alt f g) d here N NB e start h → ok left_factored (alt f g) ≡ true → (t : Lexeme) (more : List Lexeme) → here ≡ t ∷ more → (in_factored None f).prefix (t ∷ []) → LeftOf told f d here N NB e start h
       by_next l o t more s i = next_to f l (itself g) o t more s i
 
     pub by_token : {p : Kind → Bool} {a b : Cursor} {t : Lexeme} {f g : The C} {h : C → A} → LeftOf told (alt f g) d a.tokens N NB e start h → ok left_factored (alt f g) ≡ true
-        → Passes p a t b → (of_form None f).prefix (t ∷ []) → LeftOf told f d a.tokens N NB e start h
+        → Passes p a t b → (in_factored None f).prefix (t ∷ []) → LeftOf told f d a.tokens N NB e start h
     by_token {b = b} {t = t} l o q i = by_next l o t b.tokens q.stood i
 
     pub blocks : {here : List Lexeme} {f : The C} {B : Language Lexeme C} {h : C → A} → LeftWithin told f B d here N NB e start h → BlocksOf told f B d here N NB e start
@@ -269,7 +269,7 @@ module _ {A : Type 0} {told : Told} {N : The A} {NB : Language Lexeme A} {e : �
     eaten l o q = second l o (took_token d q)
 
 -- the token begins what begins with it
-pub starts : {p : Kind → Bool} {a b : Cursor} {t : Lexeme} → Passes p a t b → (of_form None (token p)).prefix (t ∷ [])
+pub starts : {p : Kind → Bool} {a b : Cursor} {t : Lexeme} → Passes p a t b → (in_factored None (token p)).prefix (t ∷ [])
 starts {t = t} q = inr (t, refl, q.of_kind)
 
 -- ---- what may be left out
@@ -291,14 +291,14 @@ none_taken {told = told} {f = f} {p = p} d {a = a} {b = b} o w q =
 
 module _ {A : Type 0} {told : Told} {N : The A} {NB : Language Lexeme A} {e : ℕ} {start : List Lexeme} {C : Type 0} {d : ℕ} {p : Kind → Bool} {a b : Cursor} {t : Lexeme} where
   pub some_left : {f : The C} {h : Option C → A} → LeftOf told (optional f) d a.tokens N NB e start h → ok left_factored (optional f) ≡ true → Passes p a t b
-      → (of_form None f).prefix (t ∷ []) → LeftOf told f d a.tokens N NB e start (λ v. h (Some v))
+      → (in_factored None f).prefix (t ∷ []) → LeftOf told f d a.tokens N NB e start (λ v. h (Some v))
   some_left l o q i = mapped (by_token l o q i)
 
 -- ---- refusals
 
 -- a fault that is neither a limit nor want of memory
 module _ {C : Type 0} (told : Told) (f : The C) (B : Language Lexeme C) (d : ℕ) (a b : Cursor) where
-  pub fails : (fault : ReadFault) → FailedForm f d a.tokens b.tokens → (TellsEntries told → Failed (of_form None f) B a.tokens b.tokens) → (fault ≢ NoMemory → fault ≡ refusal b)
+  pub fails : (fault : ReadFault) → FailedForm f d a.tokens b.tokens → (TellsEntries told → Failed (in_factored None f) B a.tokens b.tokens) → (fault ≢ NoMemory → fault ≡ refusal b)
       → Says told f B d a fault b
   fails (TooDeep at) t u n = absurd (not_too_deep b.end at (next_of b) (n (λ z. cc)))
   fails (Limit what) t u n = absurd (no_limit b.end what (next_of b) (n (λ z. cc)))

@@ -3,13 +3,14 @@ use Rattle.std.proofs.Common.{◌≡◌, ℕ, ◌<◌, Bool, true, false, List, 
 use Rattle.grammar.specs.Form.{star}
 use Rattle.grammar.proofs.readers.Predictions.{ok, ahead, known, bounded_within}
 use Rattle.sql_lex.specs.Lexemes.{Lexeme}
-use Rattle.sql_read.specs.Eating.{is_next}
+use Rattle.sql_cursor.specs.Eating.{is_next}
 use Rattle.sql_grammar.specs.declared.kinds.Kind.{Kind}
 use Rattle.sql_grammar.specs.QueryGrammar.{The}
-use Rattle.sql_read.specs.Reads.{of_form, Takes}
+use Rattle.sql_read.specs.Reads.{Takes}
 use Rattle.sql_grammar.proofs.queries.QueryTable.{left_factored}
 use Rattle.sql_read.proofs.steps.ReadLoops.{Begins, first_there, repeated_begins, repeated_next}
 use Rattle.sql_read.proofs.steps.ReadSteps.{Left, Blocks}
+use Rattle.sql_grammar.specs.FactoredQueries.{in_factored}
 
 module _ {A C : Type 0} {N : The A} {e : ℕ} {start : List Lexeme} {f : The C} {d : ℕ} where
   pub one_follows : {v : C} {here mid : List Lexeme} {h : List C → A} → Left (star None f) d here N e start h
@@ -22,7 +23,7 @@ module _ {A C : Type 0} {N : The A} {e : ℕ} {start : List Lexeme} {f : The C} 
       let next = first_there p here n in repeated_begins None l o next.first next.others next.stood (i next.first next.of_kind)
 
 fewer_left : {C : Type 0} (f : The C) (v : C) (here rest : List Lexeme) → ok left_factored f ≡ true → (ahead left_factored f).nullable ≡ false → (taken : List Lexeme) → here ≡ taken ++ rest
-    → (of_form None f).spells taken v → length rest < length here
+    → (in_factored None f).spells taken v → length rest < length here
 fewer_left f v here rest o n [] e s = let two : true ≡ false = sym ((known left_factored f o).ahead.nullable v s) ∙ n in cc
 fewer_left f v here rest o n (t ∷ taken) e s = omega (arith, ap length e, length-append taken rest)
 

@@ -3,10 +3,10 @@ use Rattle.std.proofs.Common.{◌≡◌, ℕ, List, Bool, true, false, Option, S
 use Rattle.sql_lex.specs.declared.token.LexFault.{LexFault}
 use Rattle.sql_lex.specs.Bytes.{folded_byte}
 use Rattle.sql_lex.specs.Lexemes.{Lexeme}
-use Rattle.sql_read.specs.declared.fault.LimitKind.{LimitKind}
-use Rattle.sql_read.specs.declared.fault.ReadFault.{ReadFault}
-use Rattle.sql_read.specs.declared.fault.ReadFault.TheVariants.{Lex, LeftOut, Limit, NoMemory, TooDeep, Unexpected}
-use Rattle.sql_read.specs.Refusals.{is_left_out_word, refusal_of}
+use Rattle.sql_cursor.specs.declared.fault.LimitKind.{LimitKind}
+use Rattle.sql_cursor.specs.declared.fault.ReadFault.{ReadFault}
+use Rattle.sql_cursor.specs.declared.fault.ReadFault.TheVariants.{Lex, LeftOut, Limit, NoMemory, TooDeep, Unexpected}
+use Rattle.sql_cursor.specs.Refusals.{is_left_out_word, refusal_of}
 
 pub by_refusal : (P : ReadFault → Type 0) → ((fault : LexFault) → P (Lex fault)) → ((at : ℕ) → P (Unexpected at)) → ((word : List ℕ) (at : ℕ) → P (LeftOut word at))
     → (end : ℕ) (next : Result (Option Lexeme) LexFault) → P (refusal_of end next)

@@ -9,13 +9,13 @@ use Rattle.grammar.proofs.languages.Heights.{name_prefixes, name_grows}
 use Rattle.grammar.proofs.languages.Limits.{IsPrefixClosed}
 use Rattle.grammar.proofs.readers.Steps.{Same}
 use Rattle.sql_model.specs.declared.tree.Query.{Query}
-use Rattle.sql_read.specs.declared.fault.LimitKind.{LimitKind}
-use Rattle.sql_read.specs.declared.fault.LimitKind.TheVariants as limit
-use Rattle.sql_read.specs.declared.fault.ReadFault.{ReadFault}
-use Rattle.sql_read.specs.declared.fault.ReadFault.TheVariants.{Limit, NoMemory}
+use Rattle.sql_cursor.specs.declared.fault.LimitKind.{LimitKind}
+use Rattle.sql_cursor.specs.declared.fault.LimitKind.TheVariants as limit
+use Rattle.sql_cursor.specs.declared.fault.ReadFault.{ReadFault}
+use Rattle.sql_cursor.specs.declared.fault.ReadFault.TheVariants.{Limit, NoMemory}
 use Rattle.sql_read.specs.Copied.{Copied, CopiedToFault, CopiesSoFar}
-use Rattle.sql_read.specs.Cursor.{Cursor}
-use Rattle.sql_read.specs.Eating.{Extends}
+use Rattle.sql_cursor.specs.Cursor.{Cursor}
+use Rattle.sql_cursor.specs.Eating.{Extends}
 use Rattle.sql_read.specs.ReadingQueries.{IsRead, IsRefused, texts, within}
 use Rattle.sql_read.specs.ReadingTexts.{count_limit}
 use Rattle.sql_read.specs.Reads.{Gives, Reads, Refuses, entries_too, few_form}

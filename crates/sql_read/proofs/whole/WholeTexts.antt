@@ -10,16 +10,16 @@ use Rattle.grammar.proofs.languages.Forms.{form_prefixes}
 use Rattle.grammar.proofs.languages.Heights.{name_prefixes}
 use Rattle.grammar.proofs.readers.Steps.{Same, failed_in, took_in}
 use Rattle.sql_lex.specs.Lexemes.{Lexeme}
-use Rattle.sql_read.specs.declared.fault.LimitKind.{LimitKind}
-use Rattle.sql_read.specs.declared.fault.LimitKind.TheVariants as limit
-use Rattle.sql_read.specs.declared.fault.ReadFault.{ReadFault}
-use Rattle.sql_read.specs.declared.fault.ReadFault.TheVariants.{TooDeep, Limit, NoMemory}
+use Rattle.sql_cursor.specs.declared.fault.LimitKind.{LimitKind}
+use Rattle.sql_cursor.specs.declared.fault.LimitKind.TheVariants as limit
+use Rattle.sql_cursor.specs.declared.fault.ReadFault.{ReadFault}
+use Rattle.sql_cursor.specs.declared.fault.ReadFault.TheVariants.{TooDeep, Limit, NoMemory}
 use Rattle.sql_read.specs.Copied.{CopiesTooMuch}
-use Rattle.sql_read.specs.Cursor.{Cursor, next}
-use Rattle.sql_read.specs.Eating.{Extends, IsNextAt}
+use Rattle.sql_cursor.specs.Cursor.{Cursor, next}
+use Rattle.sql_cursor.specs.Eating.{Extends, IsNextAt}
 use Rattle.sql_read.specs.ReadingTexts.{IsRead, IsRefused, IsSooner, IsUnfinished, Passes, PassesDepth, TextLimit, Texts, any, count_limit, depth_limit, keeping}
 use Rattle.sql_read.specs.Reads.{Fails, GivesWithin, IsPlaced, RefusesWithin, SaysLimit, TellsEntries, Told, few_form}
-use Rattle.sql_read.specs.Refusals.{refusal, refusal_of}
+use Rattle.sql_cursor.specs.Refusals.{refusal, refusal_of}
 use Rattle.sql_grammar.specs.Numbering.{Built}
 use Rattle.sql_grammar.specs.Queries.{most_levels, of_form}
 use Rattle.sql_grammar.specs.Kinds.{kind_of}

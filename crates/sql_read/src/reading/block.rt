@@ -1,17 +1,17 @@
 //! Blocks: `SELECT .. FROM .. WHERE .. GROUP BY .. HAVING ..`.
-ghost use Rattle.sql_read.specs.Eating.{Extends};
+ghost use Rattle.sql_cursor.specs.Eating.{Extends};
 ghost use Rattle.sql_read.specs.Reading as reading;
-ghost use Rattle.sql_read.specs.Reading.{Does, Gives};
+ghost use Rattle.sql_read.specs.Reading.{Does};
+ghost use Rattle.sql_cursor.specs.Readers.{Gives};
 
+use super::MOST_SEPARATORS;
 use super::entry::entries;
 use super::expr::expr;
 use super::item::item;
 use super::primary::reference;
-use super::{MOST_SEPARATORS, accept};
-use crate::fault::ReadFault;
 use crate::growing::push;
-use crate::tokens::Tokens;
 use plain_data::{Boxed, Kept, List};
+use sql_cursor::{ReadFault, Tokens};
 use sql_grammar::Kind;
 use sql_model::{Block, Entry, Expr, Item, Query};
 use std::alloc::Global;
@@ -24,7 +24,7 @@ pub fn block(alloc: Global, tokens: &mut Tokens<'_>, levels: u8) -> Result<Query
     ensures extends { Extends tokens.old tokens.new }
 {
     tokens.expect(alloc, Kind::Select)?;
-    let distinct = accept(tokens, Kind::Distinct);
+    let distinct = tokens.accept(Kind::Distinct);
     let items = items(alloc, tokens, levels)?;
     tokens.expect(alloc, Kind::From)?;
     let entries = entries(alloc, tokens, levels)?;

@@ -1,17 +1,17 @@
 //! What is read one level deeper, where one may be opened.
 ghost use Rattle.std.specs.Prelude.{◌<◌, ◌^◌};
 ghost use Rattle.sql_lex.specs.Lexemes.{lexeme_of};
-ghost use Rattle.sql_read.specs.Eating.{Extends};
-ghost use Rattle.sql_read.specs.Reading.{Gives, at};
+ghost use Rattle.sql_cursor.specs.Eating.{Extends};
+ghost use Rattle.sql_read.specs.Reading.{at};
+ghost use Rattle.sql_cursor.specs.Readers.{Gives};
 
 use super::expr::{neg, unary};
 use super::inside::{Inside, in_inner, inner};
 use super::primary::{argument, exprs};
 use super::query::query;
 use super::test::Sought;
-use crate::fault::ReadFault;
-use crate::tokens::Tokens;
 use plain_data::List;
+use sql_cursor::{ReadFault, Tokens};
 use sql_lex::Token;
 use sql_model::{Expr, Query};
 use std::alloc::Global;

@@ -1,19 +1,19 @@
 //! The entries of FROM.
 ghost use Rattle.std.specs.Prelude.{IfOk, IfSome, OnOk, ◌<◌, ◌≡◌};
 ghost use Rattle.sql_grammar.specs.QueryEntries.{most_entries};
-ghost use Rattle.sql_read.specs.Eating.{Extends, allowed_entry};
+ghost use Rattle.sql_cursor.specs.Eating.{Extends, allowed_entry};
 ghost use Rattle.sql_read.specs.Reading as reading;
-ghost use Rattle.sql_read.specs.Reading.{Does, Gives};
+ghost use Rattle.sql_read.specs.Reading.{Does};
+ghost use Rattle.sql_cursor.specs.Readers.{Gives};
 
+use super::MOST_SEPARATORS;
 use super::deeper::deeper_query;
 use super::expr::expr;
 use super::item::{NAME_KINDS, alias, optional_alias};
-use super::{MOST_SEPARATORS, accept};
-use crate::fault::{LimitKind, ReadFault};
 use crate::growing::push;
 use crate::listed::{entry_of, listed_query, listed_table};
-use crate::tokens::Tokens;
 use plain_data::{Kept, List};
+use sql_cursor::{LimitKind, ReadFault, Tokens};
 use sql_grammar::{Kind, Listed};
 use sql_model::Entry;
 use std::alloc::Global;
@@ -97,7 +97,7 @@ fn joined_on(
     ensures fits { IfOk result (λ found. IfSome found (λ entry. count < most_entries)) }
     ensures extends { Extends tokens.old tokens.new }
 {
-    accept(tokens, Kind::Inner);
+    tokens.accept(Kind::Inner);
     tokens.expect(alloc, Kind::Join)?;
     let listed = Kept::new(entry(alloc, tokens, levels, count)?);
     tokens.expect(alloc, Kind::On)?;

@@ -1,5 +1,5 @@
 //! Expressions: chains of OR and AND, and operators.
-ghost use Rattle.sql_read.specs.Eating.{Extends, IsBehind};
+ghost use Rattle.sql_cursor.specs.Eating.{Extends, IsBehind};
 ghost use Rattle.sql_read.specs.Reading as reading;
 ghost use Rattle.sql_read.specs.Reading.{Does};
 
@@ -7,10 +7,9 @@ use super::deeper::{deeper_neg, deeper_unary};
 use super::primary::primary;
 use super::test::{test, tested};
 use super::{MOST_OPERATORS, MOST_SEPARATORS};
-use crate::fault::ReadFault;
-use crate::tokens::{Mark, Tokens, place};
 use crate::trees::{minus, not_at, operated, place_of};
 use plain_data::{Kept, List, SharedList};
+use sql_cursor::{Mark, ReadFault, Tokens, place};
 use sql_grammar::kinds::{Kind, kind_of};
 use sql_model::Expr;
 use std::alloc::Global;

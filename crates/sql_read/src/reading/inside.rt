@@ -1,6 +1,6 @@
 //! What stands in parentheses: a query or an expression, which only what follows may tell apart.
 ghost use Rattle.std.specs.Prelude.{◌≡◌};
-ghost use Rattle.sql_read.specs.Eating.{Extends, IsBehind};
+ghost use Rattle.sql_cursor.specs.Eating.{Extends, IsBehind};
 ghost use Rattle.sql_read.specs.Parts.{grouped_of};
 ghost use Rattle.sql_read.specs.Reading as reading;
 ghost use Rattle.sql_read.specs.Reading.{Does};
@@ -10,10 +10,9 @@ use super::deeper::deeper_inner;
 use super::expr::{expr, expr_tail};
 use super::query::set_tail;
 use super::test::{Sought, members};
-use crate::fault::ReadFault;
-use crate::tokens::{Mark, Tokens, place};
 use crate::trees::{in_query, subquery};
 use plain_data::Kept;
+use sql_cursor::{Mark, ReadFault, Tokens, place};
 use sql_grammar::Kind;
 use sql_model::{Expr, Query};
 use std::alloc::Global;

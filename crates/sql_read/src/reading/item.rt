@@ -1,17 +1,16 @@
 //! Items, and the names behind them.
 ghost use Rattle.std.specs.Prelude.{IfOk, IfSome, Result, ◌<◌, ◌^◌};
 ghost use Rattle.sql_lex.specs.Lexemes.{lexeme_of};
-ghost use Rattle.sql_read.specs.Eating.{Extends};
+ghost use Rattle.sql_cursor.specs.Eating.{Extends};
 ghost use Rattle.sql_read.specs.Reading as reading;
-ghost use Rattle.sql_read.specs.Reading.{Does, Gives, lexeme, lexeme_if_any};
+ghost use Rattle.sql_read.specs.Reading.{Does};
+ghost use Rattle.sql_cursor.specs.Readers.{Gives, lexeme, lexeme_if_any};
 
 use super::expr::{expr, expr_tail};
 use super::primary::{aggregate, arguments, count_arguments};
-use crate::fault::ReadFault;
-use crate::tokens::{Tokens, place};
 use crate::trees::{bare_column, qualified_column};
-use crate::values::name_in;
 use plain_data::Kept;
+use sql_cursor::{ReadFault, Tokens, name_in, place};
 use sql_grammar::Kind;
 use sql_lex::Token;
 use sql_model::{Expr, Item, Name};

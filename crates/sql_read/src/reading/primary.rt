@@ -2,20 +2,19 @@
 ghost use Rattle.std.specs.Prelude.{IfOk, Result, ◌<◌, ◌^◌, ◌≡◌};
 ghost use Rattle.sql_lex.specs.Lexemes.{lexeme_of};
 ghost use Rattle.sql_grammar.specs.QueryTrees as trees;
-ghost use Rattle.sql_read.specs.Eating.{Extends};
+ghost use Rattle.sql_cursor.specs.Eating.{Extends};
 ghost use Rattle.sql_read.specs.Reading as reading;
-ghost use Rattle.sql_read.specs.Reading.{Does, Gives};
+ghost use Rattle.sql_read.specs.Reading.{Does};
+ghost use Rattle.sql_cursor.specs.Readers.{Gives};
 
+use super::MOST_SEPARATORS;
 use super::deeper::{deeper_argument, deeper_exprs};
 use super::expr::expr;
 use super::inside::enclosed;
 use super::item::{CALLED_KINDS, NAME_KINDS, OTHER_AGGREGATES};
-use super::{MOST_SEPARATORS, accept};
-use crate::fault::ReadFault;
-use crate::tokens::{Tokens, place};
 use crate::trees::{bare_column, qualified_column};
-use crate::values::{name_in, number_in, text_in};
 use plain_data::{Boxed, Kept, List};
+use sql_cursor::{ReadFault, Tokens, name_in, number_in, place, text_in};
 use sql_grammar::kinds::{Kind, kind_of};
 use sql_lex::Token;
 use sql_model::{AggFun, Expr, NoMemory};
@@ -237,7 +236,7 @@ pub fn argument(
     ensures does { Does (λ levels deeper. reading.argument levels deeper (lexeme_of word.now)) levels tokens.old result tokens.new }
     ensures extends { Extends tokens.old tokens.new }
 {
-    let distinct = accept(tokens, Kind::Distinct);
+    let distinct = tokens.accept(Kind::Distinct);
     let arg = expr(alloc, tokens, levels)?;
     Ok(Expr::Agg {
         fun: aggregate_function(kind_of(word)),

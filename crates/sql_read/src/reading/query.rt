@@ -1,16 +1,16 @@
 //! Queries, and the set operators between them.
 ghost use Rattle.std.specs.Prelude.{IfOk, IfSome, ◌<◌};
-ghost use Rattle.sql_read.specs.Eating.{Extends};
+ghost use Rattle.sql_cursor.specs.Eating.{Extends};
 ghost use Rattle.sql_read.specs.Reading as reading;
-ghost use Rattle.sql_read.specs.Reading.{Does, Gives};
+ghost use Rattle.sql_read.specs.Reading.{Does};
+ghost use Rattle.sql_cursor.specs.Readers.{Gives};
 
 use super::MOST_OPERATORS;
 use super::block::block;
 use super::deeper::deeper_query;
-use crate::fault::ReadFault;
-use crate::tokens::{Tokens, place};
 use crate::trees::set_query;
 use plain_data::Kept;
+use sql_cursor::{ReadFault, Tokens, place};
 use sql_grammar::Kind;
 use sql_model::{Query, SetOp};
 use std::alloc::Global;

@@ -1,15 +1,15 @@
 //! Tests of values: comparisons, IN, BETWEEN and LIKE.
-ghost use Rattle.sql_read.specs.Eating.{Extends, IsBehind};
+ghost use Rattle.sql_cursor.specs.Eating.{Extends, IsBehind};
 ghost use Rattle.sql_read.specs.Reading as reading;
-ghost use Rattle.sql_read.specs.Reading.{Does, Gives};
+ghost use Rattle.sql_read.specs.Reading.{Does};
+ghost use Rattle.sql_cursor.specs.Readers.{Gives};
 
 use super::MOST_SEPARATORS;
 use super::deeper::{deeper_in_inner, deeper_query};
 use super::expr::{expr, value};
-use crate::fault::ReadFault;
-use crate::tokens::{Mark, Tokens, place};
 use crate::trees::{between, compared, equal, like, negated, place_of};
 use plain_data::{Boxed, Kept, List, Shared};
+use sql_cursor::{Mark, ReadFault, Tokens, place};
 use sql_grammar::kinds::{Kind, kind_of};
 use sql_model::Expr;
 use std::alloc::Global;

@@ -1,6 +1,6 @@
 use Rattle.std.proofs.Common.{refl}
 use Rattle.sql_grammar.specs.Queries.{most_levels}
-use Rattle.sql_read.proofs.steps.Extending.{◌⨟◌, extends_misses, extends_passes}
+use Rattle.sql_cursor.proofs.code.Extending.{◌⨟◌, extends_misses, extends_passes}
 use Rattle.sql_read.proofs.steps.ReadSteps.{before, blocks, exits, first_part, gives, mapped, missed, refuses, second, took_token, whole}
 use Rattle.schema_read.proofs.counts.CopiedParts.{copied_exit, copied_to, missed_other, query_copied, told_if}
 use Rattle.case_core.proofs.CaseCopies.{at_semicolon, to_query}

@@ -1,5 +1,5 @@
 use Rattle.std.proofs.Common.{◌≡◌, ◌+◌, drop}
-use Rattle.scope_core.specs.Scope.{index_of}
+use Rattle.scope_core.specs.Resolving.{index_of}
 use Rattle.scope_core.proofs.column.index_of.Given as goal
 
 abbrev pub invariant-loop-index : goal.invariant-loop-index

@@ -1,6 +1,6 @@
 use Rattle.std.proofs.Common.{◌≡◌, ◌<◌, false}
 use Rattle.scope_core.specs.Lent.{levels_of}
-use Rattle.scope_core.specs.Scope.{column_from}
+use Rattle.scope_core.specs.Resolving.{column_from}
 use Rattle.scope_core.specs.Faults.{block_meant, is_here}
 use Rattle.scope_core.proofs.column.seek.Given as goal
 

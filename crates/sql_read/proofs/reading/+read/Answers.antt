@@ -5,8 +5,9 @@ use Rattle.sql_grammar.specs.QueryTrees.{place_of}
 use Rattle.sql_grammar.specs.declared.kinds.Kind.TheVariants as k
 use Rattle.sql_model.specs.declared.tree.Expr.TheVariants as an_expr
 use Rattle.sql_read.specs.Reading as reading
-use Rattle.sql_read.specs.Reading.{Deeper, Gives}
-use Rattle.sql_read.proofs.steps.Extending.{◌⨟◌, extends_itself, extends_passes, extends_within}
+use Rattle.sql_read.specs.Reading.{Deeper}
+use Rattle.sql_cursor.specs.Readers.{Gives}
+use Rattle.sql_cursor.proofs.code.Extending.{◌⨟◌, extends_itself, extends_passes, extends_within}
 use Rattle.sql_read.proofs.steps.ReadLoops.{extends_unopened}
 use Rattle.sql_read.proofs.steps.ReadPassing.{stays_alone}
 use Rattle.sql_read.proofs.code.Loops.{several, stops_first, word_stops, no_word, part_stops, part_read, made_word_stops, made_no_word, made_part_stops, made_part_read, join_stops, no_join, join_read, eaten_some, one_fewer, table_fits, marked}

@@ -4,9 +4,10 @@ use Rattle.std.proofs.Common.{◌≡◌, ◌+◌, ◌-◌, ◌*◌, ◌≤◌, l
 use Rattle.sql_grammar.specs.QueryEntries.{most_entries}
 use Rattle.sql_grammar.specs.QueryTrees as t
 use Rattle.sql_model.specs.declared.tree.Expr.TheVariants as an_expr
-use Rattle.sql_read.specs.Eating.{Extends}
+use Rattle.sql_cursor.specs.Eating.{Extends}
 use Rattle.sql_read.specs.Reading as r
-use Rattle.sql_read.specs.Reading.{◌>>=◌, any_of, at, comma, done, one_more, repeated}
+use Rattle.sql_read.specs.Reading.{any_of, at, comma, one_more}
+use Rattle.sql_cursor.specs.Readers.{◌>>=◌, done, repeated}
 use Rattle.sql_read.proofs.reading.+read.Given as goal
 
 abbrev pub decreases-deeper::deeper_query : goal.decreases-deeper::deeper_query

@@ -1,6 +1,6 @@
 use Rattle.std.proofs.Common.{rules, refl, sym, ◌∙◌}
 use Rattle.std.proofs.lemmas.List.{append-nil}
-use Rattle.sql_read.proofs.steps.Extending.{◌⨟◌, extends_itself}
+use Rattle.sql_cursor.proofs.code.Extending.{◌⨟◌, extends_itself}
 use Rattle.schema_read.specs.StatementReaders.{column_rules}
 use Rattle.schema_read.proofs.agree.StatementLoops.{no_rule, rule_read, rule_shorter, rule_stops, ruling}
 use Rattle.schema_read.proofs.reading.columns.column_rules.Goals as goal

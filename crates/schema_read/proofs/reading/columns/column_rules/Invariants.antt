@@ -1,5 +1,5 @@
 use Rattle.std.proofs.Common.{length}
-use Rattle.sql_read.specs.Eating.{Extends}
+use Rattle.sql_cursor.specs.Eating.{Extends}
 use Rattle.schema_read.specs.StatementReaders as reader
 use Rattle.schema_read.proofs.agree.StatementLoops.{Ruling}
 use Rattle.schema_read.proofs.reading.columns.column_rules.Given as goal

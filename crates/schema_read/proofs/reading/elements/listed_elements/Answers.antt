@@ -1,5 +1,5 @@
 use Rattle.std.proofs.Common.{rules}
-use Rattle.sql_read.proofs.steps.Extending.{◌⨟◌, extends_within}
+use Rattle.sql_cursor.proofs.code.Extending.{◌⨟◌, extends_within}
 use Rattle.sql_read.proofs.code.Loops.{no_word, part_read, part_stops, word_stops}
 use Rattle.schema_read.proofs.reading.elements.listed_elements.Goals as goal
 

@@ -1,6 +1,7 @@
 use Rattle.std.proofs.Common.{◌≡◌}
-use Rattle.sql_read.specs.Eating.{Extends}
-use Rattle.sql_read.specs.Reading.{comma, repeated}
+use Rattle.sql_cursor.specs.Eating.{Extends}
+use Rattle.sql_read.specs.Reading.{comma}
+use Rattle.sql_cursor.specs.Readers.{repeated}
 use Rattle.schema_read.specs.StatementReaders.{listed_elements, next_element}
 use Rattle.schema_read.proofs.reading.elements.listed_elements.Given as goal
 

@@ -1,6 +1,7 @@
 use Rattle.std.proofs.Common.{◌≡◌}
-use Rattle.sql_read.specs.Eating.{Extends}
-use Rattle.sql_read.specs.Reading.{comma, one_more, repeated}
+use Rattle.sql_cursor.specs.Eating.{Extends}
+use Rattle.sql_read.specs.Reading.{comma, one_more}
+use Rattle.sql_cursor.specs.Readers.{repeated}
 use Rattle.schema_read.specs.StatementReaders.{listed_names, name}
 use Rattle.schema_read.proofs.reading.names.listed_names.Given as goal
 

@@ -1,5 +1,5 @@
 use Rattle.std.proofs.Common.{◌≡◌, ◌-◌, ◌≤◌, length}
-use Rattle.sql_read.specs.Eating.{Extends}
+use Rattle.sql_cursor.specs.Eating.{Extends}
 use Rattle.schema_read.specs.StatementLimits.{most_relations}
 use Rattle.schema_read.specs.StatementReaders.{further_statements, statements}
 use Rattle.schema_read.proofs.reading.statement.statements.Given as goal

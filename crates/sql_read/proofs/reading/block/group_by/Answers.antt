@@ -1,5 +1,5 @@
 use Rattle.std.proofs.Common.{rules, refl}
-use Rattle.sql_read.proofs.steps.Extending.{◌⨟◌, extends_within}
+use Rattle.sql_cursor.proofs.code.Extending.{◌⨟◌, extends_within}
 use Rattle.sql_read.proofs.code.Loops.{eaten_some, made_no_word, made_part_read, made_part_stops, made_word_stops, stops_first}
 use Rattle.sql_read.proofs.reading.block.group_by.Goals as goal
 

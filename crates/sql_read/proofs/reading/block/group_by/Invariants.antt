@@ -1,7 +1,8 @@
 use Rattle.std.proofs.Common.{◌≡◌}
-use Rattle.sql_read.specs.Eating.{Extends}
+use Rattle.sql_cursor.specs.Eating.{Extends}
 use Rattle.std.proofs.Common.{Some}
-use Rattle.sql_read.specs.Reading.{◌>>=◌, comma, done, group_by, one_more, reference, repeated}
+use Rattle.sql_read.specs.Reading.{comma, group_by, one_more, reference}
+use Rattle.sql_cursor.specs.Readers.{◌>>=◌, done, repeated}
 use Rattle.sql_read.proofs.reading.block.group_by.Given as goal
 
 abbrev pub decreases-more : goal.decreases-more

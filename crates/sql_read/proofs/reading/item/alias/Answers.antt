@@ -1,11 +1,11 @@
 use Rattle.std.proofs.Common.{Option, Result, Ok, Err}
 use Rattle.sql_lex.specs.declared.token.Token.{Token}
-use Rattle.sql_read.specs.declared.fault.ReadFault.{ReadFault}
-use Rattle.sql_read.specs.Cursor.{Cursor}
-use Rattle.sql_read.specs.Eating.{Eats, Expects, Extends}
+use Rattle.sql_cursor.specs.declared.fault.ReadFault.{ReadFault}
+use Rattle.sql_cursor.specs.Cursor.{Cursor}
+use Rattle.sql_cursor.specs.Eating.{Eats, Expects, Extends}
 use Rattle.sql_grammar.specs.declared.kinds.Kind.TheVariants as k
 use Rattle.sql_grammar.specs.Kinds.{among, same, name_kinds}
-use Rattle.sql_read.proofs.steps.Extending.{◌⨟◌, extends_misses, extends_passes}
+use Rattle.sql_cursor.proofs.code.Extending.{◌⨟◌, extends_misses, extends_passes}
 use Rattle.sql_read.proofs.parts.ReadBlocks.{extends_eats}
 use Rattle.sql_read.proofs.reading.item.alias.Goals as goal
 

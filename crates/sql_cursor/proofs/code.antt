@@ -1,0 +1,4 @@
+pub mod Cursors
+pub mod Extending
+pub mod Numbered
+pub mod Unquoting

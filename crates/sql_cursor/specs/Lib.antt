@@ -1,0 +1,5 @@
+pub mod Cursor
+pub mod Refusals
+pub mod Unquoting
+pub mod Eating
+pub mod Readers
