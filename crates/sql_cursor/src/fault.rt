@@ -29,6 +29,7 @@ pub enum ReadFault {
     TooDeep { at: u32 },
     /// A count passes its limit.
     Limit { what: LimitKind },
+    /// Memory ran out.
     NoMemory,
 }
 

@@ -14,7 +14,9 @@ const MOST_COPIES: u32 = 1_000_000;
 /// How far a reading had come: the tokens that it had passed, and the weight that it had copied.
 #[derive(Clone, Copy)]
 pub struct Mark {
+    /// How many tokens.
     pub passed: u32,
+    /// The weight of the copies.
     pub copies: u32,
 }
 
