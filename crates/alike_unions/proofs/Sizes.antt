@@ -8,7 +8,7 @@ use Rattle.shapes.specs.Shapes.{Shape}
 use Rattle.shapes.specs.Small.{AllSmall, SmallQuery, most_entries}
 use Rattle.block_costs.specs.Costs.{lefts, rights, term_depth, union_nodes}
 use Rattle.block_costs.proofs.Totals.{union-nodes}
-use Rattle.scope_core.proofs.Each.{Each-left, Each-right}
+use Rattle.scope_core.proofs.basics.Each.{Each-left, Each-right}
 use Rattle.term_shapes.specs.BlockTerms.{HaveShapes, one_block, two_sums}
 use Rattle.term_shapes.specs.FewOnes.{HasFewOnes}
 use Rattle.term_shapes.proofs.FewOnes.{few-ones, few-parts}

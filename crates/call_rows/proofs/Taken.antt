@@ -10,12 +10,12 @@ use Rattle.u_terms.specs.Size.{depth}
 use Rattle.u_terms.specs.Products.{product_of}
 use Rattle.u_rules.specs.Terms.{◌⊗◌, mul_leaves, terms}
 use Rattle.u_moves.specs.Derivations.{IsKnown}
-use Rattle.u_equal.proofs.Listed.{item-here}
+use Rattle.u_equal.proofs.products.Listed.{item-here}
 use Rattle.u_entail.specs.Carrying.{Follows, IsMarkFrom, MarkCourse}
 use Rattle.u_entail.specs.Gaining.{Begins}
 use Rattle.u_entail.specs.Marks.{HasMark, IsMark, holds, fails}
 use Rattle.u_entail.specs.Sides.{AreFactors}
-use Rattle.u_entail.proofs.Chained.{are-factors, first-leaves, leaves-shallow}
+use Rattle.u_entail.proofs.chains.Chained.{are-factors, first-leaves, leaves-shallow}
 
 module _ (whole : U) (factors : List (Bor U)) (is : terms factors ≡ mul_leaves whole) (few : length factors < 1048576) where
   long : length (mul_leaves whole) ≡ length factors

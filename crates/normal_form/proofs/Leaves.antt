@@ -5,7 +5,7 @@ use Rattle.u_terms.specs.declared.term.U.TheVariants as u
 use Rattle.u_terms.specs.Syntax.{U, Zero, One, Add, Mul, Squash, Not, Sum, Rel, Eq, Pred, constructors}
 use Rattle.u_terms.specs.Products.{product_of}
 use Rattle.u_rules.specs.Terms.{add_leaves, mul_leaves}
-use Rattle.u_rules.proofs.LeavesAt.{add_leaves-Zero, add_leaves-Add, mul_leaves-One, mul_leaves-Mul}
+use Rattle.u_rules.proofs.multisets.LeavesAt.{add_leaves-Zero, add_leaves-Add, mul_leaves-One, mul_leaves-Mul}
 use Rattle.normal_form.specs.NormalTerms.{sum_of}
 use Rattle.normal_form.specs.Kinds.{ordered}
 use Rattle.normal_form.proofs.Lists.{each-append, each-filter}

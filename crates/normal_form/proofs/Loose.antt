@@ -5,7 +5,7 @@ use Rattle.u_terms.specs.declared.term.U.TheVariants as u
 use Rattle.u_terms.specs.Syntax.{U, Zero, One, Add, Mul, Squash as SquashOf, Not, Sum, Rel, Eq, Pred, constructors}
 use Rattle.u_terms.specs.Products.{product_of}
 use Rattle.u_rules.specs.Terms.{add_leaves, mul_leaves}
-use Rattle.u_rules.proofs.LeavesAt.{add_leaves-Zero, add_leaves-One, add_leaves-Add, add_leaves-Mul, add_leaves-Sum, mul_leaves-One, mul_leaves-Mul}
+use Rattle.u_rules.proofs.multisets.LeavesAt.{add_leaves-Zero, add_leaves-One, add_leaves-Add, add_leaves-Mul, add_leaves-Sum, mul_leaves-One, mul_leaves-Mul}
 use Rattle.normal_form.specs.declared.kind.Kind.{Kind}
 use Rattle.normal_form.specs.declared.kind.Kind.TheVariants.{Mark, Atom, Squash, Negation}
 use Rattle.normal_form.specs.Kinds.{is_truth, of_kind, ordered}

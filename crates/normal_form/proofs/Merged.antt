@@ -7,7 +7,7 @@ use Rattle.u_terms.specs.declared.term.U.TheVariants as u
 use Rattle.u_terms.specs.Syntax.{U}
 use Rattle.u_terms.specs.Products.{product_of}
 use Rattle.u_rules.specs.Terms.{mul_leaves}
-use Rattle.u_rules.proofs.LeavesAt.{mul_leaves-Mul}
+use Rattle.u_rules.proofs.multisets.LeavesAt.{mul_leaves-Mul}
 use Rattle.normal_form.specs.declared.kind.Kind.{Kind}
 use Rattle.normal_form.specs.declared.kind.Kind.TheVariants.{Mark, Atom, Squash, Negation}
 use Rattle.normal_form.specs.Kinds.{kind_of, is_kind, of_kind, ordered}

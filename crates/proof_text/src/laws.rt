@@ -54,7 +54,7 @@ pub fn steps_have_the_text_of_their_lines()
 {}
 
 /// The lines of steps that have a text are within their bound, since each number in them has 32 bits.
-#[tactic(auto, using(crate::proofs::LineBounds::laws))]
+#[tactic(auto, using(crate::proofs::writing::LineBounds::laws))]
 pub fn lines_are_short()
     ensures { (steps : List TheStep) → Each IsWritable steps → lines_length steps ≤ lines_bound steps }
 {}

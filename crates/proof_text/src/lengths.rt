@@ -27,7 +27,7 @@ fn digits(number: u32) -> u64
 }
 
 #[cycle(term_length)]
-#[tactic(auto, using(crate::proofs::LongTexts::length_at))]
+#[tactic(auto, using(crate::proofs::writing::LongTexts::length_at))]
 fn term_length(term: &U) -> u64
     ensures length { result ≡ min (length (term_text term.now)) u64.MAX }
     ensures words { HasWords term.now }
@@ -48,7 +48,7 @@ fn term_length(term: &U) -> u64
 }
 
 #[cycle(term_length)]
-#[tactic(auto, using(crate::proofs::LongTexts::length_at))]
+#[tactic(auto, using(crate::proofs::writing::LongTexts::length_at))]
 fn value_length(value: &Val) -> u64
     ensures length { result ≡ min (length (value_text value.now)) u64.MAX }
     ensures words { ValueHasWords value.now }
@@ -64,7 +64,7 @@ fn value_length(value: &Val) -> u64
 
 // A parenthesis or a comma stands before each value, and a parenthesis behind all.
 #[cycle(term_length)]
-#[tactic(auto, using(crate::proofs::LongTexts::length_at))]
+#[tactic(auto, using(crate::proofs::writing::LongTexts::length_at))]
 fn values_length(values: &[Val]) -> u64
     ensures length { result ≡ min (length (argument_text (Values values.now))) u64.MAX }
     ensures words { Each ValueHasWords values.now }
@@ -98,7 +98,7 @@ fn run_length(run: Run) -> u64
     }
 }
 
-#[tactic(auto, using(crate::proofs::LongTexts::length_at))]
+#[tactic(auto, using(crate::proofs::writing::LongTexts::length_at))]
 fn runs_length(runs: &[Run]) -> u64
     requires { Each IsCounted runs.now }
     ensures length { result ≡ min (length (flat_map run_text runs.now)) u64.MAX }
@@ -124,7 +124,7 @@ fn argument_length(argument: &Arg) -> u64
 }
 
 // A space stands before each argument.
-#[tactic(auto, using(crate::proofs::LongTexts::length_at))]
+#[tactic(auto, using(crate::proofs::writing::LongTexts::length_at))]
 fn arguments_length(arguments: &[Arg]) -> u64
     ensures length { result ≡ min (length (arguments_text arguments.now)) u64.MAX }
     ensures words { Each ArgumentHasWords arguments.now }
@@ -139,7 +139,7 @@ fn arguments_length(arguments: &[Arg]) -> u64
 }
 
 // Of the line of a step up to the end of its arguments.
-#[tactic(auto, using(crate::proofs::LongTexts::length_at))]
+#[tactic(auto, using(crate::proofs::writing::LongTexts::length_at))]
 fn head_length(step: &Step) -> u64
     requires { let d = out-Step step.now in AreOf (kinds_of d.rule) d.args }
     ensures length { let d = out-Step step.now in result ≡ min (length (head_text d.path d.forward d.rule d.args)) u64.MAX }
@@ -152,7 +152,7 @@ fn head_length(step: &Step) -> u64
 
 // Of the lines of a step, its inner steps too.
 #[cycle(steps_length)]
-#[tactic(auto, using(crate::proofs::LongTexts::length_at))]
+#[tactic(auto, using(crate::proofs::writing::LongTexts::length_at))]
 fn step_length(step: &Step) -> u64
     requires fits { FitsRule step.now }
     ensures length { result ≡ min (length (step_text step.now)) u64.MAX }
@@ -168,7 +168,7 @@ fn step_length(step: &Step) -> u64
 }
 
 #[cycle(steps_length)]
-#[tactic(auto, using(crate::proofs::LongTexts::length_at))]
+#[tactic(auto, using(crate::proofs::writing::LongTexts::length_at))]
 fn steps_length(steps: &[Step]) -> u64
     requires fit { Each FitsRule steps.now }
     ensures length { result ≡ min (lines_length steps.now) u64.MAX }
@@ -182,7 +182,7 @@ fn steps_length(steps: &[Step]) -> u64
 }
 
 /// How many bytes `write_proof` writes, or `u64::MAX` where they are more.
-#[tactic(auto, using(crate::proofs::LongTexts::length_at))]
+#[tactic(auto, using(crate::proofs::writing::LongTexts::length_at))]
 pub fn proof_bytes(outs: u32, steps: &List<Step>) -> u64
     requires fit { Each FitsRule steps.now }
     ensures text { result ≡ min (length (proof_text outs steps.now)) u64.MAX }

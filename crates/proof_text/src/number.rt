@@ -21,7 +21,7 @@ fn longer(cursor: &mut Cursor<'_>, value: u32) -> Option<u32>
 }
 
 // The longest number that goes on from this one.
-#[tactic(auto, using(crate::proofs::Loops::goes_on, crate::proofs::Loops::ends, crate::proofs::Loops::fewer, crate::proofs::Loops::greater))]
+#[tactic(auto, using(crate::proofs::reading::Loops::goes_on, crate::proofs::reading::Loops::ends, crate::proofs::reading::Loops::fewer, crate::proofs::reading::Loops::greater))]
 #[inline(never)]
 fn longest(cursor: &mut Cursor<'_>, first: u32) -> u32
     ensures longest { longest_at first cursor.old ≡ (Ok result, cursor.new) }
@@ -36,7 +36,7 @@ fn longest(cursor: &mut Cursor<'_>, first: u32) -> u32
 
 // The longest number that goes on from this one. Most numbers have one digit.
 #[inline(always)]
-#[tactic(auto, using(crate::proofs::Digits::alone))]
+#[tactic(auto, using(crate::proofs::reading::Digits::alone))]
 fn most_often_alone(cursor: &mut Cursor<'_>, first: u32) -> u32
     ensures longest { longest_at first cursor.old ≡ (Ok result, cursor.new) }
     ensures above { first ≤ result }

@@ -29,7 +29,7 @@ pub fn known_relations<'a>(alloc: Global, schema: &'a Schema) -> Result<Vec<Know
 }
 
 /// A relation after those that are known, `views` of which are views.
-#[tactic(auto, using(crate::proofs::Schemas::relations))]
+#[tactic(auto, using(crate::proofs::schema::Schemas::relations))]
 fn known_relation<'a>(
     alloc: Global,
     name: &'a Name,
@@ -56,7 +56,7 @@ fn count_views(relation: &Relation) -> usize
 }
 
 /// A base table.
-#[tactic(auto, using(crate::proofs::Schemas::relations))]
+#[tactic(auto, using(crate::proofs::schema::Schemas::relations))]
 pub fn known_table<'a>(
     alloc: Global,
     name: &'a Name,
@@ -76,7 +76,7 @@ pub fn known_table<'a>(
 }
 
 /// A view after the relations that are known, `views` of which are views.
-#[tactic(auto, using(crate::proofs::Schemas::relations))]
+#[tactic(auto, using(crate::proofs::schema::Schemas::relations))]
 pub fn known_view<'a>(
     alloc: Global,
     name: &'a Name,

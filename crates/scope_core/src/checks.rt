@@ -24,7 +24,7 @@ use sql_model::{Block, Expr, Item, Name, Query};
 pub const MOST_OUTPUTS: usize = 2048;
 
 /// The relation that an entry names.
-#[tactic(auto, using(crate::proofs::Columns::names))]
+#[tactic(auto, using(crate::proofs::resolving::Columns::names))]
 pub fn resolve_name(name: &Name, at: u32, known: &[Known]) -> Result<RSource, ScopeFault>
     ensures fine { IfOk result (λ source. fault_at (ASource name.now (relations_of known.now) at) ≡ None) }
     ensures value { IfOk result (λ source. source ≡ source_named name.now (relations_of known.now)) }
@@ -48,7 +48,7 @@ fn source_of(stored: Stored) -> RSource
 }
 
 /// That no entry before has the alias.
-#[tactic(auto, using(crate::proofs::Columns::names))]
+#[tactic(auto, using(crate::proofs::resolving::Columns::names))]
 pub fn check_alias(alias: &Name, at: u32, before: &[Heading]) -> Result<(), ScopeFault>
     ensures fine { OnOk result (fault_at (AnAlias alias.now (map (λ h. h.alias) before.now) at) ≡ None) }
     ensures err { IfErr result (λ f. IsCause f (fault_at (AnAlias alias.now (map (λ h. h.alias) before.now) at))) }
@@ -62,7 +62,7 @@ pub fn check_alias(alias: &Name, at: u32, before: &[Heading]) -> Result<(), Scop
 }
 
 /// That two widths agree.
-#[tactic(auto, using(crate::proofs::Columns::causes))]
+#[tactic(auto, using(crate::proofs::resolving::Columns::causes))]
 pub fn check_widths(first: usize, second: usize, at: u32) -> Result<(), ScopeFault>
     ensures fine { OnOk result (fault_at (TwoWidths first second at) ≡ None) }
     ensures err { IfErr result (λ f. IsCause f (fault_at (TwoWidths first second at))) }
@@ -79,7 +79,7 @@ pub fn check_widths(first: usize, second: usize, at: u32) -> Result<(), ScopeFau
 }
 
 /// That the outputs of a block are no more than the limit admits.
-#[tactic(auto, using(crate::proofs::Columns::causes))]
+#[tactic(auto, using(crate::proofs::resolving::Columns::causes))]
 pub fn check_outputs(count: usize) -> Result<(), ScopeFault>
     ensures fine { OnOk result (fault_at (Outputs count) ≡ None) }
     ensures err { IfErr result (λ f. IsCause f (fault_at (Outputs count))) }
@@ -94,7 +94,7 @@ pub fn check_outputs(count: usize) -> Result<(), ScopeFault>
 
 /// Whether an aggregate stands in an expression, outside its subqueries.
 #[cycle(aggregates)]
-#[tactic(auto, using(crate::proofs::Aggregates::laws))]
+#[tactic(auto, using(crate::proofs::resolving::Aggregates::laws))]
 fn has_aggregate(expr: &Expr) -> bool
     ensures { result ≡ has_aggregate expr.now }
 {
@@ -113,7 +113,7 @@ fn has_aggregate(expr: &Expr) -> bool
 }
 
 #[cycle(aggregates)]
-#[tactic(auto, using(crate::proofs::Aggregates::laws))]
+#[tactic(auto, using(crate::proofs::resolving::Aggregates::laws))]
 fn some_has_aggregate(exprs: &[Expr]) -> bool
     ensures { result ≡ list_has_aggregate exprs.now }
 {
@@ -126,14 +126,14 @@ fn some_has_aggregate(exprs: &[Expr]) -> bool
 }
 
 /// Whether a block without GROUP BY is one group.
-#[tactic(auto, using(crate::proofs::Aggregates::items))]
+#[tactic(auto, using(crate::proofs::resolving::Aggregates::items))]
 pub fn is_one_group(items: &[Item], having: &Option<Expr>) -> bool
     ensures { result ≡ (is_some having.now || items_have_aggregate_listed items.now) }
 {
     having.is_some() || items_have_aggregate(items)
 }
 
-#[tactic(auto, using(crate::proofs::Aggregates::items))]
+#[tactic(auto, using(crate::proofs::resolving::Aggregates::items))]
 fn items_have_aggregate(items: &[Item]) -> bool
     ensures { result ≡ items_have_aggregate_listed items.now }
 {
@@ -156,7 +156,7 @@ fn item_has_aggregate(item: &Item) -> bool
 }
 
 /// The parts of an AND.
-#[tactic(auto, using(crate::proofs::Singles::singles))]
+#[tactic(auto, using(crate::proofs::resolving::Singles::singles))]
 pub fn conjuncts_of(expr: &Expr) -> Option<&[Expr]>
     ensures parts { IfSome result (λ parts. IsAndOf parts.now expr.now) }
     ensures single { IfNone result (IsSingle expr.now) }
@@ -179,7 +179,7 @@ pub fn conjuncts_of(expr: &Expr) -> Option<&[Expr]>
 }
 
 /// Whether a block is one item, an aggregate, without DISTINCT, GROUP BY and HAVING.
-#[tactic(auto, using(crate::proofs::Scalars::laws))]
+#[tactic(auto, using(crate::proofs::resolving::Scalars::laws))]
 pub fn is_scalar(block: &Block) -> bool
     ensures { result ≡ is_scalar_block block.now }
 {
@@ -189,7 +189,7 @@ pub fn is_scalar(block: &Block) -> bool
     is_one_aggregate(block.items.as_slice())
 }
 
-#[tactic(auto, using(crate::proofs::Scalars::laws))]
+#[tactic(auto, using(crate::proofs::resolving::Scalars::laws))]
 fn is_one_aggregate(items: &[Item]) -> bool
     ensures { result ≡ is_one_aggregate_listed items.now }
 {

@@ -144,7 +144,7 @@ fn code_of(sought: &Sought, in_member: bool) -> Option<ScopeCode>
 
 /// A column, sought from the innermost block outwards. `at` is the place of its word, `qual_at` that of its qualifier.
 #[inline(never)]
-#[tactic(auto, using(crate::proofs::Columns::laws))]
+#[tactic(auto, using(crate::proofs::resolving::Columns::laws))]
 pub fn resolve_column(
     qual: &Option<Name>,
     qual_at: u32,
@@ -170,7 +170,7 @@ pub fn resolve_column(
 
 /// A column of GROUP BY, which is one of its block's: its entry, and its place in that.
 #[inline(never)]
-#[tactic(auto, using(crate::proofs::Groups::own))]
+#[tactic(auto, using(crate::proofs::resolving::Groups::own))]
 pub fn resolve_own_column<'s, 'k, 'a>(
     qual: &Option<Name>,
     qual_at: u32,

@@ -44,7 +44,7 @@ pub fn sight_by(grouping: &Grouping) -> Sight
 
 /// The key of a block, or that it has none.
 #[inline(never)]
-#[tactic(auto, using(crate::proofs::Groups::laws))]
+#[tactic(auto, using(crate::proofs::resolving::Groups::laws))]
 pub fn resolve_grouping<'s, 'k, 'a>(
     alloc: Global,
     groups: &Option<List<Expr>>,
@@ -68,7 +68,7 @@ pub fn resolve_grouping<'s, 'k, 'a>(
     }
 }
 
-#[tactic(auto, using(crate::proofs::Groups::laws))]
+#[tactic(auto, using(crate::proofs::resolving::Groups::laws))]
 fn resolve_columns<'s, 'k, 'a>(
     alloc: Global,
     columns: &[Expr],
@@ -87,7 +87,7 @@ fn resolve_columns<'s, 'k, 'a>(
     Ok(List::from_vec(places))
 }
 
-#[tactic(auto, using(crate::proofs::Groups::laws))]
+#[tactic(auto, using(crate::proofs::resolving::Groups::laws))]
 fn resolve_group_column<'s, 'k, 'a>(
     column: &Expr,
     headings: &'s [Heading<'k, 'a>],

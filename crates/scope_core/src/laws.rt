@@ -23,7 +23,7 @@ ghost use Rattle.scope_core.specs.FirstFault.{query_fault, schema_fault};
 
 /// The resolved tree of a well-formed query has the rows of its query, in the same order: over every domain, under every reading
 /// and on every database that meets the schema, where the views have the trees of theirs.
-#[tactic(auto, using(crate::proofs::Relations::laws))]
+#[tactic(auto, using(crate::proofs::schema::Relations::laws))]
 pub fn resolving_keeps_the_rows()
     ensures { (schema : Schema) (query : Query) (n : ℕ) (reading : Reading) (db : Database) →
         SchemaWellFormed schema → WellFormed schema query → Meets schema n db →
@@ -31,7 +31,7 @@ pub fn resolving_keeps_the_rows()
 {}
 
 /// A schema or a query has no first fault exactly where it is well formed and no block has more outputs than the limit admits.
-#[tactic(auto, using(crate::proofs::NoFault::laws))]
+#[tactic(auto, using(crate::proofs::well_formed::NoFault::laws))]
 pub fn no_fault_in_well_formed()
     ensures schema { (schema : Schema) →
         (schema_fault schema ≡ None) ↔ (SchemaWellFormed schema × SchemaWithinWidth schema) }
@@ -41,7 +41,7 @@ pub fn no_fault_in_well_formed()
 
 /// The trees of a well-formed schema and query are sound, and fit the schema and the views before them; and a tree is as wide as
 /// its query has columns.
-#[tactic(auto, using(crate::proofs::SoundTrees::laws))]
+#[tactic(auto, using(crate::proofs::schema::SoundTrees::laws))]
 pub fn resolved_trees_are_sound()
     ensures views { (schema : Schema) → SchemaWellFormed schema →
         AreSoundViews schema.relations.entries [] (views_of schema) }
@@ -53,7 +53,7 @@ pub fn resolved_trees_are_sound()
 
 /// Each row of a sound tree's answer is as wide as the tree and has values of the domain: over every domain, under every reading and on
 /// every database that meets the schema.
-#[tactic(auto, using(crate::proofs::AnswersFit::laws))]
+#[tactic(auto, using(crate::proofs::schema::AnswersFit::laws))]
 pub fn rows_are_of_their_width()
     ensures { (schema : Schema) (views : List RQuery) (tree : RQuery) (n : ℕ) (reading : Reading) (db : Database) →
         AreSoundViews schema.relations.entries [] views → IsSoundOver schema.relations.entries views tree →
@@ -61,14 +61,14 @@ pub fn rows_are_of_their_width()
 {}
 
 /// The literals of trees are those of their queries: trees fit symbols where the queries do.
-#[tactic(auto, using(crate::proofs::SymbolLaws::laws))]
+#[tactic(auto, using(crate::proofs::trees::SymbolLaws::laws))]
 pub fn trees_fit_symbols()
     ensures views { (count : ℕ) (schema : Schema) → SchemaFits count schema → Each (TreeFits count) (views_of schema) }
     ensures query { (count : ℕ) (schema : Schema) (query : Query) → QueryFits count query → TreeFits count (tree_of schema query) }
 {}
 
 /// The tree of a well-formed query is plain exactly where the query is.
-#[tactic(auto, using(crate::proofs::PlainTrees::laws))]
+#[tactic(auto, using(crate::proofs::trees::PlainTrees::laws))]
 pub fn plain_trees()
     ensures { (schema : Schema) (query : Query) → WellFormed schema query →
         is_plain_tree (tree_of schema query) ≡ is_plain query (known_of schema) }

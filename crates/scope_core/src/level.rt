@@ -150,7 +150,7 @@ fn find_bare(name: &Name, first: u32, headings: &[Heading]) -> Option<Found>
 }
 
 /// A name in the entry of its qualifier: one past the columns where the entry lacks it.
-#[tactic(auto, using(crate::proofs::Occurring::entry))]
+#[tactic(auto, using(crate::proofs::basics::Occurring::entry))]
 fn find_in_entry(name: &Name, entry: usize, columns: &Columns) -> Found
     ensures place { (result.entry ≡ entry) × (result.column ≡ unwrap_or (position (is_called name.now) columns.now) (length columns.now)) }
     ensures twice { result.twice ≡ nat_lt 1 (count_called name.now columns.now) }

@@ -74,7 +74,7 @@ impl<'k, 'a> Projection<'k, 'a> {
 
 /// The columns of a query, over the relations that it can name.
 #[cycle(output)]
-#[tactic(auto, using(crate::proofs::Outputs::outputs))]
+#[tactic(auto, using(crate::proofs::resolving::Outputs::outputs))]
 pub fn output_columns<'k, 'a>(
     alloc: Global,
     query: &'a Query,
@@ -90,7 +90,7 @@ pub fn output_columns<'k, 'a>(
 
 #[cycle(output)]
 #[inline(never)]
-#[tactic(auto, using(crate::proofs::Outputs::outputs))]
+#[tactic(auto, using(crate::proofs::resolving::Outputs::outputs))]
 fn block_columns<'k, 'a>(
     alloc: Global,
     block: &'a Block,
@@ -104,7 +104,7 @@ fn block_columns<'k, 'a>(
 
 #[cycle(output)]
 #[inline(never)]
-#[tactic(auto, using(crate::proofs::Outputs::outputs))]
+#[tactic(auto, using(crate::proofs::resolving::Outputs::outputs))]
 fn entries_headings<'k, 'a>(
     alloc: Global,
     entries: &'a [Entry],
@@ -123,7 +123,7 @@ fn entries_headings<'k, 'a>(
 /// The columns of an entry's source.
 #[cycle(output)]
 #[inline(never)]
-#[tactic(auto, using(crate::proofs::Outputs::outputs))]
+#[tactic(auto, using(crate::proofs::resolving::Outputs::outputs))]
 fn source_columns<'k, 'a>(
     alloc: Global,
     source: &'a Source,
@@ -154,7 +154,7 @@ pub fn named_columns<'k, 'a>(alloc: Global, name: &Name, known: &'k [Known<'a>])
 }
 
 /// The columns of items over headings. Where they are all columns of one source, its own are handed on.
-#[tactic(auto, using(crate::proofs::Outputs::items))]
+#[tactic(auto, using(crate::proofs::resolving::Outputs::items))]
 fn columns_of_items<'k, 'a>(
     alloc: Global,
     items: &'a [Item],
@@ -173,7 +173,7 @@ fn columns_of_items<'k, 'a>(
 }
 
 /// Whether items are all columns of a block's only source.
-#[tactic(auto, using(crate::proofs::Outputs::items))]
+#[tactic(auto, using(crate::proofs::resolving::Outputs::items))]
 fn are_all_of_one(items: &[Item], headings: &[Heading]) -> bool
     ensures one { result ≡ true → length headings.now ≡ 1 }
     ensures all { result ≡ true → list_columns items.now headings.now ≡ flat_map (λ h. h.columns) headings.now }
@@ -185,7 +185,7 @@ fn are_all_of_one(items: &[Item], headings: &[Heading]) -> bool
 }
 
 /// Whether an item is all columns of its block's only source.
-#[tactic(auto, using(crate::proofs::Outputs::items))]
+#[tactic(auto, using(crate::proofs::resolving::Outputs::items))]
 fn is_all(item: &Item, source: &Heading) -> bool
     ensures { result ≡ true → item_columns item.now (source.now ∷ []) ≡ source.now.columns }
 {

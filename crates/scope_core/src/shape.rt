@@ -10,7 +10,7 @@ use crate::tree::{Grouping, RBlock, RCond, REntry, RQuery, RSource, RVal};
 use plain_data::{List, Shared};
 
 /// How many columns the answer of a tree has.
-#[tactic(auto, using(crate::proofs::Shapes::widths))]
+#[tactic(auto, using(crate::proofs::trees::Shapes::widths))]
 pub fn query_width(tree: &RQuery) -> usize
     ensures { result ≡ width tree.now }
 {
@@ -22,7 +22,7 @@ pub fn query_width(tree: &RQuery) -> usize
 
 /// Whether a tree is one block without DISTINCT, grouping and HAVING, over base tables, whose items and conditions hold columns and
 /// literals alone.
-#[tactic(auto, using(crate::proofs::Shapes::plain))]
+#[tactic(auto, using(crate::proofs::trees::Shapes::plain))]
 pub fn is_plain(tree: &RQuery) -> bool
     ensures { result ≡ is_plain_tree tree.now }
 {
@@ -32,7 +32,7 @@ pub fn is_plain(tree: &RQuery) -> bool
     }
 }
 
-#[tactic(auto, using(crate::proofs::Shapes::plain))]
+#[tactic(auto, using(crate::proofs::trees::Shapes::plain))]
 fn is_plain_block(block: &RBlock) -> bool
     ensures { result ≡ is_plain_tree (query.Block block.now) }
 {
@@ -61,7 +61,7 @@ fn are_tables(entries: &[REntry]) -> bool
     entries.iter().all(|entry| is_table(&entry.source))
 }
 
-#[tactic(auto, using(crate::proofs::Shapes::kinds))]
+#[tactic(auto, using(crate::proofs::trees::Shapes::kinds))]
 fn is_table(source: &RSource) -> bool
     ensures { result ≡ is_table source.now }
 {
@@ -78,7 +78,7 @@ fn are_equalities(conditions: &[RCond]) -> bool
     conditions.iter().all(|condition| is_equality(condition))
 }
 
-#[tactic(auto, using(crate::proofs::Shapes::kinds))]
+#[tactic(auto, using(crate::proofs::trees::Shapes::kinds))]
 fn is_equality(condition: &RCond) -> bool
     ensures { result ≡ is_tree_equality condition.now }
 {
@@ -113,7 +113,7 @@ fn are_points(values: &[RVal]) -> bool
 }
 
 /// Whether a value is a column or a literal.
-#[tactic(auto, using(crate::proofs::Shapes::kinds))]
+#[tactic(auto, using(crate::proofs::trees::Shapes::kinds))]
 fn is_point(value: &RVal) -> bool
     ensures { result ≡ is_tree_point value.now }
 {

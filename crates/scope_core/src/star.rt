@@ -21,7 +21,7 @@ use sql_model::Name;
 use std::alloc::Global;
 
 /// Appends all columns of the innermost block.
-#[tactic(auto, using(crate::proofs::Columns::stars))]
+#[tactic(auto, using(crate::proofs::resolving::Columns::stars))]
 pub fn add_star(
     items: &mut Items<RVal>,
     alloc: Global,
@@ -54,7 +54,7 @@ fn add_all(
 }
 
 /// Appends the columns of the first entry of this alias.
-#[tactic(auto, using(crate::proofs::Columns::stars))]
+#[tactic(auto, using(crate::proofs::resolving::Columns::stars))]
 pub fn add_alias_star(
     items: &mut Items<RVal>,
     alloc: Global,

@@ -32,7 +32,7 @@ use sql_model::{Name, Query, Relation, Schema};
 use std::alloc::Global;
 
 /// The resolved queries of a schema's views. A view sees the relations declared before it.
-#[tactic(auto, using(crate::proofs::Schemas::calls))]
+#[tactic(auto, using(crate::proofs::schema::Schemas::calls))]
 pub fn resolve_views(alloc: Global, schema: &Schema) -> Result<Views, ScopeFault>
     ensures well_formed { OnOk result (SchemaWellFormed schema.now × SchemaWithinWidth schema.now) }
     ensures value { IfOk result (λ views. views ≡ views_of schema.now) }
@@ -50,7 +50,7 @@ pub fn resolve_views(alloc: Global, schema: &Schema) -> Result<Views, ScopeFault
 }
 
 /// The resolved query, over the relations of a schema. `views` are what `resolve_views` answers for the schema.
-#[tactic(auto, using(crate::proofs::Schemas::calls))]
+#[tactic(auto, using(crate::proofs::schema::Schemas::calls))]
 pub fn resolve<'a>(
     alloc: Global,
     schema: &'a Schema,
@@ -73,7 +73,7 @@ pub fn resolve<'a>(
 }
 
 /// A query that stands by itself, over these relations.
-#[tactic(auto, using(crate::proofs::Schemas::alone))]
+#[tactic(auto, using(crate::proofs::schema::Schemas::alone))]
 fn resolve_over<'k, 'a>(
     alloc: Global,
     query: &'a Query,
@@ -90,7 +90,7 @@ fn resolve_over<'k, 'a>(
 }
 
 /// Appends a relation to those that are known, and its tree where it is a view.
-#[tactic(auto, using(crate::proofs::Schemas::steps))]
+#[tactic(auto, using(crate::proofs::schema::Schemas::steps))]
 fn add_relation<'a>(
     known: &mut Vec<Known<'a>>,
     trees: &mut Vec<Resolved>,
@@ -122,7 +122,7 @@ fn add_relation<'a>(
 }
 
 /// That no two columns of a view have one name.
-#[tactic(auto, using(crate::proofs::Schemas::names))]
+#[tactic(auto, using(crate::proofs::schema::Schemas::names))]
 fn check_names(columns: &Columns, at: u32) -> Result<(), ScopeFault>
     ensures fine { OnOk result (name_twice_fault columns.now at ≡ None) }
     ensures err { IfErr result (λ f. IsCause f (name_twice_fault columns.now at)) }

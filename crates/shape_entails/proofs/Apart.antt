@@ -9,9 +9,9 @@ use Rattle.std.proofs.lemmas.List.Sorted.{IsPermutation-refl, IsPermutation-sym,
 use Rattle.std.proofs.lemmas.Option.{slice_get_within, slice_get-get_or, get_or_from_slice_get}
 use Rattle.u_terms.specs.Syntax.{U}
 use Rattle.u_rules.specs.Terms.{mul_leaves}
-use Rattle.u_rules.proofs.LeavesCancel.{IsPermutation-cancel, IsPermutation-cancel_front}
+use Rattle.u_rules.proofs.multisets.LeavesCancel.{IsPermutation-cancel, IsPermutation-cancel_front}
 use Rattle.u_equal.specs.Standing.{IsIn}
-use Rattle.u_equal.proofs.Members.{in-rest, in-cons, in-none, in-head, in-right}
+use Rattle.u_equal.proofs.products.Members.{in-rest, in-cons, in-none, in-head, in-right}
 use Rattle.shape_entails.specs.Values.{is_atom, atoms}
 use Rattle.shape_entails.specs.Matched.{EntailsFactor, SayTheSame, AreApart}
 use Rattle.shape_entails.proofs.Shaped.{in-filtered}

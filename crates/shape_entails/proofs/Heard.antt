@@ -7,7 +7,7 @@ use Rattle.u_terms.specs.Syntax.{U, Val, Free}
 use Rattle.u_terms.specs.declared.term.Val.TheVariants as v
 use Rattle.u_rules.specs.Terms.{◌≐◌, R, neg}
 use Rattle.u_equal.specs.Standing.{IsIn}
-use Rattle.u_equal.proofs.Members.{in-none, in-left, in-last, in-push}
+use Rattle.u_equal.proofs.products.Members.{in-none, in-left, in-last, in-push}
 use Rattle.shapes.specs.Options.{both_of}
 use Rattle.shapes.specs.Shapes.{Point, Kind, holds, fails, differ, Mark, MarkIn, here, there}
 use Rattle.shapes.specs.Alike.{Given, given_first, given_later}

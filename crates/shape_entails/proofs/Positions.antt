@@ -14,9 +14,9 @@ use Rattle.term_shapes.specs.Factors.{sum_count, under_sums}
 use Rattle.shape_entails.specs.Values.{point_value}
 use Rattle.shape_entails.specs.Places.{ArePlaces}
 use Rattle.shape_entails.specs.Turning.{source, AreTurns, AreFound, AreAllPlaces, AreSources, IsTurned}
-use Rattle.u_rules.proofs.LeavesCancel.{IsPermutation-cancel}
+use Rattle.u_rules.proofs.multisets.LeavesCancel.{IsPermutation-cancel}
 use Rattle.u_equal.specs.Standing.{IsIn}
-use Rattle.u_equal.proofs.Members.{in-head}
+use Rattle.u_equal.proofs.products.Members.{in-head}
 use Rattle.shape_entails.proofs.Apart.{in-permuted}
 use Rattle.shape_entails.proofs.Bijections.{permuted}
 use Rattle.shape_entails.proofs.Shaped.{same-place}

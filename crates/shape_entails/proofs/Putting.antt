@@ -13,7 +13,7 @@ use Rattle.u_terms.proofs.Mapped.{mapped-Not, mapped-Rel, mapped-Eq, mapped-Pred
 use Rattle.u_terms.specs.declared.term.U.TheVariants as u
 use Rattle.u_rules.specs.Terms.{◌≐◌, R, P, neg, mul_leaves}
 use Rattle.u_equal.specs.Standing.{IsIn}
-use Rattle.u_equal.proofs.Members.{in-head, in-rest, in-cons, in-none}
+use Rattle.u_equal.proofs.products.Members.{in-head, in-rest, in-cons, in-none}
 use Rattle.shapes.specs.Shapes.{Entry, Point, column, literal, Kind, holds, fails, differ, Mark, Shape, entry_of}
 use Rattle.term_shapes.specs.Factors.{listed, sum_count, under_sums}
 use Rattle.term_shapes.proofs.Reading.{count-Sum, under-Sum}

@@ -8,7 +8,7 @@ use Rattle.u_terms.specs.Syntax.{U, Val, Bound, constructors}
 use Rattle.u_terms.specs.declared.term.Val.TheVariants as v
 use Rattle.u_rules.specs.Terms.{◌≐◌, R, mul_leaves}
 use Rattle.u_equal.specs.Standing.{IsIn}
-use Rattle.u_equal.proofs.Members.{in-head, in-rest, in-cons, in-none}
+use Rattle.u_equal.proofs.products.Members.{in-head, in-rest, in-cons, in-none}
 use Rattle.shapes.specs.Shapes.{Entry, Point, column, literal, Mark, Shape, entry_of, MarkIn, IsPoint, IsWhole}
 use Rattle.shapes.proofs.Found.{and-both}
 use Rattle.shapes.specs.Alike.{Given}

@@ -17,7 +17,7 @@ use u_binder::{close_at, close_path, sums};
 use u_terms::{Boxed, U, Val, depth};
 
 /// A product of factors, in order.
-#[tactic(auto, using(crate::proofs::FactorLaws::products))]
+#[tactic(auto, using(crate::proofs::terms::FactorLaws::products))]
 pub fn product(alloc: Global, factors: Vec<U>) -> Result<U, NoMemory>
     ensures { IfOk result (λ u. u ≡ product_of factors.items) }
 {
@@ -34,7 +34,7 @@ pub fn product(alloc: Global, factors: Vec<U>) -> Result<U, NoMemory>
 }
 
 /// A sum of terms, in order.
-#[tactic(auto, using(crate::proofs::FactorLaws::products))]
+#[tactic(auto, using(crate::proofs::terms::FactorLaws::products))]
 pub fn sum(alloc: Global, parts: Vec<U>) -> Result<U, NoMemory>
     ensures { IfOk result (λ u. u ≡ sum_of parts.items) }
 {

@@ -21,7 +21,7 @@ ghost use Rattle.sql_to_u.specs.Sizes.{term_size, translation_size};
 
 /// The term of a tree, at a row, is how often the row occurs in the tree's answer: over every domain, under every reading and on every
 /// database that meets the schema, where the tree and the views are sound and fit the schema.
-#[tactic(auto, using(crate::proofs::Whole::laws))]
+#[tactic(auto, using(crate::proofs::queries::Whole::laws))]
 pub fn terms_count_the_rows()
     ensures tree { (schema : Schema) (views : List RQuery) (tree : RQuery) (n : ℕ) (reading : Reading) (db : Database) (r : Row) →
         AreSoundViews schema.relations.entries [] views → IsSoundOver schema.relations.entries views tree →
@@ -33,13 +33,13 @@ pub fn terms_count_the_rows()
 {}
 
 /// Nothing dangles in the term of a tree.
-#[tactic(auto, using(crate::proofs::Whole::laws))]
+#[tactic(auto, using(crate::proofs::queries::Whole::laws))]
 pub fn terms_are_closed()
     ensures { (views : List RQuery) (tree : RQuery) → IsClosed 0 (translation views tree) }
 {}
 
 /// The size that is reckoned from a tree and the trees of the views, where they fit, is that of the term: of well-formed queries too.
-#[tactic(auto, using(crate::proofs::WholeSizes::laws, crate::proofs::QueryLaws::laws))]
+#[tactic(auto, using(crate::proofs::queries::WholeSizes::laws, crate::proofs::queries::QueryLaws::laws))]
 pub fn sizes_are_those_of_terms()
     ensures tree { (views : List RQuery) (tree : RQuery) →
         DoViewsFit [] views → FitsViews views tree → term_size (translation views tree) ≡ translation_size views tree }
@@ -48,7 +48,7 @@ pub fn sizes_are_those_of_terms()
 {}
 
 /// The free names of a tree's term are those of its columns: of a well-formed query's too.
-#[tactic(auto, using(crate::proofs::FreeNames::laws, crate::proofs::QueryLaws::laws))]
+#[tactic(auto, using(crate::proofs::names::FreeNames::laws, crate::proofs::queries::QueryLaws::laws))]
 pub fn terms_are_free_below_their_width()
     ensures tree { (views : List RQuery) (tree : RQuery) →
         DoViewsFit [] views → FitsViews views tree → IsFreeBelow (width tree) (translation views tree) }

@@ -17,7 +17,7 @@ pub fn name_after(name: u32, count: u32) -> Result<u32, NoMemory>
 }
 
 /// Names in a row.
-#[tactic(auto, using(crate::proofs::FactorLaws::rows))]
+#[tactic(auto, using(crate::proofs::terms::FactorLaws::rows))]
 pub fn names(alloc: Global, first: u32, count: u32) -> Result<Vec<Val>, NoMemory>
     ensures { IfOk result (λ row. row.items ≡ names_from first count) }
 {
@@ -29,7 +29,7 @@ pub fn names(alloc: Global, first: u32, count: u32) -> Result<Vec<Val>, NoMemory
 }
 
 /// How many columns the entries have.
-#[tactic(auto, using(crate::proofs::SizeLaws::entries))]
+#[tactic(auto, using(crate::proofs::sizes::SizeLaws::entries))]
 pub fn count_columns(entries: &[REntry]) -> Result<u32, NoMemory>
     ensures { IfOk result (λ n. n ≡ columns_listed entries.now) }
 {
@@ -41,7 +41,7 @@ pub fn count_columns(entries: &[REntry]) -> Result<u32, NoMemory>
 }
 
 /// The name of each entry's first column.
-#[tactic(auto, using(crate::proofs::FactorLaws::firsts))]
+#[tactic(auto, using(crate::proofs::terms::FactorLaws::firsts))]
 pub fn firsts(alloc: Global, entries: &[REntry], first: u32) -> Result<Vec<u32>, NoMemory>
     ensures { IfOk result (λ names. names.items ≡ firsts_listed entries.now first) }
 {

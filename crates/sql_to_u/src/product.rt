@@ -92,7 +92,7 @@ pub enum Row {
 
 impl Row {
     /// That of the value at this place of the row, and none past the last.
-    #[tactic(auto, using(crate::proofs::SizeLaws::in_rows))]
+    #[tactic(auto, using(crate::proofs::sizes::SizeLaws::in_rows))]
     pub fn get(self, index: usize) -> Option<Size>
         ensures { result ≡ slice_get (row_sizes self) index }
     {
@@ -113,7 +113,7 @@ impl Row {
     }
 
     /// The values behind the first `count`.
-    #[tactic(auto, using(crate::proofs::SizeLaws::rests))]
+    #[tactic(auto, using(crate::proofs::sizes::SizeLaws::rests))]
     pub fn after(self, count: usize) -> Row
         ensures { row_sizes result ≡ drop count (row_sizes self) }
     {

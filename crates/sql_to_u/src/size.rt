@@ -82,7 +82,7 @@ pub fn combined(op: SetOp, left: Size, right: Size) -> Size
 }
 
 /// A row of so many names.
-#[tactic(auto, using(crate::proofs::SizeLaws::names))]
+#[tactic(auto, using(crate::proofs::sizes::SizeLaws::names))]
 pub fn names(count: u32) -> Size
     ensures { result ≡ sizes.names_size count }
 {

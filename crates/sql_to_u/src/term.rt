@@ -22,7 +22,7 @@ use u_terms::U;
 
 /// The term of a query, with the names 0, 1, .. for the columns of its answer, where it is within the limits. How large it is is reckoned from
 /// the trees, in time linear in them, before anything of it is built.
-#[tactic(auto, using(crate::proofs::Wholes::laws))]
+#[tactic(auto, using(crate::proofs::queries::Wholes::laws))]
 pub fn translate(alloc: Global, views: &Views, query: &Resolved) -> Result<U, TermFault>
     requires fits { FitsViews views.now query.now }
     ensures value { IfOk result (λ u. u ≡ translation views.now query.now) }
@@ -38,7 +38,7 @@ pub fn translate(alloc: Global, views: &Views, query: &Resolved) -> Result<U, Te
 }
 
 /// That a query's term is within the limits.
-#[tactic(auto, using(crate::proofs::Wholes::checks))]
+#[tactic(auto, using(crate::proofs::queries::Wholes::checks))]
 fn check_size(alloc: Global, views: &[Resolved], query: &Resolved) -> Result<(), TermFault>
     requires fit { DoViewsFit [] views.now }
     requires fits { FitsViews views.now query.now }

@@ -12,7 +12,7 @@ use Rattle.u_deriv.specs.Steps.{Replaced}
 use Rattle.u_deriv.specs.Turns.{turns}
 use Rattle.u_moves.specs.Derivations.{Derivation, IsKnown, IsSound, IsStill}
 use Rattle.u_moves.specs.Lifting.{IsPart, IsMadeIn, lifted}
-use Rattle.u_moves.proofs.Sound.{first-within, last-within}
+use Rattle.u_moves.proofs.derivations.Sound.{first-within, last-within}
 use Rattle.u_congruence.specs.Congruence.{AreBeside, IsBy, IsFromTo, IsOneDown}
 use Rattle.u_congruence.proofs.Turned.{from-known}
 

@@ -18,8 +18,8 @@ use Rattle.u_deriv.specs.Contexts.{Context, hole, add_left, add_right, mul_left,
 use Rattle.u_deriv.specs.Opening.{opened_path}
 use Rattle.u_deriv.specs.Steps.{Replaced}
 use Rattle.u_deriv.specs.Turns.{turns}
-use Rattle.u_deriv.proofs.OneContext.{same_context}
-use Rattle.u_deriv.proofs.Opening.{opened_path-closed}
+use Rattle.u_deriv.proofs.contexts.OneContext.{same_context}
+use Rattle.u_deriv.proofs.contexts.Opening.{opened_path-closed}
 use Rattle.u_moves.specs.Derivations.{Derivation, IsKnown, IsSound}
 use Rattle.u_moves.specs.Lifting.{IsPart}
 use Rattle.u_congruence.specs.Congruence.{IsBy}

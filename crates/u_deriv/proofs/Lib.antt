@@ -1,23 +1,4 @@
-pub mod Runs
-pub mod Ways
-pub mod Ends
-pub mod Subterms
-pub mod OneContext
-pub mod Holes
-pub mod Opening
-pub mod Congruence
-pub mod Edited
-pub mod Made
-pub mod Extents
-pub mod Arguments
-pub mod Exchanges
-pub mod Keeps
-pub mod OneResult
-pub mod Soundness
-pub mod StepHeights
-pub mod Applied
-pub mod Texts
-pub mod Lines
-pub mod OutlinesAt
-pub mod Spent
-mod StepSamples
+pub mod paths
+pub mod contexts
+pub mod editing
+pub mod steps

@@ -25,7 +25,7 @@ ghost use Rattle.u_deriv.specs.declared.run.Run.{Run};
 ghost use Rattle.u_deriv.specs.declared.step.Step.{Step, out-Step};
 
 /// A term has one context at a path, and one subterm.
-#[tactic(auto, using(crate::proofs::OneContext::laws))]
+#[tactic(auto, using(crate::proofs::contexts::OneContext::laws))]
 pub fn one_context()
     ensures context { (c d : Context) (s t : U) → way c ≡ way d → filled c s ≡ filled d t → c ≡ d }
     ensures subterm { (c d : Context) (s t : U) → way c ≡ way d → filled c s ≡ filled d t → s ≡ t }
@@ -33,7 +33,7 @@ pub fn one_context()
 
 /// A turn into a sum and one into an aggregate's body pass a binder each. What fills a closed term is closed inside the
 /// binders on the path.
-#[tactic(auto, using(crate::proofs::Holes::laws))]
+#[tactic(auto, using(crate::proofs::contexts::Holes::laws))]
 pub fn binders_on_a_path()
     ensures sum { (c : Context) → binders (in_sum c) ≡ binders c + 1 }
     ensures aggregate { (number : ℕ) (c : Context) → value_binders (in_aggregate number c) ≡ binders c + 1 }
@@ -42,7 +42,7 @@ pub fn binders_on_a_path()
 
 /// A context filled with one of two terms means the same as filled with the other, where both mean the same inside the
 /// binders on the path, whatever the values of these: under sums and inside the bodies of aggregates too.
-#[tactic(auto, using(crate::proofs::Congruence::laws))]
+#[tactic(auto, using(crate::proofs::contexts::Congruence::laws))]
 pub fn contexts()
     ensures places { (n : ℕ) (reading : Reading) (db : Database) (names places : List ℕ) (c : Context) (s t : U) →
         ((inner : List ℕ) → IsRow n (binders c) inner →
@@ -52,7 +52,7 @@ pub fn contexts()
 
 /// The same of closed terms with names for the binders on the path, the outermost first. The names are closed where the
 /// terms fill the context.
-#[tactic(auto, using(crate::proofs::Congruence::laws))]
+#[tactic(auto, using(crate::proofs::contexts::Congruence::laws))]
 pub fn contexts_by_names()
     ensures path { (n : ℕ) (reading : Reading) (db : Database) (names places : List ℕ) (c : Context) (s t : U) (first : ℕ) →
         IsClosed 0 s → IsClosed 0 t →
@@ -70,7 +70,7 @@ pub fn contexts_by_names()
 /// What stands at a path is a closed term, its names for the binders on the path closed, exactly where it is that term after
 /// it is opened by these names; and opened it is closed. So `replace` compares the opened part with `from`, and a step the
 /// opened part with a side, wherever the whole is closed and has names below `outs` alone.
-#[tactic(auto, using(crate::proofs::Opening::laws))]
+#[tactic(auto, using(crate::proofs::contexts::Opening::laws))]
 pub fn opening_a_path()
     ensures same { (c : Context) (part from : U) (outs : ℕ) → IsFreeBelow outs (filled c part) → IsClosed 0 from →
         (part ≡ closed_path from outs (binders c)) ↔ (opened_path part outs (binders c) ≡ from) }
@@ -96,7 +96,7 @@ pub fn sizes_after_a_replacement()
 
 /// A step keeps what a term means wherever the facts are met, under sums and inside the bodies of aggregates too. So do
 /// steps one after the other.
-#[tactic(auto, using(crate::proofs::Soundness::laws))]
+#[tactic(auto, using(crate::proofs::steps::Soundness::laws))]
 pub fn steps_keep_the_meaning()
     ensures one { (facts : Facts) → FactsOk facts → (outs : ℕ) (before : U) (step : Step) (after : U) →
         Rewrites facts outs before step after → SameMeaning facts before after }
@@ -105,7 +105,7 @@ pub fn steps_keep_the_meaning()
 {}
 
 /// A step has at most one result on a term, and so have steps one after the other.
-#[tactic(auto, using(crate::proofs::Applied::laws))]
+#[tactic(auto, using(crate::proofs::steps::Applied::laws))]
 pub fn one_result()
     ensures one { (facts : Facts) (outs : ℕ) (before : U) (step : Step) (after other : U) →
         Rewrites facts outs before step after → Rewrites facts outs before step other → after ≡ other }
@@ -114,7 +114,7 @@ pub fn one_result()
 {}
 
 /// A step keeps that a term is closed, and that its names are below `outs`. So do steps one after the other.
-#[tactic(auto, using(crate::proofs::Keeps::laws))]
+#[tactic(auto, using(crate::proofs::steps::Keeps::laws))]
 pub fn steps_keep_terms_closed()
     ensures closed { (facts : Facts) (outs : ℕ) (before : U) (step : Step) (after : U) →
         Rewrites facts outs before step after → IsClosed 0 before → IsClosed 0 after }
@@ -128,7 +128,7 @@ pub fn steps_keep_terms_closed()
 
 /// What a plain step takes stands in its sides, so it has no more nodes than the terms before and after it have together, and no inner steps.
 /// The path of any step has no more turns than the term is deep.
-#[tactic(auto, using(crate::proofs::Arguments::laws))]
+#[tactic(auto, using(crate::proofs::steps::Arguments::laws))]
 pub fn arguments_stand_in_terms()
     ensures arguments { (facts : Facts) (outs : ℕ) (before after : U) (step : Step) → IsPlain step →
         Rewrites facts outs before step after → arguments_nodes (out-Step step).args ≤ nodes before + nodes after }
@@ -139,14 +139,14 @@ pub fn arguments_stand_in_terms()
 {}
 
 /// The lines of steps one after the other are those of the first ones and then those of the rest, and as long together.
-#[tactic(auto, using(crate::proofs::Lines::laws))]
+#[tactic(auto, using(crate::proofs::steps::Lines::laws))]
 pub fn lines_of_steps()
     ensures text { (first rest : List Step) → steps_text (first ++ rest) ≡ steps_text first ++ steps_text rest }
     ensures length { (first rest : List Step) → lines_length (first ++ rest) ≡ lines_length first + lines_length rest }
 {}
 
 /// With a run more, the text of a path has no more bytes than both had: two runs that become one have no longer a text.
-#[tactic(auto, using(crate::proofs::Texts::laws))]
+#[tactic(auto, using(crate::proofs::paths::Texts::laws))]
 pub fn texts_of_paths()
     ensures { (runs : List Run) (run : Run) → length (flat_map run_text (pushed runs run)) ≤ length (flat_map run_text runs) + length (run_text run) }
 {}

@@ -75,7 +75,7 @@ impl Outline {
 }
 
 #[cycle(outline)]
-#[tactic(auto, using(crate::proofs::OutlinesAt::outlines_at))]
+#[tactic(auto, using(crate::proofs::steps::OutlinesAt::outlines_at))]
 pub fn outline_term(u: &U) -> Outline
     ensures { result ≡ outline_of u.now }
 {
@@ -90,7 +90,7 @@ pub fn outline_term(u: &U) -> Outline
 }
 
 #[cycle(outline)]
-#[tactic(auto, using(crate::proofs::OutlinesAt::outlines_at))]
+#[tactic(auto, using(crate::proofs::steps::OutlinesAt::outlines_at))]
 fn outline_value(value: &Val) -> Outline
     ensures { result ≡ value_outline value.now }
 {
@@ -110,7 +110,7 @@ fn outline_value(value: &Val) -> Outline
 }
 
 #[cycle(outline)]
-#[tactic(auto, using(crate::proofs::OutlinesAt::lists_at))]
+#[tactic(auto, using(crate::proofs::steps::OutlinesAt::lists_at))]
 fn outline_all(values: &[Val]) -> Outline
     ensures { result ≡ list_outline values.now }
 {

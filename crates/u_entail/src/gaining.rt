@@ -18,7 +18,7 @@ use u_terms::{Boxed, U, Val};
 
 impl<'f, 'p, 'a> Front<'f, 'p, 'a> {
     /// 1 becomes the equality of the value with itself.
-    #[tactic(auto, using(crate::proofs::Plain::one_move))]
+    #[tactic(auto, using(crate::proofs::products::Plain::one_move))]
     pub fn itself(&self, a: &Val) -> Result<Deriv<'f>, NoMemory>
         requires { IsKnownValue self.now.moves.outs a.now }
         ensures { IfOk result (IsRegrouped self.now.moves.facts.now self.now.moves.outs I (a.now ≐ a.now)) }
@@ -29,7 +29,7 @@ impl<'f, 'p, 'a> Front<'f, 'p, 'a> {
     }
 
     /// The product leans to the right, and has a last factor 1.
-    #[tactic(auto, using(crate::proofs::Plain::one_move))]
+    #[tactic(auto, using(crate::proofs::products::Plain::one_move))]
     pub fn spread(&self, product: &U) -> Result<Deriv<'f>, NoMemory>
         requires factors { AreFactors self.now.moves.outs (terms self.now.factors.now) }
         requires leaves { terms self.now.factors.now ≡ mul_leaves product.now }
@@ -42,7 +42,7 @@ impl<'f, 'p, 'a> Front<'f, 'p, 'a> {
     }
 
     /// The factors before the last one, an equality, are the product again.
-    #[tactic(auto, using(crate::proofs::Plain::one_move))]
+    #[tactic(auto, using(crate::proofs::products::Plain::one_move))]
     pub fn gathered(&self, product: &U, a: &Val, b: &Val) -> Result<Deriv<'f>, NoMemory>
         requires factors { AreFactors self.now.moves.outs (terms self.now.factors.now) }
         requires leaves { terms self.now.factors.now ≡ mul_leaves product.now }
@@ -96,7 +96,7 @@ impl<'f, 'p, 'a> Front<'f, 'p, 'a> {
         Deriv::refl(moves.alloc, moves.facts, moves.outs, &whole)
     }
 
-    #[tactic(auto, using(crate::proofs::Plain::one_move))]
+    #[tactic(auto, using(crate::proofs::products::Plain::one_move))]
     fn times_one(&self, factor: &U) -> Result<Deriv<'f>, NoMemory>
         requires { IsKnown 0 self.now.moves.outs factor.now }
         ensures { IfOk result (IsRegrouped self.now.moves.facts.now self.now.moves.outs factor.now (factor.now ⊗ I)) }

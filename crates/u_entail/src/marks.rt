@@ -70,7 +70,7 @@ impl<'f, 'p, 'a> Front<'f, 'p, 'a> {
         then_behind(self.moves.alloc, last, others, twice)
     }
 
-    #[tactic(auto, using(crate::proofs::Plain::one_move))]
+    #[tactic(auto, using(crate::proofs::products::Plain::one_move))]
     fn mark_last(&self, others: &[&U], place: usize, mark: &U) -> Result<Deriv<'f>, NoMemory>
         requires factors { AreFactors self.now.moves.outs (terms self.now.factors.now) }
         requires parted { IsParted (terms self.now.factors.now) (terms others.now) place mark.now }
@@ -82,7 +82,7 @@ impl<'f, 'p, 'a> Front<'f, 'p, 'a> {
     }
 
     // One of the two goes back among the factors.
-    #[tactic(auto, using(crate::proofs::Plain::one_move))]
+    #[tactic(auto, using(crate::proofs::products::Plain::one_move))]
     fn mark_gathered(&self, others: &[&U], place: usize, mark: &U) -> Result<Deriv<'f>, NoMemory>
         requires factors { AreFactors self.now.moves.outs (terms self.now.factors.now) }
         requires parted { IsParted (terms self.now.factors.now) (terms others.now) place mark.now }
@@ -129,7 +129,7 @@ fn doubled<'f>(moves: Moves<'f>, mark: &U) -> Result<Deriv<'f>, NoMemory>
 }
 
 // Beside a term its squash.
-#[tactic(auto, using(crate::proofs::Plain::one_move))]
+#[tactic(auto, using(crate::proofs::products::Plain::one_move))]
 fn with_square<'f>(moves: Moves<'f>, term: &U) -> Result<Deriv<'f>, NoMemory>
     requires { IsKnown 0 moves.outs term.now }
     ensures { IfOk result (IsRegrouped moves.entry.facts.now moves.entry.outs term.now (term.now ⊗ sq term.now)) }
@@ -139,7 +139,7 @@ fn with_square<'f>(moves: Moves<'f>, term: &U) -> Result<Deriv<'f>, NoMemory>
 }
 
 // The squash of a mark is the mark.
-#[tactic(auto, using(crate::proofs::Plain::one_move))]
+#[tactic(auto, using(crate::proofs::products::Plain::one_move))]
 fn unsquashed<'f>(moves: Moves<'f>, mark: &U) -> Result<Deriv<'f>, NoMemory>
     requires known { IsKnown 0 moves.outs mark.now }
     requires mark { IsMark mark.now }

@@ -14,7 +14,7 @@ use u_moves::Deriv;
 use u_terms::{Boxed, U};
 
 /// The factors in order, and then the last one.
-#[tactic(auto, using(crate::proofs::Spines::built))]
+#[tactic(auto, using(crate::proofs::products::Spines::built))]
 pub fn spine(alloc: Global, factors: &[&U], last: U) -> Result<U, NoMemory>
     ensures { IfOk result (λ u. u ≡ spec.spine (terms factors.now) last) }
 {

@@ -10,7 +10,7 @@ use u_terms::{U, Val};
 
 /// How many factors a product has, 1 left aside, or `u64::MAX` where there are more.
 #[cycle(factors)]
-#[tactic(auto, using(u_rules::proofs::LeavesAt::gathering))]
+#[tactic(auto, using(u_rules::proofs::multisets::LeavesAt::gathering))]
 pub fn factors(product: &U) -> u64
     ensures { result ≡ min (length (mul_leaves product.now)) u64.MAX }
 {
@@ -31,7 +31,7 @@ pub fn standing_values(alloc: Global, term: &U) -> Result<Vec<&Val>, NoMemory>
 }
 
 #[cycle(gather_terms)]
-#[tactic(auto, using(crate::proofs::StandingAt::gathering))]
+#[tactic(auto, using(crate::proofs::products::StandingAt::gathering))]
 fn gather_of_term<'a>(term: &'a U, gathered: &mut Vec<&'a Val>) -> Result<(), NoMemory>
     ensures { OnOk result (values_at gathered.new.items ≡ values_at gathered.old.items ++ standing term.now) }
 {
@@ -51,7 +51,7 @@ fn gather_of_term<'a>(term: &'a U, gathered: &mut Vec<&'a Val>) -> Result<(), No
 }
 
 #[cycle(gather_standing)]
-#[tactic(auto, using(crate::proofs::StandingAt::gathering))]
+#[tactic(auto, using(crate::proofs::products::StandingAt::gathering))]
 fn gather_value<'a>(value: &'a Val, gathered: &mut Vec<&'a Val>) -> Result<(), NoMemory>
     ensures { OnOk result (values_at gathered.new.items ≡ values_at gathered.old.items ++ value_standing value.now) }
 {
@@ -63,7 +63,7 @@ fn gather_value<'a>(value: &'a Val, gathered: &mut Vec<&'a Val>) -> Result<(), N
 }
 
 #[cycle(gather_standing)]
-#[tactic(auto, using(crate::proofs::StandingAt::gathering))]
+#[tactic(auto, using(crate::proofs::products::StandingAt::gathering))]
 fn gather_list<'a>(values: &'a [Val], gathered: &mut Vec<&'a Val>) -> Result<(), NoMemory>
     ensures { OnOk result (values_at gathered.new.items ≡ values_at gathered.old.items ++ flat_map value_standing values.now) }
 {

@@ -62,7 +62,7 @@ impl<'a> Hash for Key<'a> {
 
 // Feeds the code of a value.
 #[cycle(feed)]
-#[tactic(auto, using(crate::proofs::Fed::feeding))]
+#[tactic(auto, using(crate::proofs::products::Fed::feeding))]
 fn feed_value<H: Hasher>(value: &Val, state: &mut H)
     ensures { state.new ≡ fold H.write state.old (written (value_code value.now)) }
 {
@@ -81,7 +81,7 @@ fn feed_value<H: Hasher>(value: &Val, state: &mut H)
     }
 }
 
-#[tactic(auto, using(crate::proofs::Fed::feeding))]
+#[tactic(auto, using(crate::proofs::products::Fed::feeding))]
 fn feed_two<H: Hasher>(kind: u32, number: u32, state: &mut H)
     ensures { state.new ≡ fold H.write state.old (written (kind ∷ (number ∷ []))) }
 {
@@ -90,7 +90,7 @@ fn feed_two<H: Hasher>(kind: u32, number: u32, state: &mut H)
 }
 
 #[cycle(feed)]
-#[tactic(auto, using(crate::proofs::Fed::feeding))]
+#[tactic(auto, using(crate::proofs::products::Fed::feeding))]
 fn feed_term<H: Hasher>(term: &U, state: &mut H)
     ensures { state.new ≡ fold H.write state.old (written (code term.now)) }
 {
@@ -136,7 +136,7 @@ fn feed_term<H: Hasher>(term: &U, state: &mut H)
 }
 
 #[cycle(feed)]
-#[tactic(auto, using(crate::proofs::Fed::feeding))]
+#[tactic(auto, using(crate::proofs::products::Fed::feeding))]
 fn feed_list<H: Hasher>(values: &[Val], state: &mut H)
     ensures { state.new ≡ fold H.write state.old (written (list_code values.now)) }
 {

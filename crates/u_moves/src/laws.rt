@@ -21,7 +21,7 @@ ghost use Rattle.u_moves.specs.Turning.{turned_back};
 
 /// The steps of a derivation lead from its first term to its last, and each term that some first of them lead to is within its
 /// bounds.
-#[tactic(auto, using(crate::proofs::Showing::replayed))]
+#[tactic(auto, using(crate::proofs::derivations::Showing::replayed))]
 pub fn derivations_replay()
     ensures replays { (d : Derivation) → IsSound d → Replays d.facts d.outs d.from d.steps d.to }
     ensures within { (d : Derivation) → IsSound d → (first rest : List Step) (u : U) → d.steps ≡ first ++ rest →
@@ -29,7 +29,7 @@ pub fn derivations_replay()
 {}
 
 /// Both ends of a derivation mean the same wherever the facts are met, and are closed, with names below `outs` alone.
-#[tactic(auto, using(crate::proofs::Showing::kept))]
+#[tactic(auto, using(crate::proofs::derivations::Showing::kept))]
 pub fn derivations_keep_the_meaning()
     ensures same { (d : Derivation) → FactsOk d.facts → IsSound d → SameMeaning d.facts d.from d.to }
     ensures first { (d : Derivation) → IsSound d → IsKnown 0 d.outs d.from }
@@ -39,7 +39,7 @@ pub fn derivations_keep_the_meaning()
 /// Steps turned back or lifted are as many as before. Turned back, their lines are as long. Lifted, no line grows by more than the text of the
 /// path, less where two runs become one. Joined, they are as long as both, by `u_deriv`. Their bound adds up where they are joined, stays
 /// where they are turned back, and grows in each line by 11 for each turn of the path where they are lifted.
-#[tactic(auto, using(crate::proofs::Lines::laws))]
+#[tactic(auto, using(crate::proofs::derivations::Lines::laws))]
 pub fn counts_and_lines()
     ensures count_back { (xs : List Step) → length (turned_back xs) ≡ length xs }
     ensures count_under { (path : List Run) (xs : List Step) → length (lifted path xs) ≡ length xs }
@@ -51,7 +51,7 @@ pub fn counts_and_lines()
 {}
 
 /// The line of a move, and those of the one that takes inner steps.
-#[tactic(auto, using(crate::proofs::Lines::one_line))]
+#[tactic(auto, using(crate::proofs::derivations::Lines::one_line))]
 pub fn lines_of_moves()
     ensures length { (q : Rule) (args : List Arg) → (q ≡ rule.SqFix → ⊥) →
         lines_length (root_step q args ∷ []) ≡ 5 + length (rule_text q) + length (arguments_text args) }
@@ -60,7 +60,7 @@ pub fn lines_of_moves()
 {}
 
 /// Moves are plain but for two rules, and steps stay plain when they are joined, turned back and lifted.
-#[tactic(auto, using(crate::proofs::Lines::plain_steps))]
+#[tactic(auto, using(crate::proofs::derivations::Lines::plain_steps))]
 pub fn plain_steps_stay_plain()
     ensures root { (q : Rule) (args : List Arg) → (q ≡ rule.SqFix → ⊥) → (q ≡ rule.SumUse → ⊥) → IsPlain (root_step q args) }
     ensures then { (xs ys : List Step) → Each IsPlain xs → Each IsPlain ys → Each IsPlain (xs ++ ys) }
@@ -70,7 +70,7 @@ pub fn plain_steps_stay_plain()
 
 /// The bound of the lines of a derivation whose steps are plain is at most, for each step, 18, 11 for each level of its depth and 28 for each
 /// of its nodes. That lines keep their bound is a law of `proof_text`.
-#[tactic(auto, using(crate::proofs::Lines::bounds))]
+#[tactic(auto, using(crate::proofs::derivations::Lines::bounds))]
 pub fn plain_derivations_have_short_lines()
     ensures { (d : Derivation) → IsSound d → HasPlainSteps d → lines_bound d.steps ≤ length d.steps * (18 + 11 * d.depth + 28 * d.nodes) }
 {}

@@ -19,10 +19,10 @@ use Rattle.u_deriv.specs.LineBounds.{IsPlain, lines_bound}
 use Rattle.u_moves.specs.Derivations.{Derivation, IsSound}
 use Rattle.u_moves.specs.Turning.{turned_back}
 use Rattle.u_normal.specs.Shaped.{KeepsSum}
-use Rattle.u_normal.proofs.FewOnes.{normal-sizes}
-use Rattle.u_normal.proofs.NormalCosts.{normal-bytes, normal-depth, normal-nodes, normal-steps}
+use Rattle.u_normal.proofs.costs.FewOnes.{normal-sizes}
+use Rattle.u_normal.proofs.costs.NormalCosts.{normal-bytes, normal-depth, normal-nodes, normal-steps}
 use Rattle.u_bag.specs.Sums.{AreSumsPaired}
-use Rattle.u_moves.proofs.Lines.{bound-back, bound-then, count-back, plain-back, plain-then}
+use Rattle.u_moves.proofs.derivations.Lines.{bound-back, bound-then, count-back, plain-back, plain-then}
 use Rattle.u_bag.specs.Costs.{IsTightSum, KeepsCosts}
 use Rattle.u_prover.specs.Costs.{IsCheap, KeepsUnionCosts}
 use Rattle.u_prover.specs.Proving.{IsNormalEnd, IsThere, IsThrough}

@@ -13,13 +13,13 @@ use Rattle.u_deriv.specs.Steps as steps
 use Rattle.u_deriv.specs.Steps.{Exchanged, Rewrites, Sides}
 use Rattle.u_moves.specs.Derivations as moves
 use Rattle.u_moves.specs.Derivations.{Derivation, IsSound, IsStill, ReplaysThrough}
-use Rattle.u_moves.proofs.Chains.{starts}
+use Rattle.u_moves.proofs.steps.Chains.{starts}
 use Rattle.proof_text.specs.RuleNames.{kinds_of}
 use Rattle.proof_text.specs.StepLines.{step_lines, lines_of, steps_in}
 use Rattle.proof_text.specs.Written.{AreOf, FitsRule, IsWritable, proof_text}
-use Rattle.proof_text.proofs.LongTexts.{length-proof}
-use Rattle.proof_text.proofs.StepLines.{no_inner, whole_lines, steps_in-append}
-use Rattle.proof_text.proofs.TextsAt.{fits}
+use Rattle.proof_text.proofs.writing.LongTexts.{length-proof}
+use Rattle.proof_text.proofs.texts.StepLines.{no_inner, whole_lines, steps_in-append}
+use Rattle.proof_text.proofs.writing.TextsAt.{fits}
 use Rattle.proof_check.specs.Accepted.{AllFit, Fits, by_rule, no_step, first_then}
 use Rattle.proof_check.specs.Limits.{IsSmall, IsWithin}
 use Rattle.u_prover.specs.Proving.{HasLongText, IsPassing, IsSmallStep, KeepsCounts, KeepsLimits, PassesOne, most_proof_bytes}

@@ -5,7 +5,7 @@ use Rattle.u_terms.specs.Syntax.{U}
 use Rattle.u_terms.specs.declared.facts.Facts.{Facts}
 use Rattle.u_deriv.specs.Steps.{Replays}
 use Rattle.u_moves.specs.Derivations.{Derivation, IsSound}
-use Rattle.u_moves.proofs.Sound.{sound-plain}
+use Rattle.u_moves.proofs.derivations.Sound.{sound-plain}
 use Rattle.u_congruence.specs.Congruence.{IsFromTo}
 use Rattle.u_prover.specs.declared.deciding.Outcome.{Outcome}
 use Rattle.u_prover.specs.declared.deciding.Outcome.TheVariants.{Found, Unknown}

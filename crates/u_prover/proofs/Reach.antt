@@ -10,7 +10,7 @@ use Rattle.shapes.specs.Tried.{tried}
 use Rattle.u_terms.specs.Syntax.{U, Zero, One, Add, Mul, Squash, Not, Sum, Rel, Eq, Pred}
 use Rattle.u_terms.specs.declared.facts.Facts.{Facts}
 use Rattle.u_rules.specs.Terms.{add_leaves}
-use Rattle.u_rules.proofs.LeavesAt.{add_leaves-Add}
+use Rattle.u_rules.proofs.multisets.LeavesAt.{add_leaves-Add}
 use Rattle.term_shapes.specs.BlockTerms.{HaveShapes, one_block, two_sums}
 use Rattle.term_shapes.specs.Factors.{factors, sum_count, under_sums}
 use Rattle.term_shapes.specs.TermShape.{HasShape, term_shape}

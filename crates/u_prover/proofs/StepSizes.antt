@@ -19,18 +19,18 @@ use Rattle.u_rules.specs.declared.faults.Misfit.{Misfit}
 use Rattle.u_rules.specs.Measures.{measure_of, sizes_of}
 use Rattle.u_rules.specs.Terms.{◌⊕◌, ◌⊗◌, ◌≐◌, O, I, sq, neg, S, R, P, put, turned, equal_columns, key_columns, referenced}
 use Rattle.u_rules.specs.Rows.{Row, row, row_with, T, B, V, L, N, key_fault, swap_fault, fkey_row}
-use Rattle.u_rules.proofs.Measured.{deeper}
+use Rattle.u_rules.proofs.terms.Measured.{deeper}
 use Rattle.u_deriv.specs.declared.step.Step.{Step, out-Step}
 use Rattle.u_deriv.specs.Contexts.{Context, filled, binders}
 use Rattle.u_deriv.specs.LineBounds.{IsPlain, lines_bound}
 use Rattle.u_deriv.specs.Steps.{Rewrites, Sides, by_rule, by_proof}
-use Rattle.u_deriv.proofs.Arguments.{nodes-positive}
-use Rattle.u_deriv.proofs.Extents.{nodes-filled, deep-filled}
+use Rattle.u_deriv.proofs.steps.Arguments.{nodes-positive}
+use Rattle.u_deriv.proofs.contexts.Extents.{nodes-filled, deep-filled}
 use Rattle.u_moves.specs.Derivations as moves
 use Rattle.u_moves.specs.Derivations.{Derivation, IsSound, ReplaysThrough, first_then}
-use Rattle.u_moves.proofs.Chains.{starts}
-use Rattle.proof_text.proofs.LineBounds.{lines-short}
-use Rattle.proof_text.proofs.LongTexts.{length-proof}
+use Rattle.u_moves.proofs.steps.Chains.{starts}
+use Rattle.proof_text.proofs.writing.LineBounds.{lines-short}
+use Rattle.proof_text.proofs.writing.LongTexts.{length-proof}
 use Rattle.proof_text.specs.Limits.{most_nodes, most_depth}
 use Rattle.proof_text.specs.Written.{IsSmall as IsSmallArgument}
 use Rattle.proof_check.specs.Limits.{IsWithin, SidesAreSmall, most_steps}

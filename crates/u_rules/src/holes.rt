@@ -84,7 +84,7 @@ pub fn copied_value(alloc: Global, args: &[Arg], i: usize) -> Result<Val, AllocE
     }
 }
 
-#[tactic(auto, using(crate::proofs::Measured::measures_at))]
+#[tactic(auto, using(crate::proofs::terms::Measured::measures_at))]
 pub fn measured_value(args: &[Arg], i: usize) -> Measure
     ensures { result ≡ value_measure (value_of (slice_get args.now i)) }
 {

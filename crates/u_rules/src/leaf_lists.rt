@@ -36,7 +36,7 @@ pub fn same_leaves(alloc: Global, left: &U, right: &U, product: bool) -> Result<
 
 // Appends the leaves of a sum.
 #[cycle(gather_sum)]
-#[tactic(auto, using(crate::proofs::LeavesAt::gathering))]
+#[tactic(auto, using(crate::proofs::multisets::LeavesAt::gathering))]
 fn gather_sum<'a>(sum: &'a U, gathered: &mut Vec<&'a U>) -> Result<(), AllocError>
     ensures { OnOk result (terms gathered.new.items ≡ terms gathered.old.items ++ add_leaves sum.now) }
 {
@@ -52,7 +52,7 @@ fn gather_sum<'a>(sum: &'a U, gathered: &mut Vec<&'a U>) -> Result<(), AllocErro
 
 // Appends the leaves of a product.
 #[cycle(gather_product)]
-#[tactic(auto, using(crate::proofs::LeavesAt::gathering))]
+#[tactic(auto, using(crate::proofs::multisets::LeavesAt::gathering))]
 fn gather_product<'a>(product: &'a U, gathered: &mut Vec<&'a U>) -> Result<(), AllocError>
     ensures { OnOk result (terms gathered.new.items ≡ terms gathered.old.items ++ mul_leaves product.now) }
 {

@@ -38,7 +38,7 @@ pub fn both(left: Measure, right: Measure) -> Sizes
     }
 }
 
-#[tactic(auto, using(crate::proofs::Measured::measures_at))]
+#[tactic(auto, using(crate::proofs::terms::Measured::measures_at))]
 pub fn measure_side(side: &Side<'_>, args: &[Arg]) -> Measure
     ensures { result ≡ measure_of (denote args.now side.now) }
 {
@@ -54,7 +54,7 @@ pub fn measure_side(side: &Side<'_>, args: &[Arg]) -> Measure
     }
 }
 
-#[tactic(auto, using(crate::proofs::Measured::measures_at))]
+#[tactic(auto, using(crate::proofs::terms::Measured::measures_at))]
 fn hole(args: &[Arg], i: usize) -> Measure
     ensures { result ≡ measure_of (term_of (slice_get args.now i)) }
 {

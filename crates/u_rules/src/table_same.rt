@@ -83,7 +83,7 @@ fn under_sums<'a>(u: &'a U, count: u64) -> Option<&'a U>
 }
 
 // ---- rows
-#[tactic(auto, using(crate::proofs::UnderSums::columns_at))]
+#[tactic(auto, using(crate::proofs::terms::UnderSums::columns_at))]
 fn is_column(v: &Val, cells: Cells<'_>, at: u32, first: u32, count: u32, binders: u32) -> bool
     requires shallow { value_depth v.now + binders + count ≤ 2 ^ 32 }
     requires fits { first + count < 2 ^ 32 }

@@ -9,13 +9,13 @@ use Rattle.u_terms.specs.Names.{EachName, IsFreeBelowValue}
 use Rattle.u_terms.specs.Binding.{closed_at, mapped, place_for_name, same_place, sums}
 use Rattle.u_terms.proofs.Binding.{mapped_value-same}
 use Rattle.u_rules.specs.Terms.{◌⊗◌, ◌≐◌, I, S, mul_leaves}
-use Rattle.u_rules.proofs.LeavesAt.{mul_leaves-Mul}
+use Rattle.u_rules.proofs.multisets.LeavesAt.{mul_leaves-Mul}
 use Rattle.u_moves.specs.Derivations.{IsKnown}
 use Rattle.u_moves.specs.Moving.{IsKnownValue}
 use Rattle.u_normal.specs.Taking.{Takes, alone, from_left, from_right}
 use Rattle.u_congruence.proofs.Turned.{known-Mul}
-use Rattle.u_normal.proofs.KnownParts.{part-known, rest-known}
-use Rattle.u_normal.proofs.Takings.{taken-leaves}
+use Rattle.u_normal.proofs.terms.KnownParts.{part-known, rest-known}
+use Rattle.u_normal.proofs.products.Takings.{taken-leaves}
 use Rattle.u_simple.specs.Points.{IsPoint, equation}
 use Rattle.u_simple.specs.declared.points.Point.{Point}
 

@@ -9,8 +9,8 @@ use Rattle.u_deriv.specs.LineBounds.{lines_bound}
 use Rattle.u_moves.specs.declared.moves.Moves.{Moves}
 use Rattle.u_moves.specs.Derivations.{Derivation}
 use Rattle.u_moves.specs.Moving.{IsMove, root_step}
-use Rattle.u_moves.proofs.Lines.{bound-move}
-use Rattle.u_moves.proofs.Plain.{move-plain}
+use Rattle.u_moves.proofs.derivations.Lines.{bound-move}
+use Rattle.u_moves.proofs.derivations.Plain.{move-plain}
 use Rattle.u_simple.specs.Steps.{IsOnePlainStep}
 
 module _ (moves : Moves) (q : Rule) (proves : q ≡ rule.SqFix → ⊥) (uses : q ≡ rule.SumUse → ⊥) where

@@ -7,7 +7,7 @@ use Rattle.u_rules.specs.Terms.{add_leaves, mul_leaves}
 use Rattle.u_moves.specs.Derivations.{IsKnown}
 use Rattle.normal_form.proofs.Lists.{each-append, each-first, each-last}
 use Rattle.u_congruence.proofs.Turned.{known-Add, known-Mul}
-use Rattle.u_normal.proofs.KnownParts.{known-left, known-right, known-factor_left, known-factor_right, known-zero, known-one}
+use Rattle.u_normal.proofs.terms.KnownParts.{known-left, known-right, known-factor_left, known-factor_right, known-zero, known-one}
 use Rattle.u_simple.proofs.Chosen.{each-permuted}
 
 module _ (outs : ℕ) where

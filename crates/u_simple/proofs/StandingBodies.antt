@@ -3,7 +3,7 @@ use Rattle.std.proofs.Common.{◌≡◌, ℕ, List, [], ◌∷◌, ◌++◌, len
 use Rattle.u_terms.specs.declared.term.U.TheVariants as u
 use Rattle.u_terms.specs.Syntax.{U, Val}
 use Rattle.u_normal.specs.Values.{IsPlace, Stands, AreStanding, StandsWithBody}
-use Rattle.u_normal.proofs.Standing.{relation-place, predicate-place, left-place, right-place, stands-function, stands-aggregate}
+use Rattle.u_normal.proofs.derivations.Standing.{relation-place, predicate-place, left-place, right-place, stands-function, stands-aggregate}
 use Rattle.u_simple.specs.Bodies.{LeadsToBody, RowLeadsToBody, at_aggregate, in_function, at_argument}
 
 stands-at : (path : List ℕ) (index : ℕ) (arguments before after : List Val) (value : Val) (t : U) → index ≡ length before → arguments ≡ before ++ value ∷ after → AreStanding path arguments t → Stands (path ++ index ∷ []) value t

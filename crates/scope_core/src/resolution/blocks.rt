@@ -30,7 +30,7 @@ use std::alloc::Global;
 /// A block: its entries, then what stands in ON and WHERE, GROUP BY, the items and HAVING.
 #[cycle(resolve)]
 #[inline(never)]
-#[tactic(auto, using(crate::proofs::Blocks::laws, crate::proofs::Blocks::tree))]
+#[tactic(auto, using(crate::proofs::resolving::Blocks::laws, crate::proofs::resolving::Blocks::tree))]
 pub fn resolve_block<'k, 'a>(
     alloc: Global,
     block: &'a Block,
@@ -64,7 +64,7 @@ pub fn resolve_block<'k, 'a>(
 /// What the rows of a block's entries have to meet: the conjuncts of ON and WHERE.
 #[cycle(resolve)]
 #[inline(never)]
-#[tactic(auto, using(crate::proofs::Blocks::filter))]
+#[tactic(auto, using(crate::proofs::resolving::Blocks::filter))]
 fn resolve_filter<'s, 'k, 'a>(
     alloc: Global,
     block: &'a Block,
@@ -106,7 +106,7 @@ struct Output {
 
 #[cycle(resolve)]
 #[inline(never)]
-#[tactic(auto, using(crate::proofs::Blocks::outputs))]
+#[tactic(auto, using(crate::proofs::resolving::Blocks::outputs))]
 fn resolve_output<'s, 'k, 'a>(
     alloc: Global,
     block: &'a Block,
@@ -146,7 +146,7 @@ struct FromClause<'k, 'a> {
 
 #[cycle(resolve)]
 #[inline(never)]
-#[tactic(auto, using(crate::proofs::Queries::laws))]
+#[tactic(auto, using(crate::proofs::resolving::Queries::laws))]
 fn resolve_entries<'k, 'a>(
     alloc: Global,
     entries: &'a [Entry],
@@ -183,7 +183,7 @@ struct FromSource<'k, 'a> {
 }
 
 /// How many columns an entry has, whose name no entry before it may have.
-#[tactic(auto, using(crate::proofs::Columns::causes))]
+#[tactic(auto, using(crate::proofs::resolving::Columns::causes))]
 fn width_of_new(entry: &Entry, columns: &Held, before: &[Heading]) -> Result<u32, ScopeFault>
     ensures fine { OnOk result (fault_at (AnAlias entry.now.alias (map (λ h. h.alias) before.now) entry.now.at) ≡ None) }
     ensures value { IfOk result (λ width. width ≡ length (columns_held columns.now)) }
@@ -195,7 +195,7 @@ fn width_of_new(entry: &Entry, columns: &Held, before: &[Heading]) -> Result<u32
 
 #[cycle(resolve)]
 #[inline(never)]
-#[tactic(auto, using(crate::proofs::Queries::laws, crate::proofs::Outputs::outputs))]
+#[tactic(auto, using(crate::proofs::resolving::Queries::laws, crate::proofs::resolving::Outputs::outputs))]
 fn resolve_source<'k, 'a>(
     alloc: Global,
     source: &'a Source,
@@ -225,7 +225,7 @@ fn resolve_source<'k, 'a>(
 /// Appends the conjuncts of the ON conditions. After a comma an ON sees its own entry alone, after a JOIN those before it too.
 #[cycle(resolve)]
 #[inline(never)]
-#[tactic(auto, using(crate::proofs::Queries::laws))]
+#[tactic(auto, using(crate::proofs::resolving::Queries::laws))]
 fn add_on_conditions<'s, 'k, 'a>(
     conditions: &mut Vec<RCond>,
     alloc: Global,
@@ -258,7 +258,7 @@ fn add_on_conditions<'s, 'k, 'a>(
 /// The values of the items, one for each output.
 #[cycle(resolve)]
 #[inline(never)]
-#[tactic(auto, using(crate::proofs::Queries::laws))]
+#[tactic(auto, using(crate::proofs::resolving::Queries::laws))]
 fn resolve_items<'k, 'a>(
     alloc: Global,
     items: &'a [Item],
@@ -288,7 +288,7 @@ fn count_values(items: &[Item]) -> usize {
 /// Appends the values of an item.
 #[cycle(resolve)]
 #[inline(never)]
-#[tactic(auto, using(crate::proofs::Queries::laws))]
+#[tactic(auto, using(crate::proofs::resolving::Queries::laws))]
 fn add_item<'k, 'a>(
     item: &'a Item,
     values: &mut Items<RVal>,

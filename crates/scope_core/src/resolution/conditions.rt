@@ -76,7 +76,7 @@ fn bounds_in(parts: &[Expr]) -> Option<Bounds<'_>>
 
 /// A condition: an AND of its conjuncts, where it has more than one.
 #[cycle(resolve)]
-#[tactic(auto, using(crate::proofs::Conditions::laws))]
+#[tactic(auto, using(crate::proofs::resolving::Conditions::laws))]
 fn resolve_condition<'k, 'a>(
     alloc: Global,
     expr: &'a Expr,
@@ -129,7 +129,7 @@ fn resolve_condition<'k, 'a>(
 /// A predicate or a called name.
 #[cycle(resolve)]
 #[inline(never)]
-#[tactic(auto, using(crate::proofs::Conditions::laws))]
+#[tactic(auto, using(crate::proofs::resolving::Conditions::laws))]
 fn predicate<'k, 'a>(
     alloc: Global,
     sym: u32,
@@ -150,7 +150,7 @@ fn predicate<'k, 'a>(
 /// An EXISTS at this place.
 #[cycle(resolve)]
 #[inline(never)]
-#[tactic(auto, using(crate::proofs::Conditions::laws))]
+#[tactic(auto, using(crate::proofs::resolving::Conditions::laws))]
 fn resolve_exists<'k, 'a>(
     alloc: Global,
     query: &'a Boxed<Query>,
@@ -169,7 +169,7 @@ fn resolve_exists<'k, 'a>(
 
 #[cycle(resolve)]
 #[inline(never)]
-#[tactic(auto, using(crate::proofs::Conditions::laws))]
+#[tactic(auto, using(crate::proofs::resolving::Conditions::laws))]
 fn resolve_and<'k, 'a>(
     alloc: Global,
     parts: &'a [Expr],
@@ -187,7 +187,7 @@ fn resolve_and<'k, 'a>(
 
 #[cycle(resolve)]
 #[inline(never)]
-#[tactic(auto, using(crate::proofs::Conditions::laws))]
+#[tactic(auto, using(crate::proofs::resolving::Conditions::laws))]
 fn resolve_part<'k, 'a>(
     alloc: Global,
     part: &'a Boxed<Expr>,
@@ -205,7 +205,7 @@ fn resolve_part<'k, 'a>(
 /// The left side of an equality. Where the equality before has the same one, as in a list of IN, it is not resolved again.
 #[cycle(resolve)]
 #[inline(never)]
-#[tactic(auto, using(crate::proofs::Conditions::laws))]
+#[tactic(auto, using(crate::proofs::resolving::Conditions::laws))]
 fn resolve_operand<'k, 'a>(
     alloc: Global,
     expr: &'a Shared<Expr>,
@@ -235,7 +235,7 @@ fn resolve_operand<'k, 'a>(
 /// A disjunct. `before` is the left side of the last equality among those before it, and afterwards its own where it is one.
 #[cycle(resolve)]
 #[inline(never)]
-#[tactic(auto, using(crate::proofs::Conditions::laws))]
+#[tactic(auto, using(crate::proofs::resolving::Conditions::laws))]
 fn resolve_disjunct<'k, 'a>(
     alloc: Global,
     part: &'a Expr,
@@ -262,7 +262,7 @@ fn resolve_disjunct<'k, 'a>(
 }
 
 #[cycle(resolve)]
-#[tactic(auto, using(crate::proofs::Conditions::laws))]
+#[tactic(auto, using(crate::proofs::resolving::Conditions::laws))]
 fn resolve_conditions<'k, 'a>(
     alloc: Global,
     parts: &'a [Expr],
@@ -284,7 +284,7 @@ fn resolve_conditions<'k, 'a>(
 
 /// Appends the conjuncts of a condition: those of an AND's parts, and else the condition itself.
 #[cycle(resolve)]
-#[tactic(auto, using(crate::proofs::Conditions::laws))]
+#[tactic(auto, using(crate::proofs::resolving::Conditions::laws))]
 fn add_conjuncts<'k, 'a>(
     conditions: &mut Vec<RCond>,
     alloc: Global,
@@ -309,7 +309,7 @@ fn add_conjuncts<'k, 'a>(
 /// Appends the conjuncts of an AND's parts.
 #[cycle(resolve)]
 #[inline(never)]
-#[tactic(auto, using(crate::proofs::Conditions::laws))]
+#[tactic(auto, using(crate::proofs::resolving::Conditions::laws))]
 fn add_parts<'k, 'a>(
     conditions: &mut Vec<RCond>,
     alloc: Global,
@@ -341,7 +341,7 @@ fn add_parts<'k, 'a>(
 /// the first of its own, and is not resolved again. Both are compared once they are known to be values.
 #[cycle(resolve)]
 #[inline(never)]
-#[tactic(auto, using(crate::proofs::Values::laws))]
+#[tactic(auto, using(crate::proofs::resolving::Values::laws))]
 fn resolve_behind<'k, 'a>(
     alloc: Global,
     args: &'a [Expr],
@@ -408,7 +408,7 @@ fn push_predicates(
 }
 
 #[cycle(resolve)]
-#[tactic(auto, using(crate::proofs::Conditions::laws))]
+#[tactic(auto, using(crate::proofs::resolving::Conditions::laws))]
 fn add_conjuncts_of_each<'k, 'a>(
     conditions: &mut Vec<RCond>,
     alloc: Global,
@@ -429,7 +429,7 @@ fn add_conjuncts_of_each<'k, 'a>(
 /// Appends the conjuncts of a condition, if one is written.
 #[cycle(resolve)]
 #[inline(never)]
-#[tactic(auto, using(crate::proofs::Conditions::laws))]
+#[tactic(auto, using(crate::proofs::resolving::Conditions::laws))]
 pub fn add_written<'k, 'a>(
     conditions: &mut Vec<RCond>,
     alloc: Global,
@@ -450,7 +450,7 @@ pub fn add_written<'k, 'a>(
 /// The condition of HAVING, if one is written.
 #[cycle(resolve)]
 #[inline(never)]
-#[tactic(auto, using(crate::proofs::Conditions::laws))]
+#[tactic(auto, using(crate::proofs::resolving::Conditions::laws))]
 pub fn resolve_having<'k, 'a>(
     alloc: Global,
     condition: &'a Option<Expr>,

@@ -24,7 +24,7 @@ use std::alloc::Global;
 /// A block within the blocks around it, so that copies of a value share it. The columns are those of its items.
 #[cycle(resolve)]
 #[inline(never)]
-#[tactic(auto, using(crate::proofs::Values::laws))]
+#[tactic(auto, using(crate::proofs::resolving::Values::laws))]
 pub fn resolve_shared_block<'k, 'a>(
     alloc: Global,
     block: &'a Boxed<Block>,
@@ -46,7 +46,7 @@ pub fn resolve_shared_block<'k, 'a>(
 /// A query within the blocks around it, in a box. The columns of a set are those of its left operand.
 #[cycle(resolve)]
 #[inline(never)]
-#[tactic(auto, using(crate::proofs::Queries::laws, crate::proofs::Outputs::outputs))]
+#[tactic(auto, using(crate::proofs::resolving::Queries::laws, crate::proofs::resolving::Outputs::outputs))]
 pub fn resolve_query<'k, 'a>(
     alloc: Global,
     query: &'a Query,
@@ -84,7 +84,7 @@ pub fn resolve_query<'k, 'a>(
 
 #[cycle(resolve)]
 #[inline(never)]
-#[tactic(auto, using(crate::proofs::Queries::laws))]
+#[tactic(auto, using(crate::proofs::resolving::Queries::laws))]
 fn resolve_block_query<'k, 'a>(
     alloc: Global,
     block: &'a Boxed<Block>,
@@ -108,7 +108,7 @@ fn resolve_block_query<'k, 'a>(
 /// room on the way.
 #[cycle(resolve)]
 #[inline(never)]
-#[tactic(auto, using(crate::proofs::Queries::laws))]
+#[tactic(auto, using(crate::proofs::resolving::Queries::laws))]
 fn resolve_right<'k, 'a>(
     alloc: Global,
     op: SetOp,

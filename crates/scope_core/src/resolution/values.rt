@@ -20,7 +20,7 @@ use std::alloc::Global;
 
 /// A value.
 #[cycle(resolve)]
-#[tactic(auto, using(crate::proofs::Values::laws))]
+#[tactic(auto, using(crate::proofs::resolving::Values::laws))]
 pub fn resolve_value<'k, 'a>(
     alloc: Global,
     expr: &'a Expr,
@@ -66,7 +66,7 @@ pub fn resolve_value<'k, 'a>(
 
 /// Values in a row. Those of operators are resolved here, since a chain of operators goes down through them.
 #[cycle(resolve)]
-#[tactic(auto, using(crate::proofs::Values::laws))]
+#[tactic(auto, using(crate::proofs::resolving::Values::laws))]
 pub fn resolve_values<'k, 'a>(
     alloc: Global,
     exprs: &'a [Expr],
@@ -96,7 +96,7 @@ pub fn resolve_values<'k, 'a>(
 /// An aggregate; its argument sees the members of the group.
 #[cycle(resolve)]
 #[inline(never)]
-#[tactic(auto, using(crate::proofs::Values::laws))]
+#[tactic(auto, using(crate::proofs::resolving::Values::laws))]
 fn resolve_aggregate<'k, 'a>(
     alloc: Global,
     fun: AggFun,
@@ -127,7 +127,7 @@ fn resolve_aggregate<'k, 'a>(
 /// A scalar subquery. `at` is the place of its parenthesis.
 #[cycle(resolve)]
 #[inline(never)]
-#[tactic(auto, using(crate::proofs::Values::laws))]
+#[tactic(auto, using(crate::proofs::resolving::Values::laws))]
 fn resolve_scalar<'k, 'a>(
     alloc: Global,
     query: &'a Boxed<Query>,

@@ -20,7 +20,7 @@ use u_terms::{Boxed, U, Val};
 
 /// Of the query at a row of values.
 #[cycle(build)]
-#[tactic(auto, using(crate::proofs::TermLaws::queries, crate::proofs::Weights::queries))]
+#[tactic(auto, using(crate::proofs::terms::TermLaws::queries, crate::proofs::terms::Weights::queries))]
 pub fn query_term(
     alloc: Global,
     query: &RQuery,
@@ -48,7 +48,7 @@ pub fn query_term(
 }
 
 #[cycle(build)]
-#[tactic(auto, using(crate::proofs::TermLaws::blocks, crate::proofs::Weights::blocks))]
+#[tactic(auto, using(crate::proofs::terms::TermLaws::blocks, crate::proofs::terms::Weights::blocks))]
 fn block_term(
     alloc: Global,
     block: &RBlock,

@@ -36,7 +36,7 @@ pub fn add_conditions(
 }
 
 #[cycle(build)]
-#[tactic(auto, using(crate::proofs::TermLaws::conditions, crate::proofs::Weights::conditions))]
+#[tactic(auto, using(crate::proofs::terms::TermLaws::conditions, crate::proofs::terms::Weights::conditions))]
 fn condition_term(
     alloc: Global,
     condition: &RCond,
@@ -102,7 +102,7 @@ fn exists_term(
 
 /// Appends what HAVING gives: an AND gives a factor for each of its parts.
 #[cycle(build)]
-#[tactic(auto, using(crate::proofs::TermLaws::having_at, crate::proofs::Weights::having_at))]
+#[tactic(auto, using(crate::proofs::terms::TermLaws::having_at, crate::proofs::terms::Weights::having_at))]
 pub fn add_having(
     factors: &mut Vec<U>,
     alloc: Global,

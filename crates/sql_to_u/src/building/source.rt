@@ -36,7 +36,7 @@ pub fn add_sources(
 }
 
 #[cycle(build)]
-#[tactic(auto, using(crate::proofs::TermLaws::sources, crate::proofs::Weights::sources))]
+#[tactic(auto, using(crate::proofs::terms::TermLaws::sources, crate::proofs::terms::Weights::sources))]
 fn source_term(
     alloc: Global,
     source: &RSource,

@@ -75,7 +75,7 @@ fn add_values(
 
 /// Of a value; an aggregate counts its values by the name `next`.
 #[cycle(build)]
-#[tactic(auto, using(crate::proofs::TermLaws::values, crate::proofs::Weights::values))]
+#[tactic(auto, using(crate::proofs::terms::TermLaws::values, crate::proofs::terms::Weights::values))]
 pub fn value_term(
     alloc: Global,
     value: &RVal,
@@ -125,7 +125,7 @@ pub fn value_terms(
 
 /// Of the one item of a scalar subquery.
 #[cycle(build)]
-#[tactic(auto, using(crate::proofs::TermLaws::scalars))]
+#[tactic(auto, using(crate::proofs::terms::TermLaws::scalars))]
 fn scalar_term(
     alloc: Global,
     block: &RBlock,

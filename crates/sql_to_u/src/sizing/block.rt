@@ -14,7 +14,7 @@ use scope_core::{Grouping, RBlock, REntry, RQuery, RSource};
 
 /// Of a query at values of these sizes.
 #[cycle(sizes)]
-#[tactic(auto, using(crate::proofs::SizeLaws::at_nodes))]
+#[tactic(auto, using(crate::proofs::sizes::SizeLaws::at_nodes))]
 pub fn query_size(query: &RQuery, row: Row, views: &[Size]) -> Size
     ensures { result ≡ query_size views.now query.now (row_sizes row) }
 {
@@ -29,7 +29,7 @@ pub fn query_size(query: &RQuery, row: Row, views: &[Size]) -> Size
 }
 
 #[cycle(sizes)]
-#[tactic(auto, using(crate::proofs::SizeLaws::blocks))]
+#[tactic(auto, using(crate::proofs::sizes::SizeLaws::blocks))]
 fn block_size(block: &RBlock, row: Row, views: &[Size]) -> Size
     ensures { result ≡ block_size views.now block.now (row_sizes row) }
 {
@@ -92,7 +92,7 @@ pub fn group_size(block: &RBlock, factors: Product) -> GroupSize
 }
 
 /// How many columns the entries have.
-#[tactic(auto, using(crate::proofs::SizeLaws::entries))]
+#[tactic(auto, using(crate::proofs::sizes::SizeLaws::entries))]
 fn count_columns(entries: &[REntry]) -> u64
     ensures { result ≡ capped (columns_listed entries.now) }
 {
@@ -127,7 +127,7 @@ fn add_sources(before: Product, entries: &[REntry], views: &[Size]) -> Product
 
 /// Of a source at a row of so many names.
 #[cycle(sizes)]
-#[tactic(auto, using(crate::proofs::SizeLaws::at_nodes))]
+#[tactic(auto, using(crate::proofs::sizes::SizeLaws::at_nodes))]
 fn source_size(source: &RSource, wide: u32, views: &[Size]) -> Size
     ensures { result ≡ source_size views.now source.now wide }
 {

@@ -28,7 +28,7 @@ pub fn add_conditions(
 }
 
 #[cycle(sizes)]
-#[tactic(auto, using(crate::proofs::SizeLaws::at_nodes))]
+#[tactic(auto, using(crate::proofs::sizes::SizeLaws::at_nodes))]
 fn condition_size(condition: &RCond, group: GroupSize, views: &[Size]) -> Size
     ensures { result ≡ condition_size views.now condition.now group }
 {
@@ -60,7 +60,7 @@ fn condition_size(condition: &RCond, group: GroupSize, views: &[Size]) -> Size
 
 /// What HAVING gives: an AND gives a factor for each of its parts.
 #[cycle(sizes)]
-#[tactic(auto, using(crate::proofs::SizeLaws::having_at))]
+#[tactic(auto, using(crate::proofs::sizes::SizeLaws::having_at))]
 pub fn add_having(
     before: Product,
     having: &Option<RCond>,

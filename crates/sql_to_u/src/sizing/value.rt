@@ -58,7 +58,7 @@ fn add_values(
 
 /// Of a value, as it stands where the members of the innermost group are these.
 #[cycle(sizes)]
-#[tactic(auto, using(crate::proofs::SizeLaws::at_nodes))]
+#[tactic(auto, using(crate::proofs::sizes::SizeLaws::at_nodes))]
 pub fn value_size(value: &RVal, group: GroupSize, views: &[Size]) -> Size
     ensures { result ≡ value_size views.now value.now group }
 {
@@ -105,7 +105,7 @@ pub fn values_size(before: Size, values: &[RVal], group: GroupSize, views: &[Siz
 
 /// Of the one item of a scalar subquery.
 #[cycle(sizes)]
-#[tactic(auto, using(crate::proofs::SizeLaws::scalars))]
+#[tactic(auto, using(crate::proofs::sizes::SizeLaws::scalars))]
 fn scalar_size(block: &RBlock, views: &[Size]) -> Size
     ensures { result ≡ scalar_size views.now block.now }
 {

@@ -14,7 +14,7 @@ use crate::moves::Moves;
 use u_rules::{Arg, Rule};
 use u_terms::{List, Val};
 
-#[tactic(auto, using(crate::proofs::Rooted::applies))]
+#[tactic(auto, using(crate::proofs::steps::Rooted::applies))]
 impl<'f> Moves<'f> {
     /// Two rows of a table that agree on a key become one, and the equalities of all their columns.
     pub fn key(

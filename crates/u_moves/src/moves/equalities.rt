@@ -12,7 +12,7 @@ use crate::moves::Moves;
 use u_rules::{Arg, Rule};
 use u_terms::{List, U, Val};
 
-#[tactic(auto, using(crate::proofs::Rooted::applies))]
+#[tactic(auto, using(crate::proofs::steps::Rooted::applies))]
 impl<'f> Moves<'f> {
     /// The equality of a value with itself becomes 1.
     pub fn eq_refl(self, a: Val) -> Result<Deriv<'f>, NoMemory>

@@ -12,7 +12,7 @@ use crate::moves::Moves;
 use u_rules::{Arg, Rule};
 use u_terms::{List, U};
 
-#[tactic(auto, using(crate::proofs::Rooted::applies))]
+#[tactic(auto, using(crate::proofs::steps::Rooted::applies))]
 impl<'f> Moves<'f> {
     /// The negation of 0 becomes 1.
     pub fn not_zero(self) -> Result<Deriv<'f>, NoMemory>

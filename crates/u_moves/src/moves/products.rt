@@ -12,7 +12,7 @@ use crate::moves::Moves;
 use u_rules::{Arg, Rule};
 use u_terms::{List, U};
 
-#[tactic(auto, using(crate::proofs::Rooted::applies))]
+#[tactic(auto, using(crate::proofs::steps::Rooted::applies))]
 impl<'f> Moves<'f> {
     /// A product becomes one with the same factors in any order, 1 left out or put in.
     pub fn mul_ac(self, x: U, y: U) -> Result<Deriv<'f>, NoMemory>

@@ -14,7 +14,7 @@ use u_deriv::{Path, Step};
 use u_rules::{Arg, Rule};
 use u_terms::{Boxed, List, U, Val};
 
-#[tactic(auto, using(crate::proofs::Rooted::applies))]
+#[tactic(auto, using(crate::proofs::steps::Rooted::applies))]
 impl<'f> Moves<'f> {
     /// The squash of 0 becomes 0.
     pub fn sq_zero(self) -> Result<Deriv<'f>, NoMemory>

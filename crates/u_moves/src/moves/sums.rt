@@ -15,7 +15,7 @@ use crate::moves::Moves;
 use u_rules::{Arg, Rule};
 use u_terms::{List, U, Val};
 
-#[tactic(auto, using(crate::proofs::Rooted::applies))]
+#[tactic(auto, using(crate::proofs::steps::Rooted::applies))]
 impl<'f> Moves<'f> {
     /// A sum becomes one with the same terms in any order, 0 left out or put in.
     pub fn add_ac(self, x: U, y: U) -> Result<Deriv<'f>, NoMemory>

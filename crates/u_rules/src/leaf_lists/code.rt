@@ -17,7 +17,7 @@ pub fn code_of(alloc: Global, term: &U) -> Result<Vec<u32>, AllocError>
 
 // Appends the code of a term.
 #[cycle(write)]
-#[tactic(auto, using(crate::proofs::CodesAt::writing))]
+#[tactic(auto, using(crate::proofs::multisets::CodesAt::writing))]
 fn write(term: &U, numbers: &mut Vec<u32>) -> Result<(), AllocError>
     ensures { OnOk result (numbers.new.items ≡ numbers.old.items ++ code term.now) }
 {
@@ -65,7 +65,7 @@ fn write(term: &U, numbers: &mut Vec<u32>) -> Result<(), AllocError>
 }
 
 #[cycle(write)]
-#[tactic(auto, using(crate::proofs::CodesAt::writing))]
+#[tactic(auto, using(crate::proofs::multisets::CodesAt::writing))]
 fn write_value(value: &Val, numbers: &mut Vec<u32>) -> Result<(), AllocError>
     ensures { OnOk result (numbers.new.items ≡ numbers.old.items ++ value_code value.now) }
 {

@@ -1,6 +1,6 @@
 use Rattle.std.proofs.Common.{ap, ◌∙◌}
 use Rattle.u_rules.specs.Terms.{terms}
-use Rattle.u_entail.proofs.Carried.{point-from}
+use Rattle.u_entail.proofs.copies.Carried.{point-from}
 use Rattle.call_rows.proofs.Taken.{taken-begins}
 use Rattle.call_rows.proofs.behind.append_links.Goals as goal
 

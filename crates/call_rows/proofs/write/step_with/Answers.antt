@@ -1,4 +1,4 @@
-use Rattle.proof_text.proofs.TextsAt.{fits_form}
+use Rattle.proof_text.proofs.writing.TextsAt.{fits_form}
 use Rattle.call_rows.proofs.write.step_with.Goals as goal
 
 pub returns : goal.returns

@@ -1,5 +1,5 @@
-use Rattle.proof_check.proofs.StepsTaken.{shown-accepted}
-use Rattle.proof_check.proofs.StepsKept.{accepted-shown}
+use Rattle.proof_check.proofs.accepted.StepsTaken.{shown-accepted}
+use Rattle.proof_check.proofs.accepted.StepsKept.{accepted-shown}
 use Rattle.proof_check.proofs.laws.a_proof_is_accepted_exactly.Goals as goal
 
 pub returns : goal.returns

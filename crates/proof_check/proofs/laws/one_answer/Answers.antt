@@ -1,4 +1,4 @@
-use Rattle.proof_check.proofs.OneState.{one_answer as lemma}
+use Rattle.proof_check.proofs.texts.OneState.{one_answer as lemma}
 use Rattle.proof_check.proofs.laws.one_answer.Goals as goal
 
 pub returns : goal.returns

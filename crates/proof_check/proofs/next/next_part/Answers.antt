@@ -6,8 +6,8 @@ use Rattle.proof_check.specs.declared.answers.Stop.TheVariants.{Fault}
 use Rattle.proof_check.specs.declared.part.Part.TheVariants as part
 use Rattle.proof_check.specs.Judging.{Takes, Stops, version, no_header, other_version, other_width, late, header, width_line}
 use Rattle.proof_check.specs.Kept.{progress_of, AreKept, AreFresh, IsTaken, GoOn}
-use Rattle.proof_check.proofs.KeptHeading.{other_line, width_taken}
-use Rattle.proof_check.proofs.KeptSteps.{kept_on}
+use Rattle.proof_check.proofs.state.KeptHeading.{other_line, width_taken}
+use Rattle.proof_check.proofs.state.KeptSteps.{kept_on}
 use Rattle.proof_check.proofs.next.next_part.Goals as goal
 
 pub returns-in-Some-eq1-clause-taken : goal.returns-in-Some-eq1-clause-taken

@@ -1,4 +1,4 @@
-use Rattle.proof_check.proofs.PiecesTaken.{fed-by, ran_out}
+use Rattle.proof_check.proofs.texts.PiecesTaken.{fed-by, ran_out}
 use Rattle.proof_check.proofs.pieces.feed.Goals as goal
 
 pub returns-in-Some : goal.returns-in-Some

@@ -5,7 +5,7 @@ use Rattle.proof_check.specs.declared.answers.ProofFault.TheVariants as fault
 use Rattle.proof_check.specs.declared.answers.Stop.TheVariants.{Fault}
 use Rattle.proof_check.specs.Check.{Check, Reads}
 use Rattle.proof_check.specs.Checking.{stopped, Stands, none, no_memory}
-use Rattle.proof_check.proofs.KeptLines.{lines_of_text}
+use Rattle.proof_check.proofs.state.KeptLines.{lines_of_text}
 use Rattle.proof_check.proofs.whole.check_proof.Goals as goal
 
 pub returns-in_err-checker : goal.returns-in_err-checker

@@ -3,7 +3,7 @@ use Rattle.u_terms.specs.declared.facts.Facts.{Facts}
 use Rattle.proof_text.specs.LinesOfText.{fed}
 use Rattle.proof_check.specs.Check.{IsNext}
 use Rattle.proof_check.specs.Checking.{IsFed}
-use Rattle.proof_check.proofs.KeptLines.{reads_more, reads_all, reads_to_stop, next_fed}
+use Rattle.proof_check.proofs.state.KeptLines.{reads_more, reads_all, reads_to_stop, next_fed}
 use Rattle.proof_check.proofs.whole.feed_all.Goals as goal
 
 pub returns-then-is_err-clause-read : goal.returns-then-is_err-clause-read

@@ -3,8 +3,8 @@ use Rattle.std.specs.Prelude.{Ok}
 use Rattle.std.proofs.lemmas.List.{length-set, take_all}
 use Rattle.proof_text.specs.declared.kinds.Kind.TheVariants as kind
 use Rattle.proof_text.specs.Reading.{Stops, argument_at, arguments_at, expected}
-use Rattle.proof_text.proofs.Loops.{behind-none, arguments-halted, argument-halted, arguments-next, arguments-over}
-use Rattle.proof_text.proofs.Overwritten.{written}
+use Rattle.proof_text.proofs.reading.Loops.{behind-none, arguments-halted, argument-halted, arguments-next, arguments-over}
+use Rattle.proof_text.proofs.reading.Overwritten.{written}
 use Rattle.proof_text.proofs.argument.arguments.Goals as goal
 
 pub loop-at-init : goal.loop-at-init

@@ -1,6 +1,6 @@
 use Rattle.std.proofs.Common.{◌≡◌, ◌≤◌, length, take, drop}
 use Rattle.proof_text.specs.Reading.{arguments_at}
-use Rattle.proof_text.proofs.Loops.{behind}
+use Rattle.proof_text.proofs.reading.Loops.{behind}
 use Rattle.proof_text.proofs.argument.arguments.Given as goal
 
 -- the arguments that were read, and then those that are left, are all

@@ -4,7 +4,7 @@ use Rattle.std.proofs.lemmas.Slice.Eq.{strip_prefix_is}
 use Rattle.std.proofs.lemmas.Bool.Decides.{Decides-eqb}
 use Rattle.proof_text.specs.LinesOfText.{fed}
 use Rattle.proof_text.specs.Heading.{IsNumbered}
-use Rattle.proof_text.proofs.HeadingsRead.{numbered_behind, not_behind}
+use Rattle.proof_text.proofs.texts.HeadingsRead.{numbered_behind, not_behind}
 use Rattle.proof_text.proofs.heading.numbered.Goals as goal
 
 pub returns-in_err-strip_prefix : goal.returns-in_err-strip_prefix

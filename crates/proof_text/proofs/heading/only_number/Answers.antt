@@ -3,7 +3,7 @@ use Rattle.std.specs.Prelude.{◌==◌}
 use Rattle.proof_text.specs.Signs.{code}
 use Rattle.proof_text.specs.LinesOfText.{fed}
 use Rattle.proof_text.specs.Reading.{next, number_at}
-use Rattle.proof_text.proofs.HeadingsRead.{start, is_number_line, not_refused, at_line_feed}
+use Rattle.proof_text.proofs.texts.HeadingsRead.{start, is_number_line, not_refused, at_line_feed}
 use Rattle.proof_text.proofs.heading.only_number.Goals as goal
 
 pub returns-in-Ok : goal.returns-in-Ok

@@ -1,4 +1,4 @@
-use Rattle.proof_text.proofs.OneAnswer.{spelled as lemma}
+use Rattle.proof_text.proofs.answers.OneAnswer.{spelled as lemma}
 use Rattle.proof_text.proofs.laws.lines_have_one_text.Goals as goal
 
 pub returns : goal.returns

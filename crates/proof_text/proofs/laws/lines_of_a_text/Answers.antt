@@ -1,5 +1,5 @@
 use Rattle.std.proofs.Common.{refl}
-use Rattle.proof_text.proofs.TextLines.{every_text, one_lines, lines_whole}
+use Rattle.proof_text.proofs.texts.TextLines.{every_text, one_lines, lines_whole}
 use Rattle.proof_text.proofs.laws.lines_of_a_text.Goals as goal
 
 pub returns-clause-some : goal.returns-clause-some

@@ -1,4 +1,4 @@
-use Rattle.proof_text.proofs.OneAnswer.{one_answer as lemma}
+use Rattle.proof_text.proofs.answers.OneAnswer.{one_answer as lemma}
 use Rattle.proof_text.proofs.laws.one_answer.Goals as goal
 
 pub returns : goal.returns

@@ -1,4 +1,4 @@
-use Rattle.proof_text.proofs.StepsAgain.{proof_read as lemma}
+use Rattle.proof_text.proofs.texts.StepsAgain.{proof_read as lemma}
 use Rattle.proof_text.proofs.laws.proofs_are_read_again.Goals as goal
 
 pub returns : goal.returns

@@ -1,4 +1,4 @@
-use Rattle.proof_text.proofs.StepsAgain.{steps_read as lemma}
+use Rattle.proof_text.proofs.texts.StepsAgain.{steps_read as lemma}
 use Rattle.proof_text.proofs.laws.steps_are_read_again.Goals as goal
 
 pub returns : goal.returns

@@ -1,8 +1,8 @@
 use Rattle.std.proofs.Common.{rules, arith, subst, sym}
 use Rattle.data_model.specs.Lists.{Each}
 use Rattle.proof_text.specs.Written.{IsWritable}
-use Rattle.proof_text.proofs.LongTexts.{capped_all, length-steps}
-use Rattle.proof_text.proofs.TextsAt.{fits_of, writable}
+use Rattle.proof_text.proofs.writing.LongTexts.{capped_all, length-steps}
+use Rattle.proof_text.proofs.writing.TextsAt.{fits_of, writable}
 use Rattle.proof_text.proofs.lengths.+steps_length.Goals as goal
 
 pub steps_length-returns-clause-length : goal.steps_length-returns-clause-length

@@ -1,6 +1,6 @@
 use Rattle.std.proofs.Common.{arith, inl, inr}
-use Rattle.proof_text.proofs.LongTexts.{capped_more, values-some}
-use Rattle.proof_text.proofs.TextsAt.{words-Zero, words-One, words-Add, words-Mul, words-Squash, words-Not, words-Sum, words-Rel, words-Eq, words-Pred, words-Bound, words-Free, words-Lit, words-Fun, words-Agg}
+use Rattle.proof_text.proofs.writing.LongTexts.{capped_more, values-some}
+use Rattle.proof_text.proofs.writing.TextsAt.{words-Zero, words-One, words-Add, words-Mul, words-Squash, words-Not, words-Sum, words-Rel, words-Eq, words-Pred, words-Bound, words-Free, words-Lit, words-Fun, words-Agg}
 use Rattle.proof_text.proofs.lengths.+term_length.Goals as goal
 
 pub values_length-returns-clause-length : goal.values_length-returns-clause-length

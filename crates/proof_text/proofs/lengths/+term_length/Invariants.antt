@@ -2,7 +2,7 @@ use Rattle.std.proofs.Common.{◌≡◌, ◌+◌, ◌-◌, ◌^◌, min, take}
 use Rattle.std.specs.Prelude.{sum_by}
 use Rattle.data_model.specs.Lists.{Each}
 use Rattle.proof_text.specs.Words.{ValueHasWords}
-use Rattle.proof_text.proofs.LongTexts.{apart_length}
+use Rattle.proof_text.proofs.writing.LongTexts.{apart_length}
 use Rattle.proof_text.proofs.lengths.+term_length.Given as goal
 
 abbrev pub invariant-values_length-loop-value : goal.invariant-values_length-loop-value

@@ -1,5 +1,5 @@
 use Rattle.std.proofs.Common.{arith}
-use Rattle.proof_text.proofs.LongTexts.{capped_all, length-arguments}
+use Rattle.proof_text.proofs.writing.LongTexts.{capped_all, length-arguments}
 use Rattle.proof_text.proofs.lengths.arguments_length.Goals as goal
 
 pub returns-clause-length : goal.returns-clause-length

@@ -3,8 +3,8 @@ use Rattle.std.specs.Prelude.{Ok}
 use Rattle.proof_text.specs.LinesOfText.{fed}
 use Rattle.proof_text.specs.Over.{line_over}
 use Rattle.proof_text.specs.Reading.{Rest, Stops, line_at, alone}
-use Rattle.proof_text.proofs.LineAnswers.{read_told, halted_told}
-use Rattle.proof_text.proofs.OneAnswer.{spelled}
+use Rattle.proof_text.proofs.answers.LineAnswers.{read_told, halted_told}
+use Rattle.proof_text.proofs.answers.OneAnswer.{spelled}
 use Rattle.proof_text.proofs.line.read_step_over.Goals as goal
 
 pub returns-in-Ok : goal.returns-in-Ok

@@ -1,7 +1,7 @@
 use Rattle.std.proofs.Common.{◌≡◌, ◌+◌, ◌-◌, length, arith, rules, refl}
 use Rattle.std.specs.Prelude.{Ok, None, Some}
 use Rattle.proof_text.specs.Reading.{Stops, path_at, run_at}
-use Rattle.proof_text.proofs.Loops.{behind-none, runs-halted, runs-last, runs-next, runs-over}
+use Rattle.proof_text.proofs.reading.Loops.{behind-none, runs-halted, runs-last, runs-next, runs-over}
 use Rattle.proof_text.proofs.path.path.Goals as goal
 
 pub loop-init : goal.loop-init

@@ -1,7 +1,7 @@
 use Rattle.std.proofs.Common.{◌≡◌, ◌-◌}
 use Rattle.proof_text.specs.Reading.{path_at, runs_at}
 use Rattle.proof_text.specs.Paths.{kind_of_last}
-use Rattle.proof_text.proofs.Loops.{behind}
+use Rattle.proof_text.proofs.reading.Loops.{behind}
 use Rattle.proof_text.proofs.path.path.Given as goal
 
 -- the runs that were read, and then those that are left, are the path

@@ -1,7 +1,7 @@
 use Rattle.std.proofs.Common.{List, [], ◌++◌, ap, rules}
 use Rattle.u_deriv.specs.declared.step.Step.{Step}
 use Rattle.proof_text.specs.Written.{proof_text}
-use Rattle.proof_text.proofs.Sending.{sent-all, sent-some, writes-as, writes-then}
+use Rattle.proof_text.proofs.writing.Sending.{sent-all, sent-some, writes-as, writes-then}
 use Rattle.proof_text.proofs.proof_writer.write_proof.Goals as goal
 
 pub returns-then-failed-clause-fault : goal.returns-then-failed-clause-fault

@@ -2,7 +2,7 @@ use Rattle.std.proofs.Common.{◌≡◌, arith, rules}
 use Rattle.std.specs.Prelude.{Ok}
 use Rattle.proof_text.specs.Signs.{code}
 use Rattle.proof_text.specs.Reading.{Stops, expected, word_at}
-use Rattle.proof_text.proofs.Loops.{word-halted, word-next, word-over}
+use Rattle.proof_text.proofs.reading.Loops.{word-halted, word-next, word-over}
 use Rattle.proof_text.proofs.rule_name.letters.Goals as goal
 
 pub returns-in_err-expect : goal.returns-in_err-expect

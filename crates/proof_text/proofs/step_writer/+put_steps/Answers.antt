@@ -2,8 +2,8 @@ use Rattle.std.proofs.Common.{rules, subst, sym}
 use Rattle.data_model.specs.Lists.{Each}
 use Rattle.u_deriv.specs.StepText.{step_text}
 use Rattle.proof_text.specs.Written.{IsWritable}
-use Rattle.proof_text.proofs.Sending.{writes-as, writes-then}
-use Rattle.proof_text.proofs.TextsAt.{flat_map-next, each-next, fits_of, opens-parts, whole-parts, writable}
+use Rattle.proof_text.proofs.writing.Sending.{writes-as, writes-then}
+use Rattle.proof_text.proofs.writing.TextsAt.{flat_map-next, each-next, fits_of, opens-parts, whole-parts, writable}
 use Rattle.proof_text.proofs.step_writer.+put_steps.Goals as goal
 
 pub put_step-put_head-requires : goal.put_step-put_head-requires

@@ -1,6 +1,6 @@
 use Rattle.proof_text.specs.Words.{ArgumentHasWords}
-use Rattle.proof_text.proofs.Sending.{writes-as, writes-then}
-use Rattle.proof_text.proofs.TextsAt.{behind_space, flat_map-next, each-next}
+use Rattle.proof_text.proofs.writing.Sending.{writes-as, writes-then}
+use Rattle.proof_text.proofs.writing.TextsAt.{behind_space, flat_map-next, each-next}
 use Rattle.proof_text.proofs.step_writer.put_arguments.Goals as goal
 
 pub loop-argument-preserved : goal.loop-argument-preserved

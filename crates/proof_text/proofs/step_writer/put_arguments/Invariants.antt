@@ -3,7 +3,7 @@ use Rattle.std.specs.List.{flat_map}
 use Rattle.data_model.specs.Lists.{Each}
 use Rattle.proof_text.specs.Sent.{Writes}
 use Rattle.proof_text.specs.Words.{ArgumentHasWords}
-use Rattle.proof_text.proofs.TextsAt.{behind_space}
+use Rattle.proof_text.proofs.writing.TextsAt.{behind_space}
 use Rattle.proof_text.proofs.step_writer.put_arguments.Given as goal
 
 abbrev pub invariant-loop-argument : goal.invariant-loop-argument

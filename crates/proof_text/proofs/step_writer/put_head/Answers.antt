@@ -1,5 +1,5 @@
-use Rattle.proof_text.proofs.Sending.{writes-as, writes-then}
-use Rattle.proof_text.proofs.TextsAt.{head-parts}
+use Rattle.proof_text.proofs.writing.Sending.{writes-as, writes-then}
+use Rattle.proof_text.proofs.writing.TextsAt.{head-parts}
 use Rattle.proof_text.proofs.step_writer.put_head.Goals as goal
 
 pub returns-clause-writes : goal.returns-clause-writes

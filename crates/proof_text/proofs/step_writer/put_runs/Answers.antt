@@ -1,8 +1,8 @@
 use Rattle.std.proofs.Common.{refl}
 use Rattle.proof_text.specs.Words.{RunHasWord}
 use Rattle.u_deriv.specs.StepText.{run_text}
-use Rattle.proof_text.proofs.Sending.{writes-as, writes-then}
-use Rattle.proof_text.proofs.TextsAt.{flat_map-next, each-next}
+use Rattle.proof_text.proofs.writing.Sending.{writes-as, writes-then}
+use Rattle.proof_text.proofs.writing.TextsAt.{flat_map-next, each-next}
 use Rattle.proof_text.proofs.step_writer.put_runs.Goals as goal
 
 pub loop-run-preserved : goal.loop-run-preserved

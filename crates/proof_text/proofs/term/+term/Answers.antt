@@ -1,8 +1,8 @@
 use Rattle.std.proofs.Common.{◌≡◌, ◌+◌, ◌-◌, length, take, ◌++◌, ◌∷◌, [], arith, rules, refl, ◌∙◌}
-use Rattle.proof_text.proofs.Firsts.{begun, value_begun, no_term, no_value}
-use Rattle.proof_text.proofs.Loops.{behind-none, values-over, values-halted, values-next, values-last}
+use Rattle.proof_text.proofs.reading.Firsts.{begun, value_begun, no_term, no_value}
+use Rattle.proof_text.proofs.reading.Loops.{behind-none, values-over, values-halted, values-next, values-last}
 use Rattle.std.proofs.lemmas.List.{length-set}
-use Rattle.proof_text.proofs.Overwritten.{written}
+use Rattle.proof_text.proofs.reading.Overwritten.{written}
 use Rattle.proof_text.specs.Reading.{Stops, ◌>>=◌, value_at, values_at, list_of, expected}
 use Rattle.proof_text.specs.Signs as s
 use Rattle.std.specs.Prelude.{Ok}

@@ -1,7 +1,7 @@
 use Rattle.std.proofs.Common.{arith}
 use Rattle.proof_text.specs.Words.{ValueHasWords}
-use Rattle.proof_text.proofs.Sending.{writes-as, writes-then}
-use Rattle.proof_text.proofs.TextsAt.{all-values, each-next, opening-next, no_values, opened-next, text-Zero, text-One, text-Add, text-Mul, text-Squash, text-Not, text-Sum, text-Rel, text-Eq, text-Pred, text-Bound, text-Free, text-Lit, text-Fun, text-Agg, words-Zero, words-One, words-Add, words-Mul, words-Squash, words-Not, words-Sum, words-Rel, words-Eq, words-Pred, words-Bound, words-Free, words-Lit, words-Fun, words-Agg}
+use Rattle.proof_text.proofs.writing.Sending.{writes-as, writes-then}
+use Rattle.proof_text.proofs.writing.TextsAt.{all-values, each-next, opening-next, no_values, opened-next, text-Zero, text-One, text-Add, text-Mul, text-Squash, text-Not, text-Sum, text-Rel, text-Eq, text-Pred, text-Bound, text-Free, text-Lit, text-Fun, text-Agg, words-Zero, words-One, words-Add, words-Mul, words-Squash, words-Not, words-Sum, words-Rel, words-Eq, words-Pred, words-Bound, words-Free, words-Lit, words-Fun, words-Agg}
 use Rattle.proof_text.proofs.term_writer.+put_term.Goals as goal
 
 pub put_between-returns-clause-writes : goal.put_between-returns-clause-writes

@@ -2,7 +2,7 @@ use Rattle.std.proofs.Common.{◌≡◌, take}
 use Rattle.data_model.specs.Lists.{Each}
 use Rattle.proof_text.specs.Sent.{Writes}
 use Rattle.proof_text.specs.Words.{ValueHasWords}
-use Rattle.proof_text.proofs.TextsAt.{opening_at, opened_values}
+use Rattle.proof_text.proofs.writing.TextsAt.{opening_at, opened_values}
 use Rattle.proof_text.proofs.term_writer.+put_term.Given as goal
 
 abbrev pub invariant-put_values-loop-value : goal.invariant-put_values-loop-value

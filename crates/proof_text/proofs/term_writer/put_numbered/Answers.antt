@@ -1,4 +1,4 @@
-use Rattle.proof_text.proofs.Sending.{writes-then}
+use Rattle.proof_text.proofs.writing.Sending.{writes-then}
 use Rattle.proof_text.proofs.term_writer.put_numbered.Goals as goal
 
 pub returns-clause-writes : goal.returns-clause-writes

@@ -2,7 +2,7 @@ use Rattle.std.proofs.Common.{◌≡◌, ◌∷◌, ◌++◌, [], ◌≤◌, ◌
 use Rattle.std.proofs.lemmas.List.{map-append}
 use Rattle.scope_core.specs.Lent.{relation_of, relations_of}
 use Rattle.scope_core.specs.Relations.{count_views, known_relation, known_relations, known_with}
-use Rattle.scope_core.proofs.Schemas.{one-view-at-most}
+use Rattle.scope_core.proofs.schema.Schemas.{one-view-at-most}
 use Rattle.scope_core.proofs.catalog.known_relations.Goals as goal
 
 pub loop-name-preserved : goal.loop-name-preserved

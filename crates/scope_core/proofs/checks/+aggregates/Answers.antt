@@ -1,5 +1,5 @@
 use Rattle.std.proofs.Common.{arith}
-use Rattle.scope_core.proofs.Aggregates.{list_has-drop}
+use Rattle.scope_core.proofs.resolving.Aggregates.{list_has-drop}
 use Rattle.scope_core.proofs.checks.+aggregates.Goals as goal
 
 pub some_has_aggregate-returns-then-has_aggregate : goal.some_has_aggregate-returns-then-has_aggregate

@@ -2,8 +2,8 @@ use Rattle.std.proofs.Common.{◌≡◌, List, map, true, arith}
 use Rattle.std.specs.List.{list_any}
 use Rattle.sql_model.specs.Columns.{same_name}
 use Rattle.scope_core.specs.declared.heading.Heading.{Heading}
-use Rattle.scope_core.proofs.Lists.{at-head}
-use Rattle.scope_core.proofs.Columns.{cause-alias_twice}
+use Rattle.scope_core.proofs.basics.Lists.{at-head}
+use Rattle.scope_core.proofs.resolving.Columns.{cause-alias_twice}
 use Rattle.scope_core.proofs.checks.check_alias.Goals as goal
 
 pub returns-then-is_alias-clause-err : goal.returns-then-is_alias-clause-err

@@ -1,5 +1,5 @@
 use Rattle.std.proofs.Common.{arith}
-use Rattle.scope_core.proofs.Aggregates.{items_have-drop}
+use Rattle.scope_core.proofs.resolving.Aggregates.{items_have-drop}
 use Rattle.scope_core.proofs.checks.items_have_aggregate.Goals as goal
 
 pub returns-then-item_has_aggregate : goal.returns-then-item_has_aggregate

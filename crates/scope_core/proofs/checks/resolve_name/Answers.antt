@@ -3,8 +3,8 @@ use Rattle.std.specs.Prelude.{find}
 use Rattle.sql_model.specs.Columns.{same_name}
 use Rattle.scope_core.specs.declared.heading.Known.{Known}
 use Rattle.scope_core.specs.Lent.{relations_of}
-use Rattle.scope_core.proofs.Lists.{at-end}
-use Rattle.scope_core.proofs.Columns.{cause-unknown_table}
+use Rattle.scope_core.proofs.basics.Lists.{at-end}
+use Rattle.scope_core.proofs.resolving.Columns.{cause-unknown_table}
 use Rattle.scope_core.proofs.checks.resolve_name.Goals as goal
 
 pub returns-clause-err : goal.returns-clause-err

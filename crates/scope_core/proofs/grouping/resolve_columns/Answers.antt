@@ -3,9 +3,9 @@ use Rattle.scope_core.specs.Lent.{levels_of}
 use Rattle.scope_core.specs.Answer.{IsCause}
 use Rattle.scope_core.specs.Parts.{columns_fault, places_listed}
 use Rattle.scope_core.specs.Scope.{rows_level, group_place}
-use Rattle.scope_core.proofs.Lists.{walk-step, walk-end}
-use Rattle.scope_core.proofs.Walks.{fault-step, fault-here, handed_on}
-use Rattle.scope_core.proofs.Groups.{columns-drop, columns-past, places-cons, places-nil}
+use Rattle.scope_core.proofs.basics.Lists.{walk-step, walk-end}
+use Rattle.scope_core.proofs.resolving.Walks.{fault-step, fault-here, handed_on}
+use Rattle.scope_core.proofs.resolving.Groups.{columns-drop, columns-past, places-cons, places-nil}
 use Rattle.scope_core.proofs.grouping.resolve_columns.Goals as goal
 
 pub returns-in_err-place-clause-err : goal.returns-in_err-place-clause-err

@@ -1,6 +1,6 @@
 use Rattle.std.proofs.Common.{◌++◌, ◌∷◌, [], ap, ◌∙◌}
 use Rattle.scope_core.specs.Written.{written}
-use Rattle.scope_core.proofs.Written.{written-closed}
+use Rattle.scope_core.proofs.basics.Written.{written-closed}
 use Rattle.scope_core.proofs.items.closed.Goals as goal
 
 pub returns : goal.returns

@@ -6,8 +6,8 @@ use Rattle.sql_model.specs.Columns.{is_called}
 use Rattle.scope_core.specs.Faults.{count_called}
 use Rattle.scope_core.specs.Names.{occurrences}
 use Rattle.scope_core.specs.Scope.{bare_place}
-use Rattle.scope_core.proofs.Lists.{at-head}
-use Rattle.scope_core.proofs.Occurring.{bare-past, counts-here, counts-past, offered-by}
+use Rattle.scope_core.proofs.basics.Lists.{at-head}
+use Rattle.scope_core.proofs.basics.Occurring.{bare-past, counts-here, counts-past, offered-by}
 use Rattle.scope_core.proofs.level.find_bare.Goals as goal
 
 pub returns-else-seen-clause-twice : goal.returns-else-seen-clause-twice

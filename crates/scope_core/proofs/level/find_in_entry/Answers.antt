@@ -1,5 +1,5 @@
 use Rattle.std.proofs.Common.{sym, ◌∙◌}
-use Rattle.scope_core.proofs.Occurring.{entry-has, entry-lacks, entry-once}
+use Rattle.scope_core.proofs.basics.Occurring.{entry-has, entry-lacks, entry-once}
 use Rattle.scope_core.proofs.level.find_in_entry.Goals as goal
 
 pub returns-in-Some-clause-lacks : goal.returns-in-Some-clause-lacks

@@ -1,8 +1,8 @@
 use Rattle.std.proofs.Common.{◌++◌, ◌∷◌, [], ◌∙◌, ap}
 use Rattle.sql_model.specs.Headings.{source_columns}
 use Rattle.scope_core.specs.Lent.{entries_headings, headings_of}
-use Rattle.scope_core.proofs.Lists.{walk-step, walk-end}
-use Rattle.scope_core.proofs.Outputs.{entries_headings-cons, entries_headings-nil}
+use Rattle.scope_core.proofs.basics.Lists.{walk-step, walk-end}
+use Rattle.scope_core.proofs.resolving.Outputs.{entries_headings-cons, entries_headings-nil}
 use Rattle.scope_core.proofs.output.+output.Goals as goal
 
 pub entries_headings-loop-entry-preserved : goal.entries_headings-loop-entry-preserved

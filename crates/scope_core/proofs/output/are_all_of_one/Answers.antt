@@ -1,4 +1,4 @@
-use Rattle.scope_core.proofs.Outputs.{all-of-one}
+use Rattle.scope_core.proofs.resolving.Outputs.{all-of-one}
 use Rattle.scope_core.proofs.output.are_all_of_one.Goals as goal
 
 pub returns-then-headings-eq1-clause-all : goal.returns-then-headings-eq1-clause-all

@@ -1,7 +1,7 @@
 use Rattle.sql_model.specs.Headings.{item_columns}
 use Rattle.scope_core.specs.Lent.{list_columns}
-use Rattle.scope_core.proofs.Lists.{walk-step, walk-end}
-use Rattle.scope_core.proofs.Outputs.{list_columns-cons, list_columns-nil}
+use Rattle.scope_core.proofs.basics.Lists.{walk-step, walk-end}
+use Rattle.scope_core.proofs.resolving.Outputs.{list_columns-cons, list_columns-nil}
 use Rattle.scope_core.proofs.output.written_columns.Goals as goal
 
 pub loop-item-preserved : goal.loop-item-preserved

@@ -7,19 +7,19 @@ use Rattle.sql_model.specs.Headings.{Heading as TheHeading}
 use Rattle.scope_core.specs.FirstFault.{fault_at}
 use Rattle.scope_core.specs.Held.{columns_held}
 use Rattle.scope_core.specs.Sites.{AnAlias, Outputs}
-use Rattle.scope_core.proofs.Fronts.{entries_fault-cons, entries_fault-nil, entries_listed-cons, entries_listed-nil, items_fault-cons, items_fault-nil, items_listed-cons, items_listed-nil, length-items_listed, length-resolved_item, on_fault-cons, on_fault-nil, on_listed-cons, on_listed-nil, seen-apart, seen-joined, seen_by}
+use Rattle.scope_core.proofs.resolving.Fronts.{entries_fault-cons, entries_fault-nil, entries_listed-cons, entries_listed-nil, items_fault-cons, items_fault-nil, items_listed-cons, items_listed-nil, length-items_listed, length-resolved_item, on_fault-cons, on_fault-nil, on_listed-cons, on_listed-nil, seen-apart, seen-joined, seen_by}
 use Rattle.scope_core.specs.Scope.{AsRows, Level, headings_here, no_entry}
-use Rattle.scope_core.proofs.Outputs.{block_columns-fields, entries_headings-cons, entries_headings-nil, length-entries_headings}
+use Rattle.scope_core.proofs.resolving.Outputs.{block_columns-fields, entries_headings-cons, entries_headings-nil, length-entries_headings}
 use Rattle.scope_core.specs.Answer.{IsCause}
 use Rattle.scope_core.specs.Lent.{entries_headings, headings_of, levels_of, list_columns, relations_of}
 use Rattle.scope_core.specs.Parts.{conditions_listed, conjuncts_listed, entries_fault, entries_listed, items_fault, items_listed, on_fault, on_listed, truths_fault, values_fault, values_listed, written_fault, written_listed}
 use Rattle.scope_core.specs.Resolving.{conjunction, conjuncts, entry_of, resolved_item, resolved_source, resolved_value}
 use Rattle.scope_core.specs.declared.tree.RCond.TheVariants as condition
-use Rattle.scope_core.proofs.Bounds.{cause-behind, cause-low, cause-high, conjuncts-bounds, fine-behind, fine-bounds, tree-behind}
-use Rattle.scope_core.proofs.Lists.{at-head, at-end, between, walk-step, walk-end}
-use Rattle.scope_core.proofs.Walks.{cause-first, cause-same, cause-second, fault-step, fault-here, handed_on, no_value}
-use Rattle.scope_core.proofs.Values.{values-drop, values-past, trees-cons, trees-nil, operator-cause, operator-fine, operator-tree}
-use Rattle.scope_core.proofs.Conditions.{truths-drop, truths-past, conditions-cons, conditions-nil, conjuncts-cons, conjuncts-nil, conjuncts-single}
+use Rattle.scope_core.proofs.resolving.Bounds.{cause-behind, cause-low, cause-high, conjuncts-bounds, fine-behind, fine-bounds, tree-behind}
+use Rattle.scope_core.proofs.basics.Lists.{at-head, at-end, between, walk-step, walk-end}
+use Rattle.scope_core.proofs.resolving.Walks.{cause-first, cause-same, cause-second, fault-step, fault-here, handed_on, no_value}
+use Rattle.scope_core.proofs.resolving.Values.{values-drop, values-past, trees-cons, trees-nil, operator-cause, operator-fine, operator-tree}
+use Rattle.scope_core.proofs.resolving.Conditions.{truths-drop, truths-past, conditions-cons, conditions-nil, conjuncts-cons, conjuncts-nil, conjuncts-single}
 use Rattle.scope_core.proofs.resolution.+resolve.Goals as goal
 use Rattle.scope_core.proofs.resolution.+resolve.Goals.{blocks::add_on_conditions-then-not-entry, blocks::add_on_conditions-else-not-entry, values::resolve_values-in-Fun+in_ok-args-in-Fun, values::resolve_values-in_default+in_ok-value-in_default}
 

@@ -1,7 +1,7 @@
 use Rattle.std.proofs.Common.{◌++◌, ◌∷◌, [], ap, sym, ◌∙◌}
 use Rattle.scope_core.specs.declared.tree.RVal.TheVariants as v
 use Rattle.scope_core.specs.Runs.{columns_from}
-use Rattle.scope_core.proofs.Written.{columns_from-more}
+use Rattle.scope_core.proofs.basics.Written.{columns_from-more}
 use Rattle.scope_core.proofs.run.written_columns.Goals as goal
 
 pub loop-place-preserved : goal.loop-place-preserved

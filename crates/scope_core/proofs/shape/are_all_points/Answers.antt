@@ -2,7 +2,7 @@ use Rattle.std.proofs.Common.{ap, sym, ◌∙◌}
 use Rattle.std.specs.Prelude.{◌&&◌}
 use Rattle.std.specs.List.{list_all}
 use Rattle.scope_core.specs.Plain.{is_tree_point}
-use Rattle.scope_core.proofs.Written.{all-written}
+use Rattle.scope_core.proofs.basics.Written.{all-written}
 use Rattle.scope_core.proofs.shape.are_all_points.Goals as goal
 
 pub returns-then-are_parts_points : goal.returns-then-are_parts_points

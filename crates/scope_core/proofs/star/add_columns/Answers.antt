@@ -1,7 +1,7 @@
 use Rattle.std.proofs.Common.{◌≡◌, ◌++◌, ◌+◌, length, ap, sym, ◌∙◌, arith, append_assoc}
 use Rattle.scope_core.specs.Resolving.{entry_columns}
 use Rattle.scope_core.specs.Runs.{columns_from}
-use Rattle.scope_core.proofs.Written.{columns_from-more, entry_columns-are}
+use Rattle.scope_core.proofs.basics.Written.{columns_from-more, entry_columns-are}
 use Rattle.scope_core.proofs.star.add_columns.Goals as goal
 
 pub loop-first-preserved : goal.loop-first-preserved

@@ -10,9 +10,9 @@ use Rattle.scope_core.specs.Relations.{known_relation}
 use Rattle.scope_core.specs.Resolving.{resolved}
 use Rattle.scope_core.specs.Scope.{heading}
 use Rattle.scope_core.specs.ViewTrees.{trees_with}
-use Rattle.scope_core.proofs.Columns.{cause-memory}
-use Rattle.scope_core.proofs.Schemas.{names-cause, view-cause, view-fine}
-use Rattle.scope_core.proofs.Walks.{cause-same, handed_on}
+use Rattle.scope_core.proofs.resolving.Columns.{cause-memory}
+use Rattle.scope_core.proofs.schema.Schemas.{names-cause, view-cause, view-fine}
+use Rattle.scope_core.proofs.resolving.Walks.{cause-same, handed_on}
 use Rattle.scope_core.proofs.views.add_relation.Goals as goal
 
 pub returns-in_ok-push-in-Table-clause-known : goal.returns-in_ok-push-in-Table-clause-known

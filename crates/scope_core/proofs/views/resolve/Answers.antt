@@ -1,7 +1,7 @@
 use Rattle.std.proofs.Common.{ap, ◌∙◌}
 use Rattle.scope_core.specs.Lent.{relations_of}
-use Rattle.scope_core.proofs.FittingTrees.{call-fits}
-use Rattle.scope_core.proofs.Schemas.{call-plain, call-sound, call-symbols, call-value, call-well, call-wide, handed-cause}
+use Rattle.scope_core.proofs.schema.FittingTrees.{call-fits}
+use Rattle.scope_core.proofs.schema.Schemas.{call-plain, call-sound, call-symbols, call-value, call-well, call-wide, handed-cause}
 use Rattle.scope_core.proofs.views.resolve.Goals as goal
 
 pub returns-clause-well_formed : goal.returns-clause-well_formed

@@ -6,11 +6,11 @@ use Rattle.scope_core.specs.Fitting.{AreSoundViews, DoViewsFit}
 use Rattle.scope_core.specs.Lent.{relations_of}
 use Rattle.scope_core.specs.Literals.{TreeFits}
 use Rattle.scope_core.specs.ViewTrees.{view_trees, views_of}
-use Rattle.scope_core.proofs.FittingTrees as fitting
-use Rattle.scope_core.proofs.NoFault.{schema_fault-none}
-use Rattle.scope_core.proofs.SoundTrees.{views-sound}
-use Rattle.scope_core.proofs.SymbolLaws.{views-fit}
-use Rattle.scope_core.proofs.Walks.{cause-first, handed_on}
+use Rattle.scope_core.proofs.schema.FittingTrees as fitting
+use Rattle.scope_core.proofs.well_formed.NoFault.{schema_fault-none}
+use Rattle.scope_core.proofs.schema.SoundTrees.{views-sound}
+use Rattle.scope_core.proofs.trees.SymbolLaws.{views-fit}
+use Rattle.scope_core.proofs.resolving.Walks.{cause-first, handed_on}
 use Rattle.scope_core.proofs.views.resolve_views.Goals as goal
 
 pub returns-in_err-add_relation-clause-err : goal.returns-in_err-add_relation-clause-err

@@ -3,11 +3,11 @@ use Rattle.std.specs.Prelude.{IfOk, OnOk}
 use Rattle.u_terms.specs.declared.term.U.TheVariants as u
 use Rattle.std.specs.Option.{option_copied}
 use Rattle.scope_core.specs.declared.tree.RBlock.{out-RBlock}
-use Rattle.scope_core.proofs.Lists.{walk-step, walk-end}
+use Rattle.scope_core.proofs.basics.Lists.{walk-step, walk-end}
 use Rattle.sql_to_u.specs.TermLists.{condition_terms_listed, item_factors_listed, scope_within, source_terms_listed, terms_of, value_terms_listed}
 use Rattle.sql_to_u.specs.Translation.{condition_term, source_term, value_term}
-use Rattle.sql_to_u.proofs.TermLaws.{sources-step, sources-end, conditions-cons, conditions-nil, values-cons, values-nil, items_from, item-step, item-skip, item-end, part-step, part-end, view-there, view-past}
-use Rattle.sql_to_u.proofs.Weights.{condition-in, entry-in, value-in, first-in, part-in, last-in, values_left, view-weight, weights_of, block-is}
+use Rattle.sql_to_u.proofs.terms.TermLaws.{sources-step, sources-end, conditions-cons, conditions-nil, values-cons, values-nil, items_from, item-step, item-skip, item-end, part-step, part-end, view-there, view-past}
+use Rattle.sql_to_u.proofs.terms.Weights.{condition-in, entry-in, value-in, first-in, part-in, last-in, values_left, view-weight, weights_of, block-is}
 use Rattle.sql_to_u.proofs.building.+build.Goals as goal
 use Rattle.sql_to_u.proofs.building.+build.Goals.{value::add_values-then-index-row+in_ok-value_term+in_ok-right+in_ok-push, value::add_values-else-index-row}
 

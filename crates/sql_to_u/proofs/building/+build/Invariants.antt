@@ -2,7 +2,7 @@
 use Rattle.std.proofs.Common.{◌≡◌, ◌+◌, ◌++◌, drop, get_or}
 use Rattle.scope_core.specs.Written.{written}
 use Rattle.sql_to_u.specs.TermLists.{condition_terms_listed, item_factors_listed, scope_within, source_terms_listed, terms_of, value_terms_listed}
-use Rattle.sql_to_u.proofs.Weights.{argument_left, block_weight, condition_weight, conditions_left, entries_left, groups_left, having_left, joined_left, parts_left, query_weight, source_weight, value_weight, values_left, weights_of}
+use Rattle.sql_to_u.proofs.terms.Weights.{argument_left, block_weight, condition_weight, conditions_left, entries_left, groups_left, having_left, joined_left, parts_left, query_weight, source_weight, value_weight, values_left, weights_of}
 use Rattle.sql_to_u.proofs.building.+build.Given as goal
 
 abbrev pub decreases-block::query_term : goal.decreases-block::query_term

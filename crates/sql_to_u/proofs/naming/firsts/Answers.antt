@@ -1,6 +1,6 @@
 use Rattle.std.proofs.Common.{◌++◌, ◌+◌, drop, ap, ◌∙◌}
 use Rattle.sql_to_u.specs.TermLists.{firsts_listed}
-use Rattle.sql_to_u.proofs.FactorLaws.{firsts-step, firsts-end}
+use Rattle.sql_to_u.proofs.terms.FactorLaws.{firsts-step, firsts-end}
 use Rattle.sql_to_u.proofs.naming.firsts.Goals as goal
 
 pub loop-entry-preserved : goal.loop-entry-preserved

@@ -3,7 +3,7 @@ use Rattle.std.proofs.Common.{◌+◌, drop, length, ap, sym, arith, ◌∙◌}
 use Rattle.scope_core.proofs.tree.RVal.TheLaws.{the_size}
 use Rattle.sql_to_u.specs.Sizes.{condition_size, source_size, beside, both, with_factor, with_factors}
 use Rattle.sql_to_u.specs.Listed.{condition_sizes_listed, item_sizes_listed, row_sizes, source_sizes_listed}
-use Rattle.sql_to_u.proofs.SizeLaws.{sources-cons, sources-nil, conditions-cons, conditions-nil, factors-step, factors-end, items_from, item-step, item-skip, item-end, part-step, part-end, part-most, last-most, values-step, values-end}
+use Rattle.sql_to_u.proofs.sizes.SizeLaws.{sources-cons, sources-nil, conditions-cons, conditions-nil, factors-step, factors-end, items_from, item-step, item-skip, item-end, part-step, part-end, part-most, last-most, values-step, values-end}
 use Rattle.sql_to_u.proofs.sizing.+sizes.Goals.{value::add_values-in-Some, value::add_values-in_default}
 use Rattle.sql_to_u.proofs.sizing.+sizes.Goals as goal
 

@@ -4,7 +4,7 @@ use Rattle.shapes.specs.Tried.{IsPairing}
 use Rattle.term_shapes.proofs.WholeShapes.{shapes-whole}
 use Rattle.bag_search.specs.Answers.{Says}
 use Rattle.u_bag.specs.Matching.{IsMade, IsMatched}
-use Rattle.u_bag.proofs.Paired.{made-matched, not-paired}
+use Rattle.u_bag.proofs.pairing.Paired.{made-matched, not-paired}
 use Rattle.u_bag.proofs.blocks.match_shaped.Goals as goal
 
 pub made-requires-clause-paired : goal.made-requires-clause-paired

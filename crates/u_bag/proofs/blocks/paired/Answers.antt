@@ -6,8 +6,8 @@ use Rattle.u_bag.specs.Costs.{KeepsMeetingCosts}
 use Rattle.u_bag.specs.Meeting.{Turn}
 use Rattle.u_bag.specs.Order.{IsTurn}
 use Rattle.u_bag.specs.Shapes.{HasTooManySums}
-use Rattle.u_bag.proofs.Meets.{by-turn}
-use Rattle.u_bag.proofs.TurnedCosts.{pairing-costs}
+use Rattle.u_bag.proofs.pairing.Meets.{by-turn}
+use Rattle.u_bag.proofs.costs.TurnedCosts.{pairing-costs}
 use Rattle.u_bag.proofs.blocks.paired.Goals as goal
 
 pub meeting-requires-clause-few : goal.meeting-requires-clause-few

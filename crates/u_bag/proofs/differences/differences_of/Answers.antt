@@ -5,7 +5,7 @@ use denote.Ref.{Bor}
 use Rattle.u_terms.specs.Syntax.{U}
 use Rattle.u_rules.specs.Terms.{terms}
 use Rattle.u_bag.specs.Rows.{IsPlaceOf}
-use Rattle.u_bag.proofs.Splits.{split-left, split-right, disjoint-new, disjoint-same, split-at, split-new}
+use Rattle.u_bag.proofs.products.Splits.{split-left, split-right, disjoint-new, disjoint-same, split-at, split-new}
 use Rattle.u_bag.proofs.differences.differences_of.Goals as goal
 use Rattle.u_bag.proofs.differences.differences_of.Goals.{in-Some, in-None+in_ok-push-in-None}
 

@@ -1,5 +1,5 @@
 use Rattle.std.proofs.Common.{take}
-use Rattle.u_bag.proofs.Splits.{IsSplit, AreDisjoint}
+use Rattle.u_bag.proofs.products.Splits.{IsSplit, AreDisjoint}
 use Rattle.u_bag.proofs.differences.differences_of.Given as goal
 
 abbrev pub invariant-loop-factor : goal.invariant-loop-factor

@@ -4,7 +4,7 @@ use Rattle.std.proofs.lemmas.List.{length-map}
 use Rattle.std.proofs.lemmas.Option.{same_Some, slice_get_within}
 use Rattle.u_rules.specs.Terms.{terms}
 use Rattle.shape_entails.proofs.Turned.{last-or-later}
-use Rattle.u_bag.proofs.Marked.{term-here}
+use Rattle.u_bag.proofs.products.Marked.{term-here}
 use Rattle.u_bag.proofs.differences.place_of.Goals as goal
 
 pub returns-then-same : goal.returns-then-same

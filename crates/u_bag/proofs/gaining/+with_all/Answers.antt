@@ -2,8 +2,8 @@ use Rattle.std.proofs.Common.{◌-◌, take, drop, length, arith}
 use Rattle.std.proofs.lemmas.Result.{IfOk-weaker}
 use Rattle.u_rules.specs.Terms.{terms}
 use Rattle.u_bag.specs.Rows.{IsRowWith}
-use Rattle.u_bag.proofs.Gained.{all-gained, first-and-rest}
-use Rattle.u_bag.proofs.GainedCosts.{KeepsRowCosts, all-costs, both-ok}
+use Rattle.u_bag.proofs.products.Gained.{all-gained, first-and-rest}
+use Rattle.u_bag.proofs.costs.GainedCosts.{KeepsRowCosts, all-costs, both-ok}
 use Rattle.u_bag.proofs.gaining.+with_all.Goals as goal
 
 pub returns-in-Some-clause-leads : goal.returns-in-Some-clause-leads

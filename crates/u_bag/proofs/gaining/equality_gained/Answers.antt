@@ -1,8 +1,8 @@
 use Rattle.std.proofs.Common.{Some, ap, sym, ◌∙◌}
-use Rattle.u_entail.proofs.Parts.{left-known}
+use Rattle.u_entail.proofs.products.Parts.{left-known}
 use Rattle.u_rules.specs.Terms.{terms}
-use Rattle.u_bag.proofs.Marked.{not-appended}
-use Rattle.u_bag.proofs.GainedCosts.{equality-costs}
+use Rattle.u_bag.proofs.products.Marked.{not-appended}
+use Rattle.u_bag.proofs.costs.GainedCosts.{equality-costs}
 use Rattle.u_bag.proofs.gaining.equality_gained.Goals as goal
 
 pub append-requires-clause-a : goal.append-requires-clause-a

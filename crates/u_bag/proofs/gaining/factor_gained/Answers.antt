@@ -1,7 +1,7 @@
 use Rattle.std.proofs.lemmas.Result.{IfOk-weaker}
 use Rattle.u_rules.specs.Terms.{terms}
 use Rattle.u_bag.specs.Rows.{IsFactorGained, IsMarkGained}
-use Rattle.u_bag.proofs.Marked.{as-factor}
+use Rattle.u_bag.proofs.products.Marked.{as-factor}
 use Rattle.u_bag.proofs.gaining.factor_gained.Goals as goal
 
 pub returns-in_default-clause-leads : goal.returns-in_default-clause-leads

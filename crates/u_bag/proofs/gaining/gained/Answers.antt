@@ -4,8 +4,8 @@ use Rattle.u_bag.specs.declared.gaining.Row.{Row}
 use Rattle.u_terms.specs.Syntax.{U}
 use Rattle.u_rules.specs.Terms.{mul_leaves, terms}
 use Rattle.u_bag.specs.Rows.{GoesOn, IsRowWith}
-use Rattle.u_bag.proofs.Gained.{gains-on}
-use Rattle.u_bag.proofs.GainedCosts.{KeepsRowCosts, row-gains-costs}
+use Rattle.u_bag.proofs.products.Gained.{gains-on}
+use Rattle.u_bag.proofs.costs.GainedCosts.{KeepsRowCosts, row-gains-costs}
 use Rattle.u_bag.proofs.gaining.gained.Goals as goal
 
 pub returns-in-Some-clause-leads : goal.returns-in-Some-clause-leads

@@ -4,7 +4,7 @@ use Rattle.u_terms.specs.Syntax.{U}
 use Rattle.u_terms.specs.Products.{product_of}
 use Rattle.u_rules.specs.Terms.{mul_leaves, terms}
 use Rattle.u_moves.specs.Derivations.{IsKnown}
-use Rattle.u_bag.proofs.Factors.{row-known, row-leaves}
+use Rattle.u_bag.proofs.products.Factors.{row-known, row-leaves}
 use Rattle.u_bag.proofs.gaining.in_row.Goals as goal
 
 row-is : (c : goal.After-get) → c.get.result.now ≡ product_of (mul_leaves c.args.u.now)

@@ -1,8 +1,8 @@
 use Rattle.std.proofs.Common.{Some, arith, ap, sym, ◌∙◌}
 use Rattle.std.proofs.lemmas.List.{length-map}
 use Rattle.u_rules.specs.Terms.{terms}
-use Rattle.u_bag.proofs.Marked.{no-mark, copy-leads, no-copy, next-place, term-here}
-use Rattle.u_bag.proofs.GainedCosts.{mark-costs}
+use Rattle.u_bag.proofs.products.Marked.{no-mark, copy-leads, no-copy, next-place, term-here}
+use Rattle.u_bag.proofs.costs.GainedCosts.{mark-costs}
 use Rattle.u_bag.proofs.gaining.mark_gained.Goals as goal
 use Rattle.u_bag.proofs.gaining.mark_gained.Goals.{then-is_mark+in_ok-deriv+in_default, else-is_mark}
 

@@ -1,6 +1,6 @@
 use Rattle.std.proofs.lemmas.Result.{IfOk-weaker}
 use Rattle.u_bag.specs.Costs.{IsThreefold, MetCosts}
-use Rattle.u_bag.proofs.GainedCosts.{met-costs}
+use Rattle.u_bag.proofs.costs.GainedCosts.{met-costs}
 use Rattle.u_bag.proofs.gaining.met.Goals as goal
 
 pub returns-clause-costs : goal.returns-clause-costs

@@ -4,9 +4,9 @@ use Rattle.data_model.specs.Lists.{Each}
 use Rattle.u_rules.specs.Terms.{mul_leaves, terms}
 use Rattle.u_moves.specs.Derivations.{Derivation, IsKnown}
 use Rattle.u_bag.specs.Rows.{IsSingle, EntailsFactors, Gains, IsGaining}
-use Rattle.u_bag.proofs.Factors.{leaves-known, others-known}
-use Rattle.u_bag.proofs.Gained.{left-single, right-single, not-down, not-up, same-factors, differ}
-use Rattle.u_bag.proofs.GainedCosts.{KeepsGainCosts, products-cost}
+use Rattle.u_bag.proofs.products.Factors.{leaves-known, others-known}
+use Rattle.u_bag.proofs.products.Gained.{left-single, right-single, not-down, not-up, same-factors, differ}
+use Rattle.u_bag.proofs.costs.GainedCosts.{KeepsGainCosts, products-cost}
 use Rattle.u_bag.proofs.gaining.products_meet.Goals as goal
 
 pub gained-requires-clause-wanted : goal.gained-requires-clause-wanted

@@ -7,9 +7,9 @@ use Rattle.u_entail.specs.Sides.{AreFactors}
 use Rattle.u_entail.specs.Small.{AreBasic}
 use Rattle.u_bag.specs.Costs.{FactorCosts}
 use Rattle.u_terms.specs.Products.{product_of}
-use Rattle.u_bag.proofs.Factors.{each-known}
+use Rattle.u_bag.proofs.products.Factors.{each-known}
 use Rattle.u_moves.specs.Derivations.{IsKnown}
-use Rattle.u_bag.proofs.GainedCosts.{row-one}
+use Rattle.u_bag.proofs.costs.GainedCosts.{row-one}
 use Rattle.u_bag.proofs.gaining.with_one.Goals as goal
 
 pub factor_gained-requires-clause-factors : goal.factor_gained-requires-clause-factors

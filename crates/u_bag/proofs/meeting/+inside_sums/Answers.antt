@@ -1,5 +1,5 @@
 use Rattle.std.proofs.Common.{◌<◌, arith}
-use Rattle.u_bag.proofs.Meets.{inside-more}
+use Rattle.u_bag.proofs.pairing.Meets.{inside-more}
 use Rattle.u_bag.proofs.meeting.+inside_sums.Goals as goal
 
 pub returns-in-Sum : goal.returns-in-Sum

@@ -4,15 +4,15 @@ use Rattle.u_terms.specs.Binding.{closed_at, opened}
 use Rattle.u_rules.specs.Terms.{S}
 use Rattle.u_moves.specs.Derivations.{Derivation, IsKnown, IsSound}
 use Rattle.u_congruence.specs.Congruence.{IsFromTo}
-use Rattle.u_normal.proofs.KnownParts.{known-body, known-opened, body-again, to-known}
+use Rattle.u_normal.proofs.terms.KnownParts.{known-body, known-opened, body-again, to-known}
 use Rattle.std.proofs.lemmas.Result.{IfOk-weaker}
 use Rattle.u_bag.specs.Rows.{AreMet}
 use Rattle.u_bag.specs.Meeting.{GoesOutward, IsMeeting, IsMeetingAfter, IsMeetingInside, IsOutward}
-use Rattle.u_bag.proofs.Meets.{others-few, no-sums-left, by-end, by-still, by-outward, by-none}
+use Rattle.u_bag.proofs.pairing.Meets.{others-few, no-sums-left, by-end, by-still, by-outward, by-none}
 use Rattle.std.specs.Prelude.{IfSome}
 use Rattle.u_bag.specs.Costs.{KeepsMeetingCosts, KeepsMeetingCostsAfter, KeepsProductCosts, OutwardCosts}
-use Rattle.u_bag.proofs.GainedCosts.{if-some}
-use Rattle.u_bag.proofs.TurnedCosts.{at-end, first-turn, no-turn-costs, others-long, then-costs, turn-costs, under-costs}
+use Rattle.u_bag.proofs.costs.GainedCosts.{if-some}
+use Rattle.u_bag.proofs.costs.TurnedCosts.{at-end, first-turn, no-turn-costs, others-long, then-costs, turn-costs, under-costs}
 use Rattle.u_bag.proofs.meeting.+meeting.Goals as goal
 use Rattle.u_bag.proofs.meeting.+meeting.Goals.{meeting-in_default-via-in-Sum+in_default, meeting-in_default-via-in_default}
 

@@ -2,7 +2,7 @@ use Rattle.std.proofs.Common.{◌≡◌, ℕ, ◌+◌, sym, subst, arith}
 use Rattle.u_terms.specs.Syntax.{U}
 use Rattle.u_moves.specs.Derivations.{IsKnown}
 use Rattle.u_simple.proofs.Known.{known-inside}
-use Rattle.u_bag.proofs.TurnedCosts.{outward-costs}
+use Rattle.u_bag.proofs.costs.TurnedCosts.{outward-costs}
 use Rattle.u_bag.proofs.meeting.outward.Goals as goal
 
 pub sum_swap-requires-clause-f : goal.sum_swap-requires-clause-f

@@ -1,7 +1,7 @@
 use Rattle.std.proofs.Common.{ap, ◌∙◌}
 use Rattle.u_rules.specs.Terms.{mul_leaves, terms}
 use Rattle.u_bag.specs.Order.{rows_among}
-use Rattle.u_bag.proofs.Ordered.{all-sums, too-many}
+use Rattle.u_bag.proofs.pairing.Ordered.{all-sums, too-many}
 use Rattle.u_bag.proofs.order.atoms_of.Goals as goal
 
 pub returns-in_ok-rows-in-Some : goal.returns-in_ok-rows-in-Some

@@ -1,6 +1,6 @@
 use Rattle.std.proofs.Common.{ap, ◌∙◌}
 use Rattle.u_bag.specs.Order.{lent_rows}
-use Rattle.u_bag.proofs.Ordered.{atom-next, other-next}
+use Rattle.u_bag.proofs.pairing.Ordered.{atom-next, other-next}
 use Rattle.u_bag.proofs.order.rows_of.Goals as goal
 use Rattle.u_bag.proofs.order.rows_of.Goals.{in-Rel+in_ok-push, in_default}
 

@@ -3,7 +3,7 @@ use Rattle.std.specs.Prelude.{get_or}
 use Rattle.std.proofs.lemmas.Slice.Zip.{zip_turn, zip_end}
 use Rattle.u_terms.specs.declared.term.Val.TheVariants as v
 use Rattle.u_bag.specs.Order.{IsRowSent}
-use Rattle.u_bag.proofs.Ordered.{column-left, column-sent}
+use Rattle.u_bag.proofs.pairing.Ordered.{column-left, column-sent}
 use Rattle.u_bag.proofs.order.send_row.Goals as goal
 
 pub bounds-sources-to : goal.bounds-sources-to

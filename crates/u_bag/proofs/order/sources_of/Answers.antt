@@ -3,7 +3,7 @@ use Rattle.std.specs.Prelude.{get_or}
 use Rattle.std.proofs.lemmas.Slice.Zip.{zip_turn, zip_end}
 use Rattle.std.proofs.lemmas.List.{length-map}
 use Rattle.u_bag.specs.Order.{AreSent, IsRowSent, lent_rows}
-use Rattle.u_bag.proofs.Ordered.{entry-below, no-rows, row-below, row-one, row-sent, rows-long, written}
+use Rattle.u_bag.proofs.pairing.Ordered.{entry-below, no-rows, row-below, row-one, row-sent, rows-long, written}
 use Rattle.u_bag.proofs.order.sources_of.Goals as goal
 
 pub loop-row-init : goal.loop-row-init

@@ -5,7 +5,7 @@ use Rattle.term_shapes.specs.Factors.{sum_count, under_sums}
 use Rattle.shape_entails.specs.Values.{rows}
 use Rattle.u_bag.specs.Order.{AreAtoms, AreSent, AreTurnsAmong}
 use Rattle.u_bag.specs.Shapes.{HasTooManySums}
-use Rattle.u_bag.proofs.Ordered.{all-wanted, as-many, paired-rows, turn-among}
+use Rattle.u_bag.proofs.pairing.Ordered.{all-wanted, as-many, paired-rows, turn-among}
 use Rattle.u_bag.proofs.order.turns.Goals as goal
 
 pub returns-in_default-2 : goal.returns-in_default-2

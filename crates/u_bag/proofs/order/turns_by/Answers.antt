@@ -6,7 +6,7 @@ use Rattle.std.proofs.lemmas.Option.{slice_get_within}
 use Rattle.shape_entails.specs.Turning.{AreFound}
 use Rattle.shape_entails.proofs.Positions.{others-wait, wanted-waits}
 use Rattle.u_equal.specs.Standing.{IsIn}
-use Rattle.u_bag.proofs.Ordered.{next-turn}
+use Rattle.u_bag.proofs.pairing.Ordered.{next-turn}
 use Rattle.u_bag.proofs.order.turns_by.Goals as goal
 
 pub standing-before-requires-clause-waits : goal.standing-before-requires-clause-waits

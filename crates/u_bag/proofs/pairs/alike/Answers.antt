@@ -1,5 +1,5 @@
 use Rattle.std.proofs.Common.{sym, ◌∙◌, arith}
-use Rattle.u_bag.proofs.Partners.{alike-tables, same-tables}
+use Rattle.u_bag.proofs.pairing.Partners.{alike-tables, same-tables}
 use Rattle.u_bag.proofs.pairs.alike.Goals as goal
 
 pub returns-else-eq : goal.returns-else-eq

@@ -2,7 +2,7 @@ use Rattle.std.proofs.Common.{◌≡◌, None}
 use Rattle.std.proofs.lemmas.Option.{MatchOption-at_none, MatchOption-at_some}
 use Rattle.term_shapes.specs.TermShape.{term_shape}
 use Rattle.u_bag.specs.Pairs.{IsBlock}
-use Rattle.u_bag.proofs.SumBlocks.{next-block, term-in}
+use Rattle.u_bag.proofs.pairing.SumBlocks.{next-block, term-in}
 use Rattle.u_bag.proofs.pairs.blocks.Goals as goal
 
 pub loop-term-preserved : goal.loop-term-preserved

@@ -1,6 +1,6 @@
 use Rattle.std.proofs.Common.{sym, subst, ◌∙◌, arith}
 use Rattle.u_bag.specs.Pairs.{IsAnswer}
-use Rattle.u_bag.proofs.Partners.{apart-more}
+use Rattle.u_bag.proofs.pairing.Partners.{apart-more}
 use Rattle.u_bag.proofs.pairs.first_partner.Goals.{in-Nothing, in-Spent}
 use Rattle.u_bag.proofs.pairs.first_partner.Goals as goal
 

@@ -8,7 +8,7 @@ use Rattle.shapes.specs.Unions.{AllAlike, no_blocks}
 use Rattle.u_bag.specs.declared.pairs.Block.{Block}
 use Rattle.u_bag.specs.declared.pairs.Pair.{Pair}
 use Rattle.u_bag.specs.Pairs.{SomeSpendsBudget, IsFoundAmong, IsPartner, IsPartnerAt, IsOfWholeShape, lefts_of, rights_of, shapes_of, terms_of}
-use Rattle.u_bag.proofs.Partners.{alike-by, before-alike, all-among, all-here, all-left_over, first-left, next-alike, next-lefts, next-rights, no-partner}
+use Rattle.u_bag.proofs.pairing.Partners.{alike-by, before-alike, all-among, all-here, all-left_over, first-left, next-alike, next-lefts, next-rights, no-partner}
 use Rattle.u_bag.proofs.pairs.pair_all.Goals as goal
 
 pub loop-left-init : goal.loop-left-init

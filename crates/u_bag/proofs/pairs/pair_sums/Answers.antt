@@ -6,7 +6,7 @@ use Rattle.std.proofs.lemmas.Result.{IfOk-weaker}
 use Rattle.u_terms.specs.Syntax.{U}
 use Rattle.u_rules.specs.Terms.{add_leaves, terms}
 use Rattle.u_bag.specs.Pairs.{AreBlocks, AreFoundAmong, ArePartners, IsOfWholeShape, SomeShapeless}
-use Rattle.u_bag.proofs.SumBlocks.{are-whole, left-shapeless, pairable-long, partners-of, right-shapeless}
+use Rattle.u_bag.proofs.pairing.SumBlocks.{are-whole, left-shapeless, pairable-long, partners-of, right-shapeless}
 use Rattle.u_bag.proofs.pairs.pair_sums.Goals as goal
 
 pub returns-then-len : goal.returns-then-len

@@ -1,7 +1,7 @@
 use Rattle.std.proofs.Common.{ap, sym, subst, ◌∙◌}
 use Rattle.u_terms.specs.Syntax.{U}
 use Rattle.u_moves.specs.Derivations.{Derivation, IsKnown, IsSound, IsWithin}
-use Rattle.u_moves.proofs.Sound.{last-known, last-within}
+use Rattle.u_moves.proofs.derivations.Sound.{last-known, last-within}
 use Rattle.u_bag.proofs.regrouping.end_of.Goals as goal
 
 pub returns-clause-known : goal.returns-clause-known

@@ -1,7 +1,7 @@
 use Rattle.std.proofs.lemmas.Result.{IfOk-weaker}
 use Rattle.u_congruence.specs.Congruence.{IsSequence}
 use Rattle.u_bag.specs.Costs.{IsThreefold}
-use Rattle.u_bag.proofs.GainedCosts.{threefold}
+use Rattle.u_bag.proofs.costs.GainedCosts.{threefold}
 use Rattle.u_bag.proofs.regrouping.joined_by.Goals as goal
 
 pub returns-clause-costs : goal.returns-clause-costs

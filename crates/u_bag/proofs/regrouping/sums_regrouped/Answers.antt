@@ -4,7 +4,7 @@ use Rattle.u_terms.specs.Syntax.{U}
 use Rattle.u_moves.specs.Derivations.{IsStill}
 use Rattle.u_simple.specs.Steps.{IsOnePlainStep}
 use Rattle.u_bag.specs.Costs.{IsOneStepAtMost}
-use Rattle.u_bag.proofs.GainedCosts.{no-step, one-step}
+use Rattle.u_bag.proofs.costs.GainedCosts.{no-step, one-step}
 use Rattle.u_bag.proofs.regrouping.sums_regrouped.Goals as goal
 
 pub returns-in_ok-copied-clause-costs : goal.returns-in_ok-copied-clause-costs

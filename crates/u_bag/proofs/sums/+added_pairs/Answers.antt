@@ -5,14 +5,14 @@ use Rattle.std.proofs.lemmas.Option.{MatchOption-at_none}
 use Rattle.std.proofs.lemmas.Result.{IfOk-weaker}
 use Rattle.u_terms.specs.Syntax.{U}
 use Rattle.u_moves.specs.Derivations.{IsKnown}
-use Rattle.u_normal.proofs.KnownParts.{known-zero}
+use Rattle.u_normal.proofs.terms.KnownParts.{known-zero}
 use Rattle.u_bag.specs.declared.pairs.Pair.{Pair}
 use Rattle.u_bag.specs.Pairs.{HasPairing, lefts_of}
 use Rattle.u_bag.specs.Shapes.{SomeHasTooManySums}
 use Rattle.u_bag.specs.Sums.{IsFromPairs, IsKnownPair}
-use Rattle.u_bag.proofs.GainedCosts.{if-some}
-use Rattle.u_bag.proofs.Paired.{first-and-others, only-pair, others-too-many}
-use Rattle.u_bag.proofs.SumCosts.{beside-costs, no-pairs-costs, one-costs}
+use Rattle.u_bag.proofs.costs.GainedCosts.{if-some}
+use Rattle.u_bag.proofs.pairing.Paired.{first-and-others, only-pair, others-too-many}
+use Rattle.u_bag.proofs.costs.SumCosts.{beside-costs, no-pairs-costs, one-costs}
 use Rattle.u_bag.specs.Costs.{KeepsAddedCosts, KeepsPairingCosts}
 use Rattle.u_bag.proofs.sums.+added_pairs.Goals as goal
 

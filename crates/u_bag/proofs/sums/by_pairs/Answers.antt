@@ -3,11 +3,11 @@ use Rattle.std.proofs.lemmas.Option.{MatchOption-at_some}
 use Rattle.u_bag.specs.Pairs.{lefts_of}
 use Rattle.u_bag.specs.Shapes.{SomeHasTooManySums}
 use Rattle.u_bag.specs.Sums.{IsFromPairs}
-use Rattle.u_bag.proofs.Paired.{left-terms, pairs-known, right-terms}
+use Rattle.u_bag.proofs.pairing.Paired.{left-terms, pairs-known, right-terms}
 use Rattle.std.proofs.Common.{subst}
 use Rattle.std.specs.Prelude.{IfSome}
 use Rattle.u_bag.specs.Costs.{KeepsAddedCosts}
-use Rattle.u_bag.proofs.SumCosts.{pairs-cost}
+use Rattle.u_bag.proofs.costs.SumCosts.{pairs-cost}
 use Rattle.u_bag.proofs.sums.by_pairs.Goals as goal
 
 pub added_pairs-requires-clause-known : goal.added_pairs-requires-clause-known

@@ -3,7 +3,7 @@ use Rattle.std.proofs.lemmas.Result.{IfOk-weaker}
 use Rattle.u_rules.specs.Terms.{add_leaves}
 use Rattle.u_bag.specs.Pairs.{ArePairs, ArePartners}
 use Rattle.u_bag.specs.Sums.{AreMade, IsSumsMatch}
-use Rattle.u_bag.proofs.Paired.{made-sums}
+use Rattle.u_bag.proofs.pairing.Paired.{made-sums}
 use Rattle.u_bag.proofs.sums.match_sums.Goals as goal
 
 pub made-requires-clause-pairs : goal.made-requires-clause-pairs

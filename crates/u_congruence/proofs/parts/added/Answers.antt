@@ -5,7 +5,7 @@ use Rattle.u_rules.specs.Terms.{◌⊕◌}
 use Rattle.u_deriv.specs.declared.run.Run.TheVariants.{Right}
 use Rattle.u_moves.specs.Derivations.{Derivation, IsSound}
 use Rattle.u_moves.specs.Lifting.{IsMadeIn}
-use Rattle.u_moves.proofs.Whole.{if-ok}
+use Rattle.u_moves.proofs.derivations.Whole.{if-ok}
 use Rattle.u_congruence.specs.Congruence.{AreBeside, IsFromTo}
 use Rattle.u_congruence.proofs.Turned.{known-Add, part-add_left, made-add_left, part-add_right, made-add_right}
 use Rattle.u_congruence.proofs.Pairs.{pair-known, pair-left, pair-right, pair-shown, pair-costs}

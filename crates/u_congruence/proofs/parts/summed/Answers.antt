@@ -6,7 +6,7 @@ use Rattle.u_terms.specs.Binding.{closed_at}
 use Rattle.u_rules.specs.Terms.{S}
 use Rattle.u_moves.specs.Derivations.{Derivation, IsSound}
 use Rattle.u_moves.specs.Lifting.{IsMadeIn}
-use Rattle.u_moves.proofs.Whole.{if-ok}
+use Rattle.u_moves.proofs.derivations.Whole.{if-ok}
 use Rattle.u_deriv.specs.declared.run.Run.TheVariants.{Inside}
 use Rattle.std.proofs.Common.{[], ◌∷◌}
 use Rattle.u_congruence.specs.Congruence.{IsFromTo, IsOneDown}

@@ -7,8 +7,8 @@ use Rattle.u_rules.specs.declared.rule.Arg.TheVariants.{Term}
 use Rattle.u_rules.specs.Terms.{◌⊗◌}
 use Rattle.u_deriv.specs.Steps.{Replays, Rewrites, no_step}
 use Rattle.u_deriv.specs.Applying.{IsMade, Tells}
-use Rattle.u_deriv.proofs.StepHeights.{height-out, height-item}
-use Rattle.u_deriv.proofs.Applied.{made-by_proof, unfound, unproved, names-fit, deep-within, replays-more, replays-first, replays-result, square-shown, replayed-yes, tells-yes, tells-no}
+use Rattle.u_deriv.proofs.steps.StepHeights.{height-out, height-item}
+use Rattle.u_deriv.proofs.steps.Applied.{made-by_proof, unfound, unproved, names-fit, deep-within, replays-more, replays-first, replays-result, square-shown, replayed-yes, tells-yes, tells-no}
 use Rattle.u_deriv.proofs.applying.+make.Goals as goal
 
 pub make_by_proof-overflow_add-names : goal.make_by_proof-overflow_add-names

@@ -1,4 +1,4 @@
-use Rattle.u_deriv.proofs.Exchanges.{room-there, room-Zero, exchanged}
+use Rattle.u_deriv.proofs.editing.Exchanges.{room-there, room-Zero, exchanged}
 use Rattle.u_deriv.specs.declared.step.Step.{out-Step}
 use Rattle.u_terms.specs.declared.term.U.TheVariants as u
 use Rattle.u_deriv.proofs.applying.exchange.Goals as goal

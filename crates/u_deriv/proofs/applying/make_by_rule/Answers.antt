@@ -1,5 +1,5 @@
 use Rattle.std.proofs.Common.{refl}
-use Rattle.u_deriv.proofs.Applied.{made-by_rule}
+use Rattle.u_deriv.proofs.steps.Applied.{made-by_rule}
 use Rattle.u_deriv.proofs.applying.make_by_rule.Goals as goal
 
 pub returns : goal.returns

@@ -1,6 +1,6 @@
 use Rattle.std.proofs.Common.{◌≡◌, true, false, arith}
 use Rattle.u_deriv.specs.declared.step.Step.{out-Step}
-use Rattle.u_deriv.proofs.Applied.{forward-depth, backward-depth}
+use Rattle.u_deriv.proofs.steps.Applied.{forward-depth, backward-depth}
 use Rattle.u_deriv.proofs.applying.new_depth.Goals as goal
 
 pub returns-then-step : goal.returns-then-step

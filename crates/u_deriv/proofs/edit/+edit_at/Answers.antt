@@ -1,7 +1,7 @@
 use Rattle.std.proofs.Common.{◌≡◌, ◌+◌, ◌*◌, length, None, Some, refl, arith}
 use Rattle.std.specs.Prelude.{slice_get}
 use Rattle.std.proofs.lemmas.Option.{slice_get_past}
-use Rattle.u_deriv.proofs.Edited.{value_depth-got}
+use Rattle.u_deriv.proofs.editing.Edited.{value_depth-got}
 use Rattle.u_deriv.proofs.edit.+edit_at.Goals as goal
 
 pub edit_argument-edit_value-requires : goal.edit_argument-edit_value-requires

@@ -1,4 +1,4 @@
-use Rattle.u_deriv.proofs.Extents.{replaced-nodes, replaced-depth, replaced-at_root, replaced-in_square}
+use Rattle.u_deriv.proofs.contexts.Extents.{replaced-nodes, replaced-depth, replaced-at_root, replaced-in_square}
 use Rattle.u_deriv.proofs.laws.sizes_after_a_replacement.Goals as goal
 
 pub returns-clause-nodes : goal.returns-clause-nodes

@@ -1,5 +1,5 @@
 use Rattle.std.proofs.Common.{sym, arith}
-use Rattle.u_deriv.proofs.OutlinesAt.{outline-taken}
+use Rattle.u_deriv.proofs.steps.OutlinesAt.{outline-taken}
 use Rattle.u_deriv.proofs.outlines.+outline.Goals as goal
 
 pub outline_all-loop-value-preserved : goal.outline_all-loop-value-preserved

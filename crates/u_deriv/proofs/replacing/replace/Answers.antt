@@ -1,4 +1,4 @@
-use Rattle.u_deriv.proofs.Exchanges.{room-there, replaced, not_replaced}
+use Rattle.u_deriv.proofs.editing.Exchanges.{room-there, replaced, not_replaced}
 use Rattle.u_deriv.proofs.replacing.replace.Goals as goal
 
 pub edit_at-requires-clause-room : goal.edit_at-requires-clause-room

@@ -1,4 +1,4 @@
-use Rattle.u_deriv.proofs.Spent.{sizes-seen, names-seen}
+use Rattle.u_deriv.proofs.steps.Spent.{sizes-seen, names-seen}
 use Rattle.u_deriv.proofs.spending.measure_terms.Goals as goal
 
 pub returns-in-Some-clause-sizes : goal.returns-in-Some-clause-sizes

@@ -1,4 +1,4 @@
-use Rattle.u_deriv.proofs.Exchanges.{room-there, room-within, written}
+use Rattle.u_deriv.proofs.editing.Exchanges.{room-there, room-within, written}
 use Rattle.u_deriv.proofs.spending.put_term.Goals as goal
 
 pub edit_at-requires-clause-room : goal.edit_at-requires-clause-room

@@ -1,7 +1,7 @@
 use Rattle.std.proofs.Common.{◌+◌}
 use Rattle.u_terms.specs.Size.{depth}
 use Rattle.u_deriv.specs.declared.step.Step.{out-Step}
-use Rattle.u_deriv.proofs.Spent.{rearranged, left-room, right-room}
+use Rattle.u_deriv.proofs.steps.Spent.{rearranged, left-room, right-room}
 use Rattle.u_deriv.proofs.spending.rearrange.Goals as goal
 
 pub write-requires-clause-room : goal.write-requires-clause-room

@@ -3,7 +3,7 @@ use Rattle.std.proofs.lemmas.Result.{IfOk-weaker}
 use Rattle.u_terms.specs.Syntax.{U}
 use Rattle.u_rules.specs.Terms.{neg}
 use Rattle.u_entail.specs.Carrying.{IsMarkPaired}
-use Rattle.u_entail.proofs.Carried.{not-paired}
+use Rattle.u_entail.proofs.copies.Carried.{not-paired}
 use Rattle.u_entail.proofs.carrying.+push_mark.Goals as goal
 
 pub returns-in-Not-wanted : goal.returns-in-Not-wanted

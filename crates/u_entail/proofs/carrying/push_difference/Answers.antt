@@ -3,7 +3,7 @@ use Rattle.std.proofs.lemmas.Result.{IfOk-weaker}
 use Rattle.u_terms.specs.Syntax.{U}
 use Rattle.u_rules.specs.Terms.{neg}
 use Rattle.u_entail.specs.Carrying.{IsDifferencePaired}
-use Rattle.u_entail.proofs.Carried.{difference-paired}
+use Rattle.u_entail.proofs.copies.Carried.{difference-paired}
 use Rattle.u_entail.proofs.carrying.push_difference.Goals as goal
 
 pub returns-in-Not-wanted : goal.returns-in-Not-wanted

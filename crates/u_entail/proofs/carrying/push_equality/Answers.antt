@@ -3,7 +3,7 @@ use Rattle.std.proofs.lemmas.Result.{IfOk-weaker}
 use Rattle.u_terms.specs.Syntax.{U}
 use Rattle.u_rules.specs.Terms.{◌≐◌}
 use Rattle.u_entail.specs.Carrying.{IsPaired, IsMarkPaired}
-use Rattle.u_entail.proofs.Carried.{eq-paired}
+use Rattle.u_entail.proofs.copies.Carried.{eq-paired}
 use Rattle.u_entail.proofs.carrying.push_equality.Goals as goal
 
 pub returns-else-not-branch : goal.returns-else-not-branch

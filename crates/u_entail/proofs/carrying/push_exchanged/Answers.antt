@@ -1,5 +1,5 @@
 use Rattle.std.proofs.lemmas.Result.{IfOk-weaker}
-use Rattle.u_entail.proofs.Carried.{exchanged-paired}
+use Rattle.u_entail.proofs.copies.Carried.{exchanged-paired}
 use Rattle.u_entail.proofs.carrying.push_exchanged.Goals as goal
 
 pub returns-in-Eq : goal.returns-in-Eq

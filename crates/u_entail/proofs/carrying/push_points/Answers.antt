@@ -2,8 +2,8 @@ use Rattle.std.proofs.Common.{◌≡◌, ◌+◌, List, [], ◌∷◌, Bool, tru
 use Rattle.std.proofs.lemmas.List.{drop_all}
 use Rattle.u_terms.specs.Syntax.{Val}
 use Rattle.u_entail.specs.Carrying.{ArePaired, IsPaired}
-use Rattle.u_entail.proofs.Carried.{each-long, pairs-none, pairs-more, pairs-stopped}
-use Rattle.u_entail.proofs.Lists.{drop-item}
+use Rattle.u_entail.proofs.copies.Carried.{each-long, pairs-none, pairs-more, pairs-stopped}
+use Rattle.u_entail.proofs.products.Lists.{drop-item}
 use Rattle.u_entail.proofs.carrying.push_points.Goals as goal
 
 pub returns-then-xs-ys : goal.returns-then-xs-ys

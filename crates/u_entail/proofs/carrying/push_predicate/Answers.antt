@@ -3,7 +3,7 @@ use Rattle.std.proofs.lemmas.Result.{IfOk-weaker}
 use Rattle.u_terms.specs.Syntax.{U, Val}
 use Rattle.u_rules.specs.Terms.{P}
 use Rattle.u_entail.specs.Carrying.{IsMarkPaired}
-use Rattle.u_entail.proofs.Carried.{pred-paired}
+use Rattle.u_entail.proofs.copies.Carried.{pred-paired}
 use Rattle.u_entail.proofs.carrying.push_predicate.Goals as goal
 
 pub returns-else-symbol-other : goal.returns-else-symbol-other

@@ -4,8 +4,8 @@ use Rattle.u_terms.specs.Syntax.{U}
 use Rattle.u_equal.specs.Routes.{Course, IsFrom}
 use Rattle.u_entail.specs.declared.carrying.Pair.{Pair}
 use Rattle.u_entail.specs.Carrying.{LeadAlong}
-use Rattle.u_entail.proofs.Carried.{lead-none, lead-more, point-from}
-use Rattle.u_entail.proofs.Lists.{drop-item}
+use Rattle.u_entail.proofs.copies.Carried.{lead-none, lead-more, point-from}
+use Rattle.u_entail.proofs.products.Lists.{drop-item}
 use Rattle.u_entail.proofs.carrying.routes_of.Goals as goal
 
 pub loop-pair-preserved : goal.loop-pair-preserved

@@ -4,7 +4,7 @@ use Rattle.std.specs.Prelude.{count_by}
 use Rattle.u_rules.specs.Terms.{mul_leaves}
 use Rattle.u_equal.specs.Links.{is_equality}
 use Rattle.u_entail.specs.Carrying.{IsShortCourse}
-use Rattle.u_entail.proofs.Lists.{each-next}
+use Rattle.u_entail.proofs.products.Lists.{each-next}
 use Rattle.u_entail.proofs.carrying.sum_of_links.Goals as goal
 
 pub loop-route-preserved : goal.loop-route-preserved

@@ -4,9 +4,9 @@ use Rattle.u_terms.specs.Syntax.{U}
 use Rattle.u_rules.specs.Terms.{terms}
 use Rattle.u_entail.specs.Copies.{IsCopy}
 use Rattle.u_entail.specs.Marks.{IsMark}
-use Rattle.u_entail.proofs.Carried.{own-pairs, pairs-found}
-use Rattle.u_entail.proofs.Copied.{copy-at}
-use Rattle.u_entail.proofs.Doubled.{term-at}
+use Rattle.u_entail.proofs.copies.Carried.{own-pairs, pairs-found}
+use Rattle.u_entail.proofs.copies.Copied.{copy-at}
+use Rattle.u_entail.proofs.copies.Doubled.{term-at}
 use Rattle.u_entail.proofs.copying.copy_mark.Goals as goal
 
 pub copy_mark_between-requires-clause-at : goal.copy_mark_between-requires-clause-at

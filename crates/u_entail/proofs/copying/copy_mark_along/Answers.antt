@@ -7,7 +7,7 @@ use Rattle.u_entail.specs.declared.hops.Hop.{Hop}
 use Rattle.u_entail.specs.Carrying.{AlongCourses, LeadsEither, MarkCourse}
 use Rattle.u_entail.specs.Copies.{CopiesAlong}
 use Rattle.u_entail.specs.Gaining.{Begins}
-use Rattle.u_entail.proofs.Copied.{exchanged-copied, exchanged-lead, straight-copied, straight-lead}
+use Rattle.u_entail.proofs.copies.Copied.{exchanged-copied, exchanged-lead, straight-copied, straight-lead}
 use Rattle.u_entail.proofs.copying.copy_mark_along.Goals as goal
 
 pub copied_difference-requires-clause-lead : goal.copied_difference-requires-clause-lead

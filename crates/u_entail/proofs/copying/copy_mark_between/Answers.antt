@@ -5,8 +5,8 @@ use Rattle.u_rules.specs.Terms.{terms}
 use Rattle.u_entail.specs.declared.carrying.Pair.{Pair}
 use Rattle.u_entail.specs.declared.hops.Hop.{Hop}
 use Rattle.u_entail.specs.Carrying.{AlongPairs, AreEntailed, ArePairs, PairsEither}
-use Rattle.u_entail.proofs.Carried.{either-entailed}
-use Rattle.u_entail.proofs.Copied.{exchanged-by, exchanged-copy, straight-by, straight-copy}
+use Rattle.u_entail.proofs.copies.Carried.{either-entailed}
+use Rattle.u_entail.proofs.copies.Copied.{exchanged-by, exchanged-copy, straight-by, straight-copy}
 use Rattle.u_entail.proofs.copying.copy_mark_between.Goals as goal
 
 pub hops_between-requires : goal.hops_between-requires

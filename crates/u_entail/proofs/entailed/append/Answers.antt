@@ -1,5 +1,5 @@
 use Rattle.std.proofs.Common.{Some, refl, ap, sym, ◌∙◌}
-use Rattle.u_entail.proofs.Chained.{no-chain, the-chain}
+use Rattle.u_entail.proofs.chains.Chained.{no-chain, the-chain}
 use Rattle.u_entail.proofs.entailed.append.Goals as goal
 
 pub returns-in-None : goal.returns-in-None

@@ -4,7 +4,7 @@ use Rattle.u_rules.specs.Terms.{terms}
 use Rattle.u_equal.specs.declared.link.Link.{Link}
 use Rattle.u_equal.specs.Routes.{AreCounted, IsChain}
 use Rattle.u_equal.specs.Standing.{standing}
-use Rattle.u_entail.proofs.Along.{along, course-by}
+use Rattle.u_entail.proofs.chains.Along.{along, course-by}
 use Rattle.u_entail.proofs.entailed.append_along.Goals as goal
 
 pub appended-requires-clause-leads : goal.appended-requires-clause-leads

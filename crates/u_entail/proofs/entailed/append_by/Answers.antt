@@ -1,7 +1,7 @@
 use Rattle.std.proofs.Common.{length}
 use Rattle.u_rules.specs.Terms.{terms}
 use Rattle.u_equal.specs.Standing.{standing}
-use Rattle.u_entail.proofs.Along.{appends-by, chain-by}
+use Rattle.u_entail.proofs.chains.Along.{appends-by, chain-by}
 use Rattle.u_entail.proofs.entailed.append_by.Goals as goal
 
 pub appended-requires-clause-leads : goal.appended-requires-clause-leads

@@ -3,7 +3,7 @@ use Rattle.u_rules.specs.Terms.{mul_leaves, terms}
 use Rattle.u_entail.specs.declared.hops.Hop.{Hop}
 use Rattle.u_entail.specs.Gaining.{right_side}
 use Rattle.u_entail.specs.Hops.{AreHops}
-use Rattle.u_entail.proofs.Chained.{all-leaves, are-factors, hops-lead, derives}
+use Rattle.u_entail.proofs.chains.Chained.{all-leaves, are-factors, hops-lead, derives}
 use Rattle.u_entail.proofs.entailed.derive_by.Goals as goal
 
 pub derived-requires-clause-factors : goal.derived-requires-clause-factors

@@ -5,8 +5,8 @@ use Rattle.u_equal.specs.declared.link.Link.{Link}
 use Rattle.u_equal.specs.declared.link.Link.TheVariants as link
 use Rattle.u_entail.specs.declared.hops.Hop.{Hop}
 use Rattle.u_entail.specs.Hops.{AreHops, ArePairHops, PushesHops, PushesPairHops}
-use Rattle.u_entail.proofs.Flat.{hops-none, hops-more, given-hops, call-hops, pairs-none, pairs-more, pushed-as, pairs-pushed-as, regrouped-hops}
-use Rattle.u_entail.proofs.Lists.{drop-item}
+use Rattle.u_entail.proofs.chains.Flat.{hops-none, hops-more, given-hops, call-hops, pairs-none, pairs-more, pushed-as, pairs-pushed-as, regrouped-hops}
+use Rattle.u_entail.proofs.products.Lists.{drop-item}
 use Rattle.u_entail.proofs.hops.+flatten.Goals as goal
 
 pub push_hops-loop-link-preserved : goal.push_hops-loop-link-preserved

@@ -3,8 +3,8 @@ use Rattle.std.proofs.lemmas.List.{append-nil, drop_all}
 use Rattle.u_equal.specs.Routes.{Course}
 use Rattle.u_entail.specs.declared.hops.Hop.{Hop}
 use Rattle.u_entail.specs.Carrying.{AlongCourses}
-use Rattle.u_entail.proofs.Carried.{along-none, along-more}
-use Rattle.u_entail.proofs.Lists.{drop-item}
+use Rattle.u_entail.proofs.copies.Carried.{along-none, along-more}
+use Rattle.u_entail.proofs.products.Lists.{drop-item}
 use Rattle.u_entail.proofs.hops.hops_along.Goals as goal
 
 pub loop-k-preserved : goal.loop-k-preserved

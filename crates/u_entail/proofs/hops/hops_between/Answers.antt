@@ -3,8 +3,8 @@ use Rattle.std.proofs.lemmas.List.{append-nil, drop_all}
 use Rattle.u_entail.specs.declared.carrying.Pair.{Pair}
 use Rattle.u_entail.specs.declared.hops.Hop.{Hop}
 use Rattle.u_entail.specs.Carrying.{AlongPairs}
-use Rattle.u_entail.proofs.Carried.{pairs-along-none, pairs-along-more}
-use Rattle.u_entail.proofs.Lists.{drop-item}
+use Rattle.u_entail.proofs.copies.Carried.{pairs-along-none, pairs-along-more}
+use Rattle.u_entail.proofs.products.Lists.{drop-item}
 use Rattle.u_entail.proofs.hops.hops_between.Goals as goal
 
 pub loop-k-preserved : goal.loop-k-preserved

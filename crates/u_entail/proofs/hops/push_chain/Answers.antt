@@ -1,6 +1,6 @@
 use Rattle.std.proofs.Common.{Some, refl, ap, sym, ◌∙◌}
 use Rattle.std.proofs.lemmas.Result.{on_ok_weaker}
-use Rattle.u_entail.proofs.Chained.{the-chain}
+use Rattle.u_entail.proofs.chains.Chained.{the-chain}
 use Rattle.u_entail.proofs.hops.push_chain.Goals as goal
 
 pub returns : goal.returns

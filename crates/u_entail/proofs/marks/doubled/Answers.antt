@@ -3,7 +3,7 @@ use Rattle.std.proofs.lemmas.Result.{IfOk-weaker}
 use Rattle.u_terms.specs.Syntax.{U}
 use Rattle.u_terms.specs.Places.{IsClosed}
 use Rattle.u_rules.specs.Terms.{◌⊗◌}
-use Rattle.u_entail.proofs.Doubled.{doubled, squash-closed}
+use Rattle.u_entail.proofs.copies.Doubled.{doubled, squash-closed}
 use Rattle.u_entail.proofs.marks.doubled.Goals as goal
 
 pub then_behind-requires-clause-facts : goal.then_behind-requires-clause-facts

@@ -1,7 +1,7 @@
 use Rattle.std.proofs.Common.{◌≡◌, sym, ◌∙◌, subst}
 use Rattle.u_rules.specs.Terms.{P, neg}
 use Rattle.u_moves.specs.Derivations.{IsKnown}
-use Rattle.u_entail.proofs.Doubled.{inside-known, points-known}
+use Rattle.u_entail.proofs.copies.Doubled.{inside-known, points-known}
 use Rattle.u_entail.proofs.marks.unsquashed.Goals as goal
 
 pub sq_pred-requires : goal.sq_pred-requires

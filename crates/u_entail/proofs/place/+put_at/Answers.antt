@@ -4,7 +4,7 @@ use Rattle.u_terms.specs.declared.term.U.TheVariants as u
 use Rattle.u_terms.specs.Size.{nodes}
 use Rattle.u_terms.proofs.Sizes.{nodes-Not}
 use Rattle.u_entail.specs.Spots.{HasSpot, IsPut}
-use Rattle.u_entail.proofs.Placed.{pred-spot, pred-put, not-spot, not-put, no-mark}
+use Rattle.u_entail.proofs.substitution.Placed.{pred-spot, pred-put, not-spot, not-put, no-mark}
 use Rattle.u_entail.proofs.place.+put_at.Goals as goal
 
 pub put_in_points-requires : goal.put_in_points-requires

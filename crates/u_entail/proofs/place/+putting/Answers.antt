@@ -5,7 +5,7 @@ use Rattle.std.proofs.lemmas.Result.{IfOk-weaker}
 use Rattle.u_terms.specs.Syntax.{Val}
 use Rattle.u_terms.specs.declared.term.Val.TheVariants as v
 use Rattle.u_entail.specs.Spots.{HasValueSpot, IsValuePut}
-use Rattle.u_entail.proofs.Placed.{nothing-left, no-call, call-spot, call-put}
+use Rattle.u_entail.proofs.substitution.Placed.{nothing-left, no-call, call-spot, call-put}
 use Rattle.u_entail.proofs.place.+putting.Goals as goal
 
 not-empty : (b : Bool) (place : List ℕ) → b ≡ (length place == 0) → b ≡ false → place ≡ [] → ⊥

@@ -2,7 +2,7 @@ use Rattle.std.proofs.Common.{◌≡◌, ◌∷◌, ◌-◌, List, ℕ, length, 
 use Rattle.std.specs.Prelude.{slice_index_or}
 use Rattle.u_terms.specs.declared.term.U.TheVariants as u
 use Rattle.u_entail.specs.Spots.{HasSpot, IsPut}
-use Rattle.u_entail.proofs.Placed.{sides-some, left-spot, right-spot, left-put, right-put, first-and-rest}
+use Rattle.u_entail.proofs.substitution.Placed.{sides-some, left-spot, right-spot, left-put, right-put, first-and-rest}
 use Rattle.u_entail.proofs.place.put_in_sides.Goals as goal
 
 pub bounds-place-0 : goal.bounds-place-0

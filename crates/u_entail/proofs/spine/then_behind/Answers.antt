@@ -1,6 +1,6 @@
 use Rattle.std.proofs.lemmas.Result.{IfOk-weaker}
 use Rattle.u_rules.specs.Terms.{terms}
-use Rattle.u_entail.proofs.Behind.{part-behind, made-behind, at-terms}
+use Rattle.u_entail.proofs.products.Behind.{part-behind, made-behind, at-terms}
 use Rattle.u_entail.proofs.spine.then_behind.Goals as goal
 
 pub then_under-requires-clause-part : goal.then_under-requires-clause-part

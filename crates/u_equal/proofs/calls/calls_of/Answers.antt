@@ -5,8 +5,8 @@ use Rattle.u_terms.specs.Syntax.{Val}
 use Rattle.u_terms.specs.declared.term.Val.TheVariants as v
 use Rattle.u_equal.specs.declared.calls.Call.{Call}
 use Rattle.u_equal.specs.Tables.{AreIn, ArePlaces, IsCall}
-use Rattle.u_equal.proofs.KeyLaws.{only-first}
-use Rattle.u_equal.proofs.Listed.{calls-are, calls-all, calls-other}
+use Rattle.u_equal.proofs.products.KeyLaws.{only-first}
+use Rattle.u_equal.proofs.products.Listed.{calls-are, calls-all, calls-other}
 use Rattle.u_equal.proofs.calls.calls_of.Goals as goal
 use Rattle.u_equal.proofs.calls.calls_of.Goals.{in-Fun+in_ok-places_of+in_ok-push, in_default}
 

@@ -2,7 +2,7 @@ use Rattle.std.proofs.Common.{◌≡◌, ◌+◌, List, ℕ, [], ◌∷◌, ◌+
 use Rattle.std.proofs.lemmas.List.{take_more, take_all}
 use Rattle.u_terms.specs.Syntax.{Val}
 use Rattle.u_equal.specs.Tables.{ArePlaces}
-use Rattle.u_equal.proofs.Listed.{places-more}
+use Rattle.u_equal.proofs.products.Listed.{places-more}
 use Rattle.u_equal.proofs.calls.places_of.Goals as goal
 
 pub loop-value-preserved : goal.loop-value-preserved

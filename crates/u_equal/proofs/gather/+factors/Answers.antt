@@ -1,7 +1,7 @@
 use Rattle.std.proofs.Common.{length, ap, arith}
 use Rattle.std.proofs.lemmas.Grind.{common_steps}
 use Rattle.std.proofs.lemmas.List.{length-append}
-use Rattle.u_rules.proofs.LeavesAt.{mul_leaves-leaf, gathering}
+use Rattle.u_rules.proofs.multisets.LeavesAt.{mul_leaves-leaf, gathering}
 use Rattle.u_equal.proofs.gather.+factors.Goals as goal
 
 pub returns-in-Mul : goal.returns-in-Mul

@@ -1,4 +1,4 @@
-use Rattle.u_equal.proofs.Entailed.{leads-entail, each-entail, distance-entails}
+use Rattle.u_equal.proofs.entailment.Entailed.{leads-entail, each-entail, distance-entails}
 use Rattle.u_equal.proofs.laws.links_lead_to_what_is_entailed.Goals as goal
 
 pub returns-clause-value : goal.returns-clause-value

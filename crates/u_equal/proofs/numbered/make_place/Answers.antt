@@ -1,6 +1,6 @@
 use Rattle.std.proofs.Common.{Bool, List, ap, ◌∙◌}
 use Rattle.u_equal.specs.Numbered.{mark_at}
-use Rattle.u_equal.proofs.Added.{same-marks}
+use Rattle.u_equal.proofs.congruence.Added.{same-marks}
 use Rattle.u_equal.proofs.numbered.make_place.Goals as goal
 
 pub loop-marks-preserved : goal.loop-marks-preserved

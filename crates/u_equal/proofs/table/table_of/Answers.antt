@@ -1,6 +1,6 @@
 use Rattle.std.proofs.Common.{arith}
 use Rattle.std.proofs.lemmas.List.{length-map}
-use Rattle.u_equal.proofs.Listed.{table-all, table-only, table-once, table-few, within-all}
+use Rattle.u_equal.proofs.products.Listed.{table-all, table-only, table-once, table-few, within-all}
 use Rattle.u_equal.proofs.table.table_of.Goals as goal
 
 pub loop-value-preserved : goal.loop-value-preserved

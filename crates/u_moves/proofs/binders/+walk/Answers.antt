@@ -1,8 +1,8 @@
 use Rattle.std.proofs.Common.{◌≡◌, ◌+◌, ◌*◌, length, Some, sym, arith}
 use Rattle.std.specs.Prelude.{slice_get}
-use Rattle.u_deriv.proofs.Edited.{value_depth-got}
+use Rattle.u_deriv.proofs.editing.Edited.{value_depth-got}
 use Rattle.u_terms.proofs.Sizes.{depth-positive}
-use Rattle.u_moves.proofs.Depths.{value_depth-positive}
+use Rattle.u_moves.proofs.contexts.Depths.{value_depth-positive}
 use Rattle.u_moves.proofs.binders.+walk.Goals as goal
 
 pub walk-next-requires-in_default : goal.walk-next-requires-in_default

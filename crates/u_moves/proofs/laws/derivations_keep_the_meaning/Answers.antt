@@ -1,4 +1,4 @@
-use Rattle.u_moves.proofs.Sound.{last-known}
+use Rattle.u_moves.proofs.derivations.Sound.{last-known}
 use Rattle.u_moves.proofs.laws.derivations_keep_the_meaning.Goals as goal
 
 pub returns-clause-last : goal.returns-clause-last

@@ -1,4 +1,4 @@
-use Rattle.u_moves.proofs.Showing.{term-within}
+use Rattle.u_moves.proofs.derivations.Showing.{term-within}
 use Rattle.u_moves.proofs.laws.derivations_replay.Goals as goal
 
 pub returns-clause-within : goal.returns-clause-within

@@ -1,5 +1,5 @@
 use Rattle.std.proofs.Common.{arith}
-use Rattle.u_moves.proofs.Paths.{pushed-next}
+use Rattle.u_moves.proofs.contexts.Paths.{pushed-next}
 use Rattle.u_moves.proofs.lifting.copied.Goals as goal
 
 pub loop-run-preserved : goal.loop-run-preserved

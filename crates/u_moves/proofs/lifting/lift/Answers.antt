@@ -1,5 +1,5 @@
 use Rattle.u_moves.specs.Lifting.{lifted_step}
-use Rattle.u_moves.proofs.Items.{one-changed}
+use Rattle.u_moves.proofs.contexts.Items.{one-changed}
 use Rattle.u_moves.proofs.lifting.lift.Goals as goal
 
 pub loop-step-preserved : goal.loop-step-preserved

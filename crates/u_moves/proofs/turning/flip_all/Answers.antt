@@ -1,5 +1,5 @@
 use Rattle.u_moves.specs.Turning.{flipped}
-use Rattle.u_moves.proofs.Items.{one-changed}
+use Rattle.u_moves.proofs.contexts.Items.{one-changed}
 use Rattle.u_moves.proofs.turning.flip_all.Goals as goal
 
 pub loop-step-preserved : goal.loop-step-preserved

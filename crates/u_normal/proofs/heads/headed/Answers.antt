@@ -1,6 +1,6 @@
 use Rattle.std.proofs.Common.{None}
-use Rattle.u_normal.proofs.Takings.{found-some, found-none}
-use Rattle.u_normal.proofs.Finishes.{none-kinds}
+use Rattle.u_normal.proofs.products.Takings.{found-some, found-none}
+use Rattle.u_normal.proofs.products.Finishes.{none-kinds}
 use Rattle.u_normal.proofs.heads.headed.Goals as goal
 
 pub over_taken-requires-clause-taken : goal.over_taken-requires-clause-taken

@@ -2,14 +2,14 @@ use Rattle.std.proofs.Common.{◌≡◌, ◌+◌, refl, ap, sym, subst, ◌∙�
 use Rattle.u_terms.specs.Syntax.{U}
 use Rattle.u_rules.specs.Terms.{◌⊗◌, ◌⊕◌, O, S}
 use Rattle.u_moves.specs.Derivations.{IsKnown}
-use Rattle.u_moves.proofs.Whole.{if-ok}
+use Rattle.u_moves.proofs.derivations.Whole.{if-ok}
 use Rattle.u_congruence.specs.Congruence.{IsFromTo}
 use Rattle.u_normal.specs.Leading.{Leads}
 use Rattle.u_normal.specs.Taking.{load}
 use Rattle.u_normal.specs.Heads.{IsHeaded}
-use Rattle.u_normal.proofs.KnownParts.{known-left, known-right, known-body}
-use Rattle.u_normal.proofs.Led.{leads-to}
-use Rattle.u_normal.proofs.Finishes.{headed-Zero, headed-Add, headed-Sum}
+use Rattle.u_normal.proofs.terms.KnownParts.{known-left, known-right, known-body}
+use Rattle.u_normal.proofs.derivations.Led.{leads-to}
+use Rattle.u_normal.proofs.products.Finishes.{headed-Zero, headed-Add, headed-Sum}
 use Rattle.u_normal.proofs.heads.over_part.Goals as goal
 
 pub distributed-requires-clause-a : goal.distributed-requires-clause-a

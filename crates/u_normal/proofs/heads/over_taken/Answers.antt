@@ -3,16 +3,16 @@ use Rattle.std.specs.Prelude.{IsPermutation}
 use Rattle.u_terms.specs.Syntax.{U}
 use Rattle.u_rules.specs.Terms.{◌⊗◌, mul_leaves}
 use Rattle.u_moves.specs.Derivations.{IsKnown}
-use Rattle.u_moves.proofs.Whole.{if-ok}
+use Rattle.u_moves.proofs.derivations.Whole.{if-ok}
 use Rattle.u_congruence.specs.Congruence.{IsFromTo}
 use Rattle.u_congruence.proofs.Turned.{known-Mul}
 use Rattle.u_normal.specs.Leading.{Leads}
 use Rattle.u_normal.specs.Taking.{load}
 use Rattle.u_normal.specs.Heads.{IsSumOrZero, IsHeaded}
-use Rattle.u_normal.proofs.KnownParts.{rest-known, part-known}
-use Rattle.u_normal.proofs.Led.{leads-to}
-use Rattle.u_normal.proofs.Takings.{taken-leaves, taken-load, taken-not_one, taken-not_more}
-use Rattle.u_normal.proofs.Finishes.{sum-or_zero}
+use Rattle.u_normal.proofs.terms.KnownParts.{rest-known, part-known}
+use Rattle.u_normal.proofs.derivations.Led.{leads-to}
+use Rattle.u_normal.proofs.products.Takings.{taken-leaves, taken-load, taken-not_one, taken-not_more}
+use Rattle.u_normal.proofs.products.Finishes.{sum-or_zero}
 use Rattle.u_normal.proofs.heads.over_taken.Goals as goal
 
 pub regrouped-requires-clause-known_to : goal.regrouped-requires-clause-known_to

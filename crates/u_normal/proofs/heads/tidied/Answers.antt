@@ -3,7 +3,7 @@ use Rattle.u_terms.specs.Syntax.{U}
 use Rattle.u_terms.specs.Products.{product_of}
 use Rattle.u_rules.specs.Terms.{mul_leaves}
 use Rattle.u_moves.specs.Derivations.{Derivation, IsKnown, IsSound}
-use Rattle.u_moves.proofs.Whole.{if-ok}
+use Rattle.u_moves.proofs.derivations.Whole.{if-ok}
 use Rattle.normal_form.specs.Kinds.{ordered}
 use Rattle.u_congruence.specs.Congruence.{IsFromTo, IsBy}
 use Rattle.u_normal.specs.declared.merging.Wrap.TheVariants as wrap
@@ -11,9 +11,9 @@ use Rattle.u_normal.specs.Leading.{Leads}
 use Rattle.u_normal.specs.Taking.{load}
 use Rattle.u_normal.specs.Merging.{IsMerged}
 use Rattle.u_normal.specs.Heads.{IsHeaded}
-use Rattle.u_normal.proofs.KnownParts.{to-known}
-use Rattle.u_normal.proofs.Led.{leads-to}
-use Rattle.u_normal.proofs.Finishes.{tidied-headed}
+use Rattle.u_normal.proofs.terms.KnownParts.{to-known}
+use Rattle.u_normal.proofs.derivations.Led.{leads-to}
+use Rattle.u_normal.proofs.products.Finishes.{tidied-headed}
 use Rattle.u_normal.proofs.heads.tidied.Goals as goal
 
 pub merged-requires-2-clause-known : goal.merged-requires-2-clause-known

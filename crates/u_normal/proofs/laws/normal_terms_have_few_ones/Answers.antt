@@ -1,4 +1,4 @@
-use Rattle.u_normal.proofs.FewOnes.{normal-few, normal-blocks_few, normal-sizes}
+use Rattle.u_normal.proofs.costs.FewOnes.{normal-few, normal-blocks_few, normal-sizes}
 use Rattle.u_normal.proofs.laws.normal_terms_have_few_ones.Goals as goal
 
 pub returns-clause-whole : goal.returns-clause-whole

@@ -1,4 +1,4 @@
-use Rattle.u_normal.proofs.NormalCosts.{normal-steps, normal-nodes, normal-depth, normal-bytes}
+use Rattle.u_normal.proofs.costs.NormalCosts.{normal-steps, normal-nodes, normal-depth, normal-bytes}
 use Rattle.u_normal.proofs.laws.sums_become_normal_within_costs.Goals as goal
 
 pub returns-clause-steps : goal.returns-clause-steps

@@ -1,6 +1,6 @@
 use Rattle.std.proofs.Common.{arith}
 use Rattle.u_normal.specs.Limits.{for_any, for_most}
-use Rattle.u_normal.proofs.Largeness.{spreads}
+use Rattle.u_normal.proofs.terms.Largeness.{spreads}
 use Rattle.std.proofs.Common.{refl}
 use Rattle.u_normal.proofs.limits.room_for.Goals as goal
 

@@ -1,6 +1,6 @@
 use Rattle.normal_form.specs.NormalTerms.{IsNormal}
 use Rattle.u_normal.specs.Rooms.{InRoom}
-use Rattle.u_normal.proofs.Largeness.{too-large, shapeless-keeps}
+use Rattle.u_normal.proofs.terms.Largeness.{too-large, shapeless-keeps}
 use Rattle.u_normal.proofs.limits.unshaped.Goals as goal
 
 pub returns-in-Some-clause-large : goal.returns-in-Some-clause-large

@@ -4,7 +4,7 @@ use Rattle.u_moves.specs.Derivations.{Derivation, IsKnown, IsSound}
 use Rattle.u_congruence.specs.Congruence.{IsBy}
 use Rattle.u_normal.specs.Taking.{load}
 use Rattle.u_normal.specs.Merging.{HasKinds}
-use Rattle.u_normal.proofs.KnownParts.{to-known}
+use Rattle.u_normal.proofs.terms.KnownParts.{to-known}
 use Rattle.u_normal.proofs.merging.+merged.Goals as goal
 
 pub merged-requires : goal.merged-requires

@@ -1,7 +1,7 @@
 use Rattle.std.proofs.Common.{sym, ◌∙◌, ap}
 use Rattle.u_terms.specs.Syntax.{U}
 use Rattle.u_normal.specs.Merging.{wrapped}
-use Rattle.u_normal.proofs.Merges.{wrapped-squash, wrapped-not, nothing-else}
+use Rattle.u_normal.proofs.products.Merges.{wrapped-squash, wrapped-not, nothing-else}
 use Rattle.u_normal.proofs.merging.body_of.Goals as goal
 
 pub unreachable-requires : goal.unreachable-requires

@@ -1,7 +1,7 @@
 use Rattle.std.proofs.Common.{subst}
 use Rattle.u_terms.specs.Syntax.{U}
 use Rattle.u_moves.specs.Derivations.{IsKnown}
-use Rattle.u_normal.proofs.KnownParts.{known-unwrapped}
+use Rattle.u_normal.proofs.terms.KnownParts.{known-unwrapped}
 use Rattle.u_normal.proofs.merging.factors_merged.Goals as goal
 
 pub squash_of_product-requires-clause-p : goal.squash_of_product-requires-clause-p

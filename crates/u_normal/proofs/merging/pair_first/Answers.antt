@@ -3,12 +3,12 @@ use Rattle.std.specs.Prelude.{IsPermutation}
 use Rattle.u_terms.specs.Syntax.{U}
 use Rattle.u_rules.specs.Terms.{◌⊗◌, mul_leaves}
 use Rattle.u_moves.specs.Derivations.{IsKnown}
-use Rattle.u_moves.proofs.Whole.{if-ok}
+use Rattle.u_moves.proofs.derivations.Whole.{if-ok}
 use Rattle.u_congruence.specs.Congruence.{IsFromTo}
 use Rattle.u_congruence.proofs.Turned.{known-Mul}
-use Rattle.u_normal.proofs.KnownParts.{rest-known, part-known}
-use Rattle.u_normal.proofs.Led.{same-ends}
-use Rattle.u_normal.proofs.Takings.{pair-leaves}
+use Rattle.u_normal.proofs.terms.KnownParts.{rest-known, part-known}
+use Rattle.u_normal.proofs.derivations.Led.{same-ends}
+use Rattle.u_normal.proofs.products.Takings.{pair-leaves}
 use Rattle.u_normal.proofs.merging.pair_first.Goals as goal
 use Rattle.u_normal.proofs.merging.pair_first.Goals.{In_ok-whole}
 

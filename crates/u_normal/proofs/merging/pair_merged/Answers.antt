@@ -2,13 +2,13 @@ use Rattle.std.proofs.Common.{◌≡◌, ap, sym, subst, ◌∙◌}
 use Rattle.u_terms.specs.Syntax.{U}
 use Rattle.u_rules.specs.Terms.{◌⊗◌}
 use Rattle.u_moves.specs.Derivations.{IsKnown}
-use Rattle.u_moves.proofs.Whole.{if-ok}
+use Rattle.u_moves.proofs.derivations.Whole.{if-ok}
 use Rattle.u_congruence.specs.Congruence.{IsFromTo}
 use Rattle.u_normal.specs.Leading.{Leads}
 use Rattle.u_normal.specs.Merging.{IsFewer, both}
-use Rattle.u_normal.proofs.KnownParts.{rest-known, part-known}
-use Rattle.u_normal.proofs.Led.{leads-to}
-use Rattle.u_normal.proofs.Merges.{fewer}
+use Rattle.u_normal.proofs.terms.KnownParts.{rest-known, part-known}
+use Rattle.u_normal.proofs.derivations.Led.{leads-to}
+use Rattle.u_normal.proofs.products.Merges.{fewer}
 use Rattle.u_normal.proofs.merging.pair_merged.Goals as goal
 
 pub factors_merged-requires-clause-known_first : goal.factors_merged-requires-clause-known_first

@@ -3,8 +3,8 @@ use Rattle.u_terms.specs.Syntax.{U}
 use Rattle.normal_form.specs.declared.kind.Kind.{Kind}
 use Rattle.u_normal.specs.Taking.{HasNone}
 use Rattle.u_normal.specs.Merging.{wrap_kind}
-use Rattle.u_normal.proofs.Takings.{found-some, found-none}
-use Rattle.u_normal.proofs.Merges.{few-none, few-one}
+use Rattle.u_normal.proofs.products.Takings.{found-some, found-none}
+use Rattle.u_normal.proofs.products.Merges.{few-none, few-one}
 use Rattle.u_normal.proofs.merging.two_of.Goals as goal
 
 pub returns-in-None : goal.returns-in-None

@@ -1,7 +1,7 @@
 use Rattle.std.proofs.Common.{ap, subst, ◌∙◌, arith}
 use Rattle.u_terms.specs.Size.{nodes}
 use Rattle.u_moves.specs.Derivations.{Derivation, IsSound}
-use Rattle.u_moves.proofs.Sound.{last-within}
+use Rattle.u_moves.proofs.derivations.Sound.{last-within}
 use Rattle.u_normal.proofs.rooms.excess.Goals as goal
 
 pub returns-then-nodes-room : goal.returns-then-nodes-room

@@ -7,16 +7,16 @@ use Rattle.u_terms.proofs.Sizes.{nodes-Sum}
 use Rattle.u_rules.specs.Terms.{mul_leaves}
 use Rattle.u_deriv.specs.declared.run.Run.TheVariants.{Inside}
 use Rattle.u_moves.specs.Derivations.{IsKnown}
-use Rattle.u_moves.proofs.Whole.{if-ok}
+use Rattle.u_moves.proofs.derivations.Whole.{if-ok}
 use Rattle.normal_form.specs.Kinds.{ordered}
 use Rattle.normal_form.specs.LooseTerms.{IsLooseBlock}
 use Rattle.normal_form.proofs.Loose.{sum_body-block}
 use Rattle.normal_form.proofs.Renamed.{loose_block-opened}
 use Rattle.u_normal.specs.Shaped.{IsBrief, IsMadeAt, tidied}
-use Rattle.u_normal.proofs.Nodes.{opened-nodes}
-use Rattle.u_normal.proofs.KnownParts.{known-body, known-opened}
-use Rattle.u_normal.proofs.TidiedBlocks.{tidied-product}
-use Rattle.u_normal.proofs.ShapedEnds.{brief-to, sum-part, sum-brief}
+use Rattle.u_normal.proofs.products.Nodes.{opened-nodes}
+use Rattle.u_normal.proofs.terms.KnownParts.{known-body, known-opened}
+use Rattle.u_normal.proofs.shapes.TidiedBlocks.{tidied-product}
+use Rattle.u_normal.proofs.costs.ShapedEnds.{brief-to, sum-part, sum-brief}
 use Rattle.u_normal.proofs.shaped.+block_in_order.Goals as goal
 
 pub block_in_order-requires : goal.block_in_order-requires

@@ -4,13 +4,13 @@ use Rattle.u_terms.specs.Size.{nodes}
 use Rattle.u_terms.proofs.Sizes.{nodes-Add}
 use Rattle.u_rules.specs.Terms.{◌⊕◌}
 use Rattle.u_moves.specs.Derivations.{Derivation, IsKnown}
-use Rattle.u_moves.proofs.Whole.{if-ok}
+use Rattle.u_moves.proofs.derivations.Whole.{if-ok}
 use Rattle.u_normal.specs.Shaped.{AreShaped, IsBrief, IsBriefBeside, IsBriefSum, IsLevel, tidied, all_tidied, block_count}
-use Rattle.u_normal.proofs.KnownParts.{known-left, known-right}
-use Rattle.u_normal.proofs.TidiedBlocks.{shape-loose}
-use Rattle.u_normal.proofs.ShapedSums.{all_tidied-Add, all_tidied-block, block_count-Add, block_count-one, one-shape, shaped-left, shaped-right}
-use Rattle.u_normal.proofs.Levels.{level-alone, level-both}
-use Rattle.u_normal.proofs.ShapedEnds.{brief-to}
+use Rattle.u_normal.proofs.terms.KnownParts.{known-left, known-right}
+use Rattle.u_normal.proofs.shapes.TidiedBlocks.{shape-loose}
+use Rattle.u_normal.proofs.shapes.ShapedSums.{all_tidied-Add, all_tidied-block, block_count-Add, block_count-one, one-shape, shaped-left, shaped-right}
+use Rattle.u_normal.proofs.costs.Levels.{level-alone, level-both}
+use Rattle.u_normal.proofs.costs.ShapedEnds.{brief-to}
 use Rattle.u_normal.proofs.shaped.+blocks_in_order.Goals as goal
 
 pub blocks_in_order-requires : goal.blocks_in_order-requires

@@ -2,7 +2,7 @@ use Rattle.std.proofs.Common.{◌≡◌, false, true, sym, subst}
 use Rattle.std.specs.Prelude.{IfOk, ◌↔◌, IsTrue}
 use Rattle.u_terms.specs.Syntax.{U}
 use Rattle.u_normal.specs.Shaped.{AreShaped}
-use Rattle.u_normal.proofs.ShapedSums.{tells-block, tells-left, tells-right}
+use Rattle.u_normal.proofs.shapes.ShapedSums.{tells-block, tells-left, tells-right}
 use Rattle.u_normal.proofs.shaped.+have_shapes.Goals as goal
 
 pub returns-then-not-branch : goal.returns-then-not-branch

@@ -1,9 +1,9 @@
 use Rattle.std.proofs.Common.{[], ◌∷◌}
 use Rattle.u_deriv.specs.declared.run.Run.TheVariants.{Right}
 use Rattle.u_moves.specs.Lifting.{IsMadeIn}
-use Rattle.u_moves.proofs.Whole.{if-ok}
+use Rattle.u_moves.proofs.derivations.Whole.{if-ok}
 use Rattle.u_normal.specs.Shaped.{IsBriefBeside}
-use Rattle.u_normal.proofs.ShortSteps.{beside-left, beside-right, brief-beside}
+use Rattle.u_normal.proofs.costs.ShortSteps.{beside-left, beside-right, brief-beside}
 use Rattle.u_normal.proofs.shaped.made_beside.Goals as goal
 
 pub made_in_turn-requires-clause-part : goal.made_in_turn-requires-clause-part

@@ -1,7 +1,7 @@
 use Rattle.std.proofs.Common.{[], ◌∷◌}
 use Rattle.u_deriv.specs.declared.run.Run.TheVariants.{Inside}
 use Rattle.u_moves.specs.Lifting.{IsMadeIn}
-use Rattle.u_moves.proofs.Whole.{if-ok}
+use Rattle.u_moves.proofs.derivations.Whole.{if-ok}
 use Rattle.u_normal.specs.Shaped.{IsMadeAt}
 use Rattle.u_normal.proofs.shaped.made_inside.Goals as goal
 

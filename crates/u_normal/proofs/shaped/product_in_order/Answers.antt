@@ -5,14 +5,14 @@ use Rattle.u_terms.specs.Products.{product_of}
 use Rattle.u_rules.specs.declared.rule.Rule.TheVariants as rule
 use Rattle.u_rules.specs.Terms.{mul_leaves}
 use Rattle.u_moves.specs.Derivations.{Derivation, IsKnown, IsStill}
-use Rattle.u_moves.proofs.Whole.{if-ok}
+use Rattle.u_moves.proofs.derivations.Whole.{if-ok}
 use Rattle.normal_form.specs.Kinds.{ordered}
 use Rattle.u_normal.specs.Shaped.{IsBrief}
-use Rattle.u_normal.proofs.KnownParts.{in_order-known}
-use Rattle.u_normal.proofs.Finishes.{in_order-leaves}
-use Rattle.u_normal.proofs.Blocks.{product-kinds}
-use Rattle.u_normal.proofs.ShortSteps.{still-brief, step-brief-by}
-use Rattle.u_normal.proofs.Levels.{ordered-small}
+use Rattle.u_normal.proofs.terms.KnownParts.{in_order-known}
+use Rattle.u_normal.proofs.products.Finishes.{in_order-leaves}
+use Rattle.u_normal.proofs.products.Blocks.{product-kinds}
+use Rattle.u_normal.proofs.costs.ShortSteps.{still-brief, step-brief-by}
+use Rattle.u_normal.proofs.costs.Levels.{ordered-small}
 use Rattle.u_normal.proofs.shaped.product_in_order.Goals as goal
 use Rattle.u_normal.proofs.shaped.product_in_order.Goals.{In_ok-row}
 

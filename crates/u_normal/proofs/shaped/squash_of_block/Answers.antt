@@ -2,10 +2,10 @@ use Rattle.std.proofs.Common.{◌≡◌, true, false, length, subst}
 use Rattle.u_terms.specs.Syntax.{U}
 use Rattle.u_moves.specs.Derivations.{IsKnown}
 use Rattle.u_normal.specs.Shaped.{HasSomeShape}
-use Rattle.u_normal.proofs.KnownParts.{known-squashed}
-use Rattle.u_normal.proofs.TidiedBlocks.{shape-loose}
-use Rattle.u_normal.proofs.ShapedSums.{squash-not_shaped}
-use Rattle.u_normal.proofs.ShapedEnds.{squash-part, squash-brief, squash-end}
+use Rattle.u_normal.proofs.terms.KnownParts.{known-squashed}
+use Rattle.u_normal.proofs.shapes.TidiedBlocks.{shape-loose}
+use Rattle.u_normal.proofs.shapes.ShapedSums.{squash-not_shaped}
+use Rattle.u_normal.proofs.costs.ShapedEnds.{squash-part, squash-brief, squash-end}
 use Rattle.u_normal.proofs.shaped.squash_of_block.Goals as goal
 
 pub returns-then-not-branch : goal.returns-then-not-branch

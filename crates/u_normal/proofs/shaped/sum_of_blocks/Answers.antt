@@ -1,4 +1,4 @@
-use Rattle.u_normal.proofs.ShapedEnds.{sum-end}
+use Rattle.u_normal.proofs.costs.ShapedEnds.{sum-end}
 use Rattle.u_normal.proofs.shaped.sum_of_blocks.Goals as goal
 
 pub returns : goal.returns

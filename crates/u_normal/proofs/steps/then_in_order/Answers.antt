@@ -5,8 +5,8 @@ use Rattle.u_terms.specs.Products.{product_of}
 use Rattle.u_rules.specs.Terms.{mul_leaves}
 use Rattle.u_moves.specs.Derivations.{Derivation, IsKnown, IsSound}
 use Rattle.normal_form.specs.Kinds.{ordered}
-use Rattle.u_normal.proofs.KnownParts.{to-known, in_order-known}
-use Rattle.u_normal.proofs.Finishes.{in_order-leaves}
+use Rattle.u_normal.proofs.terms.KnownParts.{to-known, in_order-known}
+use Rattle.u_normal.proofs.products.Finishes.{in_order-leaves}
 use Rattle.u_normal.proofs.steps.then_in_order.Goals as goal
 
 pub regrouped-requires-clause-known : goal.regrouped-requires-clause-known

@@ -5,10 +5,10 @@ use Rattle.u_rules.specs.declared.rule.Rule.TheVariants as rule
 use Rattle.u_rules.specs.Terms.{add_leaves}
 use Rattle.u_moves.specs.Derivations.{Derivation, IsKnown, IsSound}
 use Rattle.normal_form.specs.NormalTerms.{sum_of}
-use Rattle.u_moves.proofs.Whole.{if-ok}
+use Rattle.u_moves.proofs.derivations.Whole.{if-ok}
 use Rattle.u_normal.specs.Leading.{IsOneMore}
-use Rattle.u_normal.proofs.OneMore.{more-of}
-use Rattle.u_normal.proofs.KnownParts.{to-known, in_row-known, in_row-leaves}
+use Rattle.u_normal.proofs.costs.OneMore.{more-of}
+use Rattle.u_normal.proofs.terms.KnownParts.{to-known, in_row-known, in_row-leaves}
 use Rattle.u_normal.proofs.steps.then_in_row.Goals as goal
 
 pub add_ac-requires-clause-x : goal.add_ac-requires-clause-x

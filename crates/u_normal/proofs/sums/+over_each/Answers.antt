@@ -4,13 +4,13 @@ use Rattle.u_terms.specs.Size.{nodes}
 use Rattle.u_terms.proofs.Sizes.{nodes-Add}
 use Rattle.u_rules.specs.Terms.{◌⊕◌, O, S}
 use Rattle.u_moves.specs.Derivations.{IsKnown}
-use Rattle.u_moves.proofs.Whole.{if-ok}
+use Rattle.u_moves.proofs.derivations.Whole.{if-ok}
 use Rattle.u_congruence.specs.Congruence.{IsFromTo}
 use Rattle.u_congruence.proofs.Turned.{known-Sum}
 use Rattle.u_normal.specs.Summing.{over_each}
-use Rattle.u_normal.proofs.KnownParts.{known-left, known-right}
-use Rattle.u_normal.proofs.Led.{same-ends}
-use Rattle.u_normal.proofs.Blocks.{over_each-Zero, over_each-Add, over_each-other}
+use Rattle.u_normal.proofs.terms.KnownParts.{known-left, known-right}
+use Rattle.u_normal.proofs.derivations.Led.{same-ends}
+use Rattle.u_normal.proofs.products.Blocks.{over_each-Zero, over_each-Add, over_each-other}
 use Rattle.u_normal.proofs.sums.+over_each.Goals as goal
 
 pub parted-requires-clause-f : goal.parted-requires-clause-f

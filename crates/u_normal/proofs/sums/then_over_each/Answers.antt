@@ -3,13 +3,13 @@ use Rattle.u_terms.specs.Syntax.{U}
 use Rattle.u_terms.proofs.Parts.{parts-Sum}
 use Rattle.u_rules.specs.Terms.{S}
 use Rattle.u_moves.specs.Derivations.{Derivation, IsKnown, IsSound}
-use Rattle.u_moves.proofs.Whole.{if-ok}
+use Rattle.u_moves.proofs.derivations.Whole.{if-ok}
 use Rattle.u_congruence.specs.Congruence.{IsFromTo}
 use Rattle.u_normal.specs.Leading.{Leads}
 use Rattle.u_normal.specs.Summing.{IsBlockSum, over_each}
-use Rattle.u_normal.proofs.KnownParts.{known-body, to-known}
-use Rattle.u_normal.proofs.Led.{leads-to}
-use Rattle.u_normal.proofs.Blocks.{over-blocks}
+use Rattle.u_normal.proofs.terms.KnownParts.{known-body, to-known}
+use Rattle.u_normal.proofs.derivations.Led.{leads-to}
+use Rattle.u_normal.proofs.products.Blocks.{over-blocks}
 use Rattle.u_normal.proofs.sums.then_over_each.Goals as goal
 
 pub over_each-requires : goal.over_each-requires

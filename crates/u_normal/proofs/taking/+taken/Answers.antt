@@ -2,7 +2,7 @@ use Rattle.std.proofs.Common.{◌≡◌, true, false, subst}
 use Rattle.u_terms.specs.Syntax.{U}
 use Rattle.u_rules.specs.Terms.{◌⊗◌}
 use Rattle.u_normal.specs.Taking.{HasNone, IsTaken}
-use Rattle.u_normal.proofs.Takings.{found-some, found-none, none-one, none-leaf, none-both, taken-alone, taken-before, taken-behind}
+use Rattle.u_normal.proofs.products.Takings.{found-some, found-none, none-one, none-leaf, none-both, taken-alone, taken-before, taken-behind}
 use Rattle.u_normal.proofs.taking.+taken.Goals as goal
 
 pub returns-in-One : goal.returns-in-One

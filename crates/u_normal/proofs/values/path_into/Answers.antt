@@ -1,7 +1,7 @@
 use Rattle.std.proofs.Common.{◌-◌, List, ap, sym, ◌∙◌, length}
 use Rattle.std.specs.Prelude.{slice_get}
 use Rattle.u_deriv.specs.declared.run.Run.{Run}
-use Rattle.u_normal.proofs.IntoAggregates.{unlike-last, turns-into}
+use Rattle.u_normal.proofs.derivations.IntoAggregates.{unlike-last, turns-into}
 use Rattle.u_normal.proofs.values.path_into.Goals as goal
 
 pub push-requires-2-clause-fits : goal.push-requires-2-clause-fits

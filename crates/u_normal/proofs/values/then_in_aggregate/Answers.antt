@@ -1,4 +1,4 @@
-use Rattle.u_normal.proofs.IntoAggregates.{part-moved, led-in_aggregate}
+use Rattle.u_normal.proofs.derivations.IntoAggregates.{part-moved, led-in_aggregate}
 use Rattle.u_normal.proofs.values.then_in_aggregate.Goals as goal
 
 pub then_under-requires-clause-part : goal.then_under-requires-clause-part

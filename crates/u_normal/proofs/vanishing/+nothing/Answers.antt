@@ -6,14 +6,14 @@ use Rattle.u_terms.specs.Binding.{closed_at, opened}
 use Rattle.u_terms.proofs.Sizes.{nodes-Add, nodes-Mul, nodes-Sum}
 use Rattle.u_rules.specs.Terms.{◌⊕◌, ◌⊗◌, O, S, add_leaves}
 use Rattle.u_moves.specs.Derivations.{IsKnown}
-use Rattle.u_moves.proofs.Whole.{if-ok}
+use Rattle.u_moves.proofs.derivations.Whole.{if-ok}
 use Rattle.normal_form.specs.NormalTerms.{sum_of}
 use Rattle.u_congruence.specs.Congruence.{IsFromTo}
 use Rattle.u_normal.specs.Vanishing.{Vanishes}
-use Rattle.u_normal.proofs.KnownParts.{known-left, known-right, known-body, known-opened, known-factor_left, known-factor_right, body-again}
-use Rattle.u_normal.proofs.Led.{same-ends}
-use Rattle.u_normal.proofs.Nodes.{opened-nodes}
-use Rattle.u_normal.proofs.Vanishings.{first-vanishes, second-vanishes, other-vanishes, body-vanishes, only-zero, opened-vanishes, nothing-added, zero-closed}
+use Rattle.u_normal.proofs.terms.KnownParts.{known-left, known-right, known-body, known-opened, known-factor_left, known-factor_right, body-again}
+use Rattle.u_normal.proofs.derivations.Led.{same-ends}
+use Rattle.u_normal.proofs.products.Nodes.{opened-nodes}
+use Rattle.u_normal.proofs.terms.Vanishings.{first-vanishes, second-vanishes, other-vanishes, body-vanishes, only-zero, opened-vanishes, nothing-added, zero-closed}
 use Rattle.u_normal.proofs.vanishing.+nothing.Goals as goal
 
 -- ---- nothing

@@ -1,7 +1,7 @@
 use Rattle.std.proofs.Common.{◌≡◌, true, false, refl, sym, subst, ◌∙◌}
 use Rattle.u_terms.specs.Syntax.{U}
 use Rattle.u_normal.specs.Vanishing.{Vanishes}
-use Rattle.u_normal.proofs.Vanishings.{vanishes-Zero, vanishes-Add, vanishes-Mul_left, vanishes-Mul_right, vanishes-Sum, first-vanishes, second-vanishes, other-vanishes, body-vanishes}
+use Rattle.u_normal.proofs.terms.Vanishings.{vanishes-Zero, vanishes-Add, vanishes-Mul_left, vanishes-Mul_right, vanishes-Sum, first-vanishes, second-vanishes, other-vanishes, body-vanishes}
 use Rattle.u_normal.proofs.vanishing.+vanishes.Goals as goal
 
 pub returns-in-Zero : goal.returns-in-Zero

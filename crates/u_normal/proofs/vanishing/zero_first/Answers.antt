@@ -3,13 +3,13 @@ use Rattle.std.specs.Prelude.{IsPermutation}
 use Rattle.std.proofs.lemmas.List.Sorted.{IsPermutation-append_comm}
 use Rattle.u_terms.specs.Syntax.{U}
 use Rattle.u_rules.specs.Terms.{◌⊗◌, O, mul_leaves}
-use Rattle.u_rules.proofs.LeavesAt.{mul_leaves-Mul}
+use Rattle.u_rules.proofs.multisets.LeavesAt.{mul_leaves-Mul}
 use Rattle.u_moves.specs.Derivations.{IsKnown}
-use Rattle.u_moves.proofs.Whole.{if-ok}
+use Rattle.u_moves.proofs.derivations.Whole.{if-ok}
 use Rattle.u_congruence.specs.Congruence.{IsFromTo}
 use Rattle.u_congruence.proofs.Turned.{known-Mul}
-use Rattle.u_normal.proofs.KnownParts.{known-zero}
-use Rattle.u_normal.proofs.Led.{same-ends}
+use Rattle.u_normal.proofs.terms.KnownParts.{known-zero}
+use Rattle.u_normal.proofs.derivations.Led.{same-ends}
 use Rattle.u_normal.proofs.vanishing.zero_first.Goals as goal
 use Rattle.u_normal.proofs.vanishing.zero_first.Goals.{In_ok-front, In_ok-back}
 

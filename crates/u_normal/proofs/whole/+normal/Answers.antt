@@ -5,7 +5,7 @@ use Rattle.u_terms.specs.Places.{IsClosed}
 use Rattle.u_terms.specs.Binding.{closed_at, opened}
 use Rattle.u_rules.specs.Terms.{◌⊗◌, ◌⊕◌, O, S, sq, neg}
 use Rattle.u_moves.specs.Derivations.{Derivation, IsKnown, IsSound}
-use Rattle.u_moves.proofs.Whole.{if-ok}
+use Rattle.u_moves.proofs.derivations.Whole.{if-ok}
 use Rattle.u_congruence.specs.Congruence.{IsFromTo, IsBy}
 use Rattle.u_normal.specs.Taking.{load}
 use Rattle.u_normal.specs.Leading.{Leads}
@@ -16,14 +16,14 @@ use Rattle.u_normal.specs.Values.{Stands, HasOtherBody, IsNormalAt, AreNormalAt,
 use Rattle.u_normal.specs.Heads.{IsFactorRow, HasHead, head_load}
 use Rattle.u_normal.specs.Finishing.{IsFactorOrOne, IsFinished, IsFinishedPlain, IsPlainFactor, factor}
 use Rattle.normal_form.specs.NormalTerms.{IsNormal}
-use Rattle.u_normal.proofs.KnownParts.{known-left, known-right, known-body, known-opened, known-factor_left, known-factor_right, known-squashed, known-negated, body-again, again-at, to-known}
-use Rattle.u_normal.proofs.Led.{leads-to, leads-same}
-use Rattle.u_normal.proofs.InRooms.{within, squash-within, not-within, mul-within, add-within, sum-within, led-in, not-over}
-use Rattle.u_normal.proofs.Standing.{bound-normal, free-normal, literal-normal, stands-function, stands-aggregate}
-use Rattle.u_normal.proofs.ValuesLed.{same-relation, same-predicate, same-function, same-aggregate, ahead-at, item-lighter, known-relation, known-predicate, known-equal_left, known-equal_right, known-function, known-aggregate, known-at, relation-lighter, predicate-lighter, left-lighter, right-lighter, function-lighter, aggregate-lighter, by-on, led-still, led-stands, led-next, led-function, led-aggregate, by-still, stands-relation, stands-predicate, stands-left, stands-right, leads-still, leads-relation, leads-predicate, leads-equality}
-use Rattle.u_normal.proofs.Loads.{load-opened}
-use Rattle.u_normal.proofs.Finishes.{sum-lighter, body-lighter, squash-lighter, not-lighter, head_sum-lighter, head_body-lighter, rest-lighter, first-lighter, row-load, row-first, row-rest, row-last, tidy-at, finished-squash, finished-not, finished-Mul, finished-bare_not, plain-lighter, plain-one, truth-negated_at, truth-plain}
-use Rattle.u_normal.proofs.Blocks.{zero-blocks, added-blocks}
+use Rattle.u_normal.proofs.terms.KnownParts.{known-left, known-right, known-body, known-opened, known-factor_left, known-factor_right, known-squashed, known-negated, body-again, again-at, to-known}
+use Rattle.u_normal.proofs.derivations.Led.{leads-to, leads-same}
+use Rattle.u_normal.proofs.derivations.InRooms.{within, squash-within, not-within, mul-within, add-within, sum-within, led-in, not-over}
+use Rattle.u_normal.proofs.derivations.Standing.{bound-normal, free-normal, literal-normal, stands-function, stands-aggregate}
+use Rattle.u_normal.proofs.derivations.ValuesLed.{same-relation, same-predicate, same-function, same-aggregate, ahead-at, item-lighter, known-relation, known-predicate, known-equal_left, known-equal_right, known-function, known-aggregate, known-at, relation-lighter, predicate-lighter, left-lighter, right-lighter, function-lighter, aggregate-lighter, by-on, led-still, led-stands, led-next, led-function, led-aggregate, by-still, stands-relation, stands-predicate, stands-left, stands-right, leads-still, leads-relation, leads-predicate, leads-equality}
+use Rattle.u_normal.proofs.products.Loads.{load-opened}
+use Rattle.u_normal.proofs.products.Finishes.{sum-lighter, body-lighter, squash-lighter, not-lighter, head_sum-lighter, head_body-lighter, rest-lighter, first-lighter, row-load, row-first, row-rest, row-last, tidy-at, finished-squash, finished-not, finished-Mul, finished-bare_not, plain-lighter, plain-one, truth-negated_at, truth-plain}
+use Rattle.u_normal.proofs.products.Blocks.{zero-blocks, added-blocks}
 use Rattle.u_normal.proofs.whole.+normal.Goals as goal
 
 -- ---- normal_within

@@ -1,13 +1,13 @@
 use Rattle.std.proofs.Common.{refl}
 use Rattle.u_rules.specs.Terms.{add_leaves}
-use Rattle.u_moves.proofs.Whole.{if-ok}
+use Rattle.u_moves.proofs.derivations.Whole.{if-ok}
 use Rattle.normal_form.specs.NormalTerms.{sum_of, IsNormal}
 use Rattle.u_congruence.specs.Congruence.{IsFromTo}
 use Rattle.u_normal.specs.Leading.{Leads}
 use Rattle.u_normal.specs.Rooms.{InRoom}
-use Rattle.u_normal.proofs.Led.{leads-to}
-use Rattle.u_normal.proofs.InRooms.{within, within-over, not-over}
-use Rattle.u_normal.proofs.Blocks.{row-normal}
+use Rattle.u_normal.proofs.derivations.Led.{leads-to}
+use Rattle.u_normal.proofs.derivations.InRooms.{within, within-over, not-over}
+use Rattle.u_normal.proofs.products.Blocks.{row-normal}
 use Rattle.u_normal.proofs.whole.gathered.Goals as goal
 
 pub returns-then-is_over : goal.returns-then-is_over

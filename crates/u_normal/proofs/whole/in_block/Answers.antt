@@ -1,16 +1,16 @@
 use Rattle.std.proofs.Common.{refl}
 use Rattle.u_terms.specs.Products.{product_of}
 use Rattle.u_rules.specs.Terms.{mul_leaves}
-use Rattle.u_moves.proofs.Whole.{if-ok}
+use Rattle.u_moves.proofs.derivations.Whole.{if-ok}
 use Rattle.normal_form.specs.Kinds.{ordered}
 use Rattle.u_congruence.specs.Congruence.{IsFromTo}
 use Rattle.u_normal.specs.Leading.{Leads}
 use Rattle.u_normal.specs.Rooms.{InRoom}
 use Rattle.u_normal.specs.Summing.{IsBlockSum}
 use Rattle.u_normal.specs.Finishing.{IsFinished}
-use Rattle.u_normal.proofs.Led.{leads-to}
-use Rattle.u_normal.proofs.InRooms.{within, leads-over, not-over}
-use Rattle.u_normal.proofs.Blocks.{finished-kinds, ordered-blocks}
+use Rattle.u_normal.proofs.derivations.Led.{leads-to}
+use Rattle.u_normal.proofs.derivations.InRooms.{within, leads-over, not-over}
+use Rattle.u_normal.proofs.products.Blocks.{finished-kinds, ordered-blocks}
 use Rattle.u_normal.proofs.whole.in_block.Goals as goal
 
 pub then_in_order-requires-clause-kinds : goal.then_in_order-requires-clause-kinds

@@ -1,9 +1,9 @@
 use Rattle.std.proofs.Common.{refl}
-use Rattle.u_moves.proofs.Whole.{if-ok}
+use Rattle.u_moves.proofs.derivations.Whole.{if-ok}
 use Rattle.u_normal.specs.Leading.{Leads}
 use Rattle.u_normal.specs.Rooms.{InRoom}
 use Rattle.u_normal.specs.Summing.{IsBlockSum}
-use Rattle.u_normal.proofs.InRooms.{within-over, not-over, leads-within}
+use Rattle.u_normal.proofs.derivations.InRooms.{within-over, not-over, leads-within}
 use Rattle.u_normal.proofs.whole.over_each_in_room.Goals as goal
 
 pub then_over_each-requires-clause-sum : goal.then_over_each-requires-clause-sum

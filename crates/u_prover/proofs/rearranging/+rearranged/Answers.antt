@@ -7,8 +7,8 @@ use Rattle.u_terms.proofs.Sizes.{nodes-Squash, nodes-Sum}
 use Rattle.u_rules.specs.Terms.{S}
 use Rattle.u_moves.specs.Derivations.{IsKnown}
 use Rattle.u_congruence.specs.Congruence.{IsFromTo}
-use Rattle.u_normal.proofs.KnownParts.{known-body, known-opened, known-squashed, body-again}
-use Rattle.u_normal.proofs.Nodes.{opened-nodes}
+use Rattle.u_normal.proofs.terms.KnownParts.{known-body, known-opened, known-squashed, body-again}
+use Rattle.u_normal.proofs.products.Nodes.{opened-nodes}
 use Rattle.u_prover.proofs.rearranging.+rearranged.Goals as goal
 
 -- ---- under a sum over all values

@@ -1,7 +1,7 @@
 use Rattle.std.proofs.Common.{subst, sym, ap, ◌∙◌}
 use Rattle.u_terms.specs.Syntax.{U}
 use Rattle.u_moves.specs.Derivations.{Derivation, IsKnown, IsSound}
-use Rattle.u_normal.proofs.KnownParts.{to-known}
+use Rattle.u_normal.proofs.terms.KnownParts.{to-known}
 use Rattle.u_prover.specs.Proving.{AreEnds, SomeHasNoNormal}
 use Rattle.u_prover.proofs.Outcomes.{found-of}
 use Rattle.u_prover.proofs.Reach.{ending-from, ends-missed, ends-told, from-ends, none-told}

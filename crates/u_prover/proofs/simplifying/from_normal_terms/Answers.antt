@@ -2,7 +2,7 @@ use Rattle.std.proofs.Common.{◌≡◌, true, false, sym, subst, ap, ◌∙◌}
 use Rattle.u_terms.specs.Syntax.{U}
 use Rattle.u_moves.specs.Derivations.{Derivation, IsKnown}
 use Rattle.u_rules.specs.Terms.{add_leaves}
-use Rattle.u_normal.proofs.KnownParts.{to-known}
+use Rattle.u_normal.proofs.terms.KnownParts.{to-known}
 use Rattle.u_bag.specs.Pairs.{CanBePaired, SomePassBudget}
 use Rattle.u_bag.specs.Shapes.{SomeHasTooManySums}
 use Rattle.u_bag.specs.declared.blocks.Matched.{Matched}

@@ -1,5 +1,5 @@
 use Rattle.std.proofs.Common.{sym, ◌∙◌}
-use Rattle.u_rules.proofs.TemplatesAt.{fitting, misfitting}
+use Rattle.u_rules.proofs.arguments.TemplatesAt.{fitting, misfitting}
 use Rattle.u_rules.proofs.found.plain.Goals as goal
 
 pub returns-then-fit : goal.returns-then-fit

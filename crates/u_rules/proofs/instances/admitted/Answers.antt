@@ -1,7 +1,7 @@
 use Rattle.std.proofs.Common.{◌≡◌, Some, None, true, false, refl, arith}
 use Rattle.u_rules.specs.Answers.{fault_of, left_found, right_found}
 use Rattle.u_rules.specs.Rows.{row}
-use Rattle.u_rules.proofs.Answering.{wrong-closed, wrong-not_closed, told-yes, told-no}
+use Rattle.u_rules.proofs.arguments.Answering.{wrong-closed, wrong-not_closed, told-yes, told-no}
 use Rattle.u_rules.proofs.instances.admitted.Goals as goal
 
 pub returns-then-not-branch : goal.returns-then-not-branch

@@ -3,7 +3,7 @@ use Rattle.std.proofs.lemmas.Result.{IfOk-weaker}
 use Rattle.u_terms.specs.Syntax.{U}
 use Rattle.u_rules.specs.Answers.{left_found, right_found, side_found}
 use Rattle.u_rules.specs.Rows.{row}
-use Rattle.u_rules.proofs.TemplatesAt.{row-sides, side-chosen}
+use Rattle.u_rules.proofs.arguments.TemplatesAt.{row-sides, side-chosen}
 use Rattle.u_rules.proofs.instances.side.Goals as goal
 
 pub returns-in-Ok : goal.returns-in-Ok

@@ -1,6 +1,6 @@
 use Rattle.std.proofs.Common.{vec_items}
 use Rattle.u_rules.specs.Terms.{terms}
-use Rattle.u_rules.proofs.OneOrder.{tells}
+use Rattle.u_rules.proofs.multisets.OneOrder.{tells}
 use Rattle.u_rules.proofs.leaf_lists.same_in_any_order.Goals as goal
 
 pub returns : goal.returns

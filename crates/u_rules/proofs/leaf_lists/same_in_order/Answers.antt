@@ -3,7 +3,7 @@ use Rattle.std.proofs.lemmas.Iterator.{cases_from_all, YieldsList-from_slice, Yi
 use borrow.Author.Tests.{tests}
 use denote.Ref.{Bor}
 use Rattle.u_terms.specs.declared.term.U.{U}
-use Rattle.u_rules.proofs.LeavesPairs.{Same, Differ, same_from_pairs}
+use Rattle.u_rules.proofs.multisets.LeavesPairs.{Same, Differ, same_from_pairs}
 use Rattle.u_rules.proofs.leaf_lists.same_in_order.Goals as goal
 
 abbrev term : Bor U → U

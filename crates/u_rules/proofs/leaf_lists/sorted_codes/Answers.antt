@@ -5,7 +5,7 @@ use Rattle.std.proofs.lemmas.List.{take_all}
 use Rattle.std.proofs.lemmas.List.Sorted.{IsPermutation-map}
 use Rattle.u_rules.specs.Codes.{code}
 use Rattle.u_rules.specs.Terms.{terms}
-use Rattle.u_rules.proofs.OneOrder.{ascends}
+use Rattle.u_rules.proofs.multisets.OneOrder.{ascends}
 use Rattle.u_rules.proofs.leaf_lists.sorted_codes.Goals as goal
 
 pub returns : goal.returns

@@ -1,5 +1,5 @@
 use Rattle.std.proofs.Common.{◌<◌, sym, ◌∙◌, arith}
-use Rattle.u_rules.proofs.TableMeasures.{measure-key, measure-fkey}
+use Rattle.u_rules.proofs.terms.TableMeasures.{measure-key, measure-fkey}
 use Rattle.u_rules.proofs.measuring.measure.Goals as goal
 
 pub returns-in-Key : goal.returns-in-Key

@@ -7,7 +7,7 @@ use Rattle.u_terms.proofs.Mapped.{mapped-Mul}
 use Rattle.u_terms.proofs.Parts.{parts-Mul}
 use Rattle.u_rules.specs.Factors.{cells_of, factor_of}
 use Rattle.u_rules.specs.Terms.{◌≐◌, column, equal_columns}
-use Rattle.u_rules.proofs.UnderSums.{columns-step}
+use Rattle.u_rules.proofs.terms.UnderSums.{columns-step}
 use Rattle.u_rules.proofs.table_same.+are_columns.Goals as goal
 
 pub returns-then-is_factor : goal.returns-then-is_factor

@@ -7,7 +7,7 @@ use Rattle.u_terms.proofs.Mapped.{mapped-Mul}
 use Rattle.u_terms.proofs.Parts.{parts-Mul}
 use Rattle.u_rules.specs.Factors.{factor_of}
 use Rattle.u_rules.specs.Terms.{◌≐◌, equal_rows}
-use Rattle.u_rules.proofs.UnderSums.{rows-step}
+use Rattle.u_rules.proofs.terms.UnderSums.{rows-step}
 use Rattle.u_rules.proofs.table_same.+are_rows.Goals as goal
 
 pub returns-then-is_factor : goal.returns-then-is_factor

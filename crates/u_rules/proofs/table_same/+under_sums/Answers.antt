@@ -1,7 +1,7 @@
 use Rattle.std.proofs.Common.{ap, sym, ◌∙◌, arith}
 use Rattle.u_terms.specs.Syntax.{U}
 use Rattle.u_terms.specs.declared.term.U.TheVariants as u
-use Rattle.u_rules.proofs.UnderSums.{under-sums}
+use Rattle.u_rules.proofs.terms.UnderSums.{under-sums}
 use Rattle.u_rules.proofs.table_same.+under_sums.Goals as goal
 
 pub returns-in-Sum : goal.returns-in-Sum

@@ -1,5 +1,5 @@
 use Rattle.u_terms.specs.Binding.{place_for_names}
-use Rattle.u_rules.proofs.UnderSums.{mapped-places}
+use Rattle.u_rules.proofs.terms.UnderSums.{mapped-places}
 use Rattle.u_rules.proofs.table_same.are_cells.Goals as goal
 
 pub returns-in-Places : goal.returns-in-Places

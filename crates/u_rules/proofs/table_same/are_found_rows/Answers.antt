@@ -4,7 +4,7 @@ use Rattle.u_terms.specs.Syntax.{U}
 use Rattle.u_terms.specs.Binding.{mapped, sums, same_place, place_for_names}
 use Rattle.u_terms.specs.Products.{product_of}
 use Rattle.u_rules.specs.Terms.{R, places, equal_columns}
-use Rattle.u_rules.proofs.UnderSums.{deep-under, same-under, never-under}
+use Rattle.u_rules.proofs.terms.UnderSums.{deep-under, same-under, never-under}
 use Rattle.u_rules.proofs.table_same.are_found_rows.Goals as goal
 
 pub are_columns-requires-clause-shallow : goal.are_columns-requires-clause-shallow

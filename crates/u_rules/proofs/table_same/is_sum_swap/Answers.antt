@@ -3,7 +3,7 @@ use Rattle.u_terms.specs.Syntax.{U}
 use Rattle.u_terms.specs.Binding.{sums, same_place, place_for_names}
 use Rattle.u_rules.specs.Sides.{side_of}
 use Rattle.u_rules.specs.Terms.{turned}
-use Rattle.u_rules.proofs.UnderSums.{deep-under, side-under, same-under, never-under}
+use Rattle.u_rules.proofs.terms.UnderSums.{deep-under, side-under, same-under, never-under}
 use Rattle.u_rules.proofs.table_same.is_sum_swap.Goals as goal
 
 pub is_swapped-requires-clause-shallow : goal.is_swapped-requires-clause-shallow

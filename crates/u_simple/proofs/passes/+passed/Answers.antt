@@ -5,10 +5,10 @@ use Rattle.u_terms.specs.Binding.{closed_at, opened}
 use Rattle.u_terms.proofs.Sizes.{nodes-Add, nodes-Mul, nodes-Squash, nodes-Not, nodes-Sum, nodes-Rel, nodes-Eq, nodes-Pred, nodes-Agg}
 use Rattle.u_rules.specs.Terms.{S}
 use Rattle.u_moves.specs.Derivations.{IsKnown}
-use Rattle.u_moves.proofs.Whole.{if-ok}
-use Rattle.u_normal.proofs.KnownParts.{known-left, known-right, known-factor_left, known-factor_right, known-squashed, known-negated, known-body, known-opened, body-again}
-use Rattle.u_normal.proofs.Nodes.{opened-nodes}
-use Rattle.u_normal.proofs.ValuesLed.{same-relation, same-predicate, same-function, same-aggregate, ahead-at, item-lighter, function-lighter, known-relation, known-predicate, known-function, known-aggregate, known-at}
+use Rattle.u_moves.proofs.derivations.Whole.{if-ok}
+use Rattle.u_normal.proofs.terms.KnownParts.{known-left, known-right, known-factor_left, known-factor_right, known-squashed, known-negated, known-body, known-opened, body-again}
+use Rattle.u_normal.proofs.products.Nodes.{opened-nodes}
+use Rattle.u_normal.proofs.derivations.ValuesLed.{same-relation, same-predicate, same-function, same-aggregate, ahead-at, item-lighter, function-lighter, known-relation, known-predicate, known-function, known-aggregate, known-at}
 use Rattle.u_simple.specs.Passes.{IsFrom}
 use Rattle.u_simple.proofs.Known.{known-first, known-second}
 use Rattle.u_simple.proofs.passes.+passed.Goals as goal

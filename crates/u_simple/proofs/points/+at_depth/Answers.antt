@@ -4,7 +4,7 @@ use Rattle.u_terms.specs.Binding.{closed_at, opened}
 use Rattle.u_terms.specs.Syntax.{U}
 use Rattle.u_rules.specs.Terms.{S}
 use Rattle.u_moves.specs.Derivations.{IsKnown}
-use Rattle.u_normal.proofs.KnownParts.{known-body, known-opened, body-again}
+use Rattle.u_normal.proofs.terms.KnownParts.{known-body, known-opened, body-again}
 use Rattle.u_simple.specs.Passes.{IsFrom}
 use Rattle.u_simple.proofs.points.+at_depth.Goals as goal
 

@@ -2,7 +2,7 @@ use Rattle.std.proofs.Common.{sym, subst}
 use Rattle.u_terms.specs.Syntax.{U}
 use Rattle.u_rules.specs.Terms.{◌≐◌}
 use Rattle.u_moves.specs.Derivations.{IsKnown}
-use Rattle.u_normal.proofs.KnownParts.{known-factor_left, known-factor_right}
+use Rattle.u_normal.proofs.terms.KnownParts.{known-factor_left, known-factor_right}
 use Rattle.u_simple.proofs.Known.{known-first, known-second}
 use Rattle.u_simple.proofs.points.beside.Goals as goal
 

@@ -4,7 +4,7 @@ use Rattle.u_terms.specs.Syntax.{U}
 use Rattle.u_rules.specs.Terms.{◌⊗◌, ◌≐◌, mul_leaves}
 use Rattle.u_moves.specs.Derivations.{IsKnown}
 use Rattle.u_congruence.proofs.Turned.{known-Mul}
-use Rattle.u_normal.proofs.KnownParts.{part-known, rest-known}
+use Rattle.u_normal.proofs.terms.KnownParts.{part-known, rest-known}
 use Rattle.u_simple.proofs.Known.{front-leaves}
 use Rattle.u_simple.proofs.points.equation_first.Goals as goal
 

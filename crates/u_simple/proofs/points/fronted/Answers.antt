@@ -4,7 +4,7 @@ use Rattle.u_terms.specs.Syntax.{U, Free}
 use Rattle.u_rules.specs.Terms.{◌⊗◌, ◌≐◌}
 use Rattle.u_moves.specs.Derivations.{IsKnown}
 use Rattle.u_normal.specs.Taking.{Takes}
-use Rattle.u_normal.proofs.KnownParts.{known-opened}
+use Rattle.u_normal.proofs.terms.KnownParts.{known-opened}
 use Rattle.u_simple.specs.Points.{equation}
 use Rattle.u_simple.proofs.Known.{known-taken}
 use Rattle.u_simple.proofs.points.fronted.Goals as goal

@@ -1,7 +1,7 @@
 use Rattle.std.proofs.Common.{sym, subst}
 use Rattle.u_terms.specs.Syntax.{U}
 use Rattle.u_moves.specs.Derivations.{IsKnown}
-use Rattle.u_normal.proofs.KnownParts.{known-body}
+use Rattle.u_normal.proofs.terms.KnownParts.{known-body}
 use Rattle.u_simple.proofs.points.reduced.Goals as goal
 
 pub reduced_sum-requires : goal.reduced_sum-requires

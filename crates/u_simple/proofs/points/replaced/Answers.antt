@@ -2,8 +2,8 @@ use Rattle.std.proofs.Common.{◌≡◌, ◌+◌, ap, ◌∙◌}
 use Rattle.u_terms.specs.Binding.{closed_at, opened}
 use Rattle.u_terms.specs.Syntax.{U}
 use Rattle.u_rules.specs.Terms.{S}
-use Rattle.u_moves.proofs.Whole.{if-ok}
-use Rattle.u_normal.proofs.KnownParts.{known-opened, rest-known, body-again}
+use Rattle.u_moves.proofs.derivations.Whole.{if-ok}
+use Rattle.u_normal.proofs.terms.KnownParts.{known-opened, rest-known, body-again}
 use Rattle.u_simple.specs.Passes.{IsFrom}
 use Rattle.u_simple.proofs.Known.{known-point, closed-point}
 use Rattle.u_simple.proofs.points.replaced.Goals as goal

@@ -1,7 +1,7 @@
 use Rattle.std.proofs.Common.{ap, sym, subst, ◌∙◌}
 use Rattle.u_terms.specs.Syntax.{U}
 use Rattle.u_moves.specs.Derivations.{Derivation, IsKnown, IsSound}
-use Rattle.u_normal.proofs.KnownParts.{to-known}
+use Rattle.u_normal.proofs.terms.KnownParts.{to-known}
 use Rattle.u_simple.proofs.points.then_without_point.Goals as goal
 
 pub reduced-requires : goal.reduced-requires

@@ -4,7 +4,7 @@ use Rattle.u_terms.specs.declared.facts.Facts.{Facts}
 use Rattle.u_rules.specs.Terms.{◌≐◌}
 use Rattle.u_moves.specs.Derivations.{Derivation, IsKnown, IsSound}
 use Rattle.u_congruence.specs.Congruence.{IsBy}
-use Rattle.u_normal.proofs.KnownParts.{to-known}
+use Rattle.u_normal.proofs.terms.KnownParts.{to-known}
 use Rattle.u_simple.proofs.Known.{known-first, known-second}
 use Rattle.u_simple.proofs.sorting.then_equality_in_order.Goals as goal
 

@@ -3,7 +3,7 @@ use Rattle.std.specs.Prelude.{IsPermutation}
 use Rattle.u_terms.specs.Syntax.{U}
 use Rattle.u_rules.specs.Terms.{mul_leaves}
 use Rattle.u_moves.specs.Derivations.{Derivation, IsKnown, IsSound}
-use Rattle.u_normal.proofs.KnownParts.{to-known}
+use Rattle.u_normal.proofs.terms.KnownParts.{to-known}
 use Rattle.u_simple.proofs.Rows.{product-known}
 use Rattle.u_simple.proofs.sorting.then_product_in_order.Goals as goal
 

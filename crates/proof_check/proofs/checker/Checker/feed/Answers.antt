@@ -4,8 +4,8 @@ use Rattle.proof_check.specs.declared.answers.Stop.{Stop}
 use Rattle.proof_check.specs.Check.{Check, IsNext}
 use Rattle.proof_check.specs.Checking.{stopped, Stands}
 use Rattle.proof_check.specs.Kept.{progress_of, state_of}
-use Rattle.proof_check.proofs.Feeding.{stopped_stays}
-use Rattle.proof_check.proofs.KeptState.{stands_on, stands_last}
+use Rattle.proof_check.proofs.state.Feeding.{stopped_stays}
+use Rattle.proof_check.proofs.state.KeptState.{stands_on, stands_last}
 use Rattle.proof_check.proofs.checker.Checker.feed.Goals as goal
 
 pub returns-in-Some-clause-stands : goal.returns-in-Some-clause-stands

@@ -1,6 +1,6 @@
 use Rattle.std.proofs.Common.{◌≡◌, rules, sym, subst, Err}
 use Rattle.proof_check.specs.Pieces.{EndsLine}
-use Rattle.proof_check.proofs.PiecesTaken.{keep-ends}
+use Rattle.proof_check.proofs.texts.PiecesTaken.{keep-ends}
 use Rattle.proof_check.proofs.pieces.Pieces.end_line.Goals as goal
 
 pub returns-in_err-keep-clause-fed : goal.returns-in_err-keep-clause-fed

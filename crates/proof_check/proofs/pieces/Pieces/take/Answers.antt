@@ -2,7 +2,7 @@ use Rattle.std.proofs.Common.{◌≡◌, ◌∙◌, rules, ap, sym, subst, Err}
 use Rattle.proof_text.specs.LinesOfText.{Unread}
 use Rattle.proof_check.specs.Check.{stop_of}
 use Rattle.proof_check.specs.Pieces.{Partial, Takes}
-use Rattle.proof_check.proofs.PiecesTaken.{keep-stops, next-kept, next-stops, next-taken, nothing-taken, still-stopped}
+use Rattle.proof_check.proofs.texts.PiecesTaken.{keep-stops, next-kept, next-stops, next-taken, nothing-taken, still-stopped}
 use Rattle.proof_check.proofs.pieces.Pieces.take.Goals as goal
 
 pub returns-in-Some-clause-taken : goal.returns-in-Some-clause-taken

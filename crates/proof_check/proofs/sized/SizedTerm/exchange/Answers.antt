@@ -4,7 +4,7 @@ use Rattle.u_rules.specs.declared.side_sizes.Sizes.{Sizes}
 use Rattle.u_deriv.specs.declared.step.Step.{out-Step}
 use Rattle.u_deriv.specs.Applying.{IsExchanged}
 use Rattle.proof_check.specs.TermSize.{IsSteppable, directed}
-use Rattle.proof_check.proofs.SizedTerms.{grows}
+use Rattle.proof_check.proofs.state.SizedTerms.{grows}
 use Rattle.proof_check.proofs.sized.SizedTerm.exchange.Goals as goal
 
 pub exchange_spending-requires-clause-left_room : goal.exchange_spending-requires-clause-left_room

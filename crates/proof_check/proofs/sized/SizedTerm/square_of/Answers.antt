@@ -1,6 +1,6 @@
 use Rattle.std.proofs.Common.{◌≡◌, ◌∙◌, arith}
 use Rattle.u_terms.specs.Size.{nodes, depth}
-use Rattle.proof_check.proofs.SizedTerms.{size-square}
+use Rattle.proof_check.proofs.state.SizedTerms.{size-square}
 use Rattle.proof_check.proofs.sized.SizedTerm.square_of.Goals as goal
 
 pub invariant_of-result : goal.invariant_of-result

@@ -5,7 +5,7 @@ use Rattle.proof_check.specs.declared.answers.ProofFault.TheVariants as fault
 use Rattle.proof_check.specs.declared.answers.Stop.TheVariants.{Fault}
 use Rattle.proof_check.specs.Judging.{Stops, Takes, among}
 use Rattle.proof_check.specs.Kept.{level_of, waiting_of, waiting_in}
-use Rattle.proof_check.proofs.KeptSteps.{none_waits, waiting-pushed, closed, unclosed, none_closed}
+use Rattle.proof_check.proofs.state.KeptSteps.{none_waits, waiting-pushed, closed, unclosed, none_closed}
 use Rattle.proof_check.proofs.steps.Steps.close.Goals as goal
 
 pub returns-in_err-go_out-in-Some-clause-taken : goal.returns-in_err-go_out-in-Some-clause-taken

@@ -2,7 +2,7 @@ use Rattle.std.proofs.Common.{◌≡◌, length, sym, ◌∙◌}
 use Rattle.std.specs.Prelude.{vec_len}
 use Rattle.std.proofs.lemmas.Bool.{eqb-true, eq-eqb}
 use Rattle.proof_check.specs.Kept.{level_of, waiting_in}
-use Rattle.proof_check.proofs.KeptSteps.{none_waits, some_wait, ended_here, ended_within}
+use Rattle.proof_check.proofs.state.KeptSteps.{none_waits, some_wait, ended_here, ended_within}
 use Rattle.proof_check.proofs.steps.Steps.end.Goals as goal
 
 pub returns-then-is_empty-clause-taken : goal.returns-then-is_empty-clause-taken

@@ -1,7 +1,7 @@
 use Rattle.std.proofs.Common.{false}
 use Rattle.std.proofs.lemmas.Result.{err_from_is_err_and}
 use Rattle.proof_check.specs.Kept.{level_of, waiting_in}
-use Rattle.proof_check.proofs.KeptSteps.{shallow, full, wide, unmade, large, taken}
+use Rattle.proof_check.proofs.state.KeptSteps.{shallow, full, wide, unmade, large, taken}
 use Rattle.proof_check.proofs.steps.Steps.make.Goals as goal
 
 pub returns-in_err-leave_room-clause-taken : goal.returns-in_err-leave_room-clause-taken

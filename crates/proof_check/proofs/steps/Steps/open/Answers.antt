@@ -6,7 +6,7 @@ use Rattle.u_deriv.specs.declared.step.Step.{out-Step}
 use Rattle.proof_text.specs.declared.limits.LimitKind.TheVariants as limit
 use Rattle.proof_check.specs.Refusing.{LeavesRoom}
 use Rattle.proof_check.specs.Kept.{level_of, waiting_in}
-use Rattle.proof_check.proofs.KeptSteps.{waiting-length, shallow, full, nested, wide, unopened, opened, opened-near, names-fit, small-root, no_term}
+use Rattle.proof_check.proofs.state.KeptSteps.{waiting-length, shallow, full, nested, wide, unopened, opened, opened-near, names-fit, small-root, no_term}
 use Rattle.proof_check.proofs.steps.Steps.open.Goals as goal
 
 pub returns-in_err-leave_room-clause-taken : goal.returns-in_err-leave_room-clause-taken

@@ -3,7 +3,7 @@ use Rattle.proof_text.specs.LinesOfText.{fed}
 use Rattle.proof_text.specs.ReadingLines.{IsRead}
 use Rattle.proof_text.specs.Over.{line_over}
 use Rattle.proof_check.specs.Kept.{level_of, waiting_in}
-use Rattle.proof_check.proofs.KeptSteps.{refused}
+use Rattle.proof_check.proofs.state.KeptSteps.{refused}
 use Rattle.proof_check.proofs.steps.Steps.take.Goals as goal
 
 pub returns-in-Ok-Whole-clause-taken : goal.returns-in-Ok-Whole-clause-taken

@@ -1,6 +1,6 @@
 use Rattle.std.proofs.Common.{get_or, ap, ◌∙◌}
 use Rattle.proof_text.specs.Reading.{Rest, sign_at}
-use Rattle.proof_text.proofs.Digits.{first_sign, next_digit}
+use Rattle.proof_text.proofs.reading.Digits.{first_sign, next_digit}
 use Rattle.proof_text.proofs.cursor.Cursor.digit.Goals as goal
 
 pub returns-in-len1-up : goal.returns-in-len1-up

@@ -4,7 +4,7 @@ use Rattle.std.proofs.lemmas.Slice.Eq.{strip_prefix_is}
 use Rattle.std.proofs.lemmas.Bool.Decides.{Decides-eqb}
 use Rattle.proof_text.specs.LinesOfText.{fed}
 use Rattle.proof_text.specs.Reading.{Rest, word_at}
-use Rattle.proof_text.proofs.WordsPassed.{all_passed}
+use Rattle.proof_text.proofs.texts.WordsPassed.{all_passed}
 use Rattle.proof_text.proofs.cursor.Cursor.take_all.Goals as goal
 
 pub returns-in-Some : goal.returns-in-Some

@@ -1,6 +1,6 @@
 use Rattle.std.proofs.Common.{◌++◌, ◌∷◌, [], length, ap, sym, ◌∙◌, ◌+◌}
 use Rattle.scope_core.specs.Written.{written}
-use Rattle.scope_core.proofs.Written.{length-more, written-more}
+use Rattle.scope_core.proofs.basics.Written.{length-more, written-more}
 use Rattle.scope_core.proofs.items.Items.push.Goals as goal
 
 pub invariant_of-self-2 : goal.invariant_of-self-2

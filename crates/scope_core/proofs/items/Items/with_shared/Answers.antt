@@ -1,7 +1,7 @@
 use Rattle.std.proofs.Common.{◌≡◌, ◌++◌, [], length, ap, sym, ◌∙◌, ◌+◌}
 use Rattle.std.proofs.lemmas.List.{length-append}
 use Rattle.scope_core.specs.Written.{written}
-use Rattle.scope_core.proofs.Written.{written-shared}
+use Rattle.scope_core.proofs.basics.Written.{written-shared}
 use Rattle.scope_core.proofs.items.Items.with_shared.Goals as goal
 
 pub returns : goal.returns

@@ -2,7 +2,7 @@ use Rattle.std.proofs.Common.{◌≡◌, ◌∷◌, ◌++◌, [], Some, length, 
 use Rattle.std.proofs.lemmas.List.{length-map, map-append}
 use Rattle.scope_core.specs.Faults.{name_twice}
 use Rattle.scope_core.specs.Names.{IsIndexOf, names_of}
-use Rattle.scope_core.proofs.Occurring.{index-named, index-repeats}
+use Rattle.scope_core.proofs.basics.Occurring.{index-named, index-repeats}
 use Rattle.scope_core.proofs.names.Columns.push_named.Goals as goal
 
 pub invariant_of-self-2 : goal.invariant_of-self-2

@@ -2,7 +2,7 @@ use Rattle.std.proofs.Common.{◌≡◌, ◌∷◌, ◌++◌, [], None, option_m
 use Rattle.std.proofs.lemmas.List.{map-append}
 use Rattle.scope_core.specs.Faults.{name_twice}
 use Rattle.scope_core.specs.Names.{IsIndexOf, names_of}
-use Rattle.scope_core.proofs.Occurring.{index-unnamed, unnamed-repeats}
+use Rattle.scope_core.proofs.basics.Occurring.{index-unnamed, unnamed-repeats}
 use Rattle.scope_core.proofs.names.Columns.push_unnamed.Goals as goal
 
 pub invariant_of-self-2 : goal.invariant_of-self-2

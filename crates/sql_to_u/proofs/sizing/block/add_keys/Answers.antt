@@ -1,6 +1,6 @@
 use Rattle.std.proofs.Common.{ap, ◌∙◌}
 use Rattle.sql_to_u.specs.Sizes.{both, with_factor}
-use Rattle.sql_to_u.proofs.SizeLaws.{keys-step, keys-end}
+use Rattle.sql_to_u.proofs.sizes.SizeLaws.{keys-step, keys-end}
 use Rattle.sql_to_u.proofs.sizing.block.add_keys.Goals as goal
 
 pub loop-column-preserved : goal.loop-column-preserved

@@ -1,5 +1,5 @@
 use Rattle.std.proofs.Common.{refl}
-use Rattle.u_entail.proofs.Carried.{difference-all-paired, mark-paired}
+use Rattle.u_entail.proofs.copies.Carried.{difference-all-paired, mark-paired}
 use Rattle.u_entail.proofs.carrying.MarkPairs.of.Goals as goal
 
 pub returns-then-branch : goal.returns-then-branch

@@ -2,7 +2,7 @@ use Rattle.std.proofs.Common.{◌≡◌, List, ap, ◌∙◌, subst}
 use Rattle.u_equal.specs.Links.{told}
 use Rattle.u_equal.specs.Routes.{Course}
 use Rattle.u_entail.specs.Carrying.{AreShortCourses, links_of}
-use Rattle.u_entail.proofs.Carried.{either-along, either-entailed, route-from, route-short}
+use Rattle.u_entail.proofs.copies.Carried.{either-along, either-entailed, route-from, route-short}
 use Rattle.u_entail.proofs.carrying.MarkRoute.along.Goals as goal
 
 pub routes_of-requires : goal.routes_of-requires

@@ -1,7 +1,7 @@
 use Rattle.std.proofs.Common.{List, sym, subst}
 use Rattle.u_entail.specs.declared.carrying.Pair.{Pair}
 use Rattle.u_entail.specs.Carrying.{PairsEither}
-use Rattle.u_entail.proofs.Carried.{no-pairs-found, pairs-found}
+use Rattle.u_entail.proofs.copies.Carried.{no-pairs-found, pairs-found}
 use Rattle.u_entail.proofs.carrying.MarkRoute.between.Goals as goal
 
 pub returns-in-None : goal.returns-in-None

@@ -2,7 +2,7 @@ use Rattle.std.proofs.Common.{◌≡◌, Some, get_or, ap, sym, ◌∙◌, subst
 use Rattle.std.proofs.lemmas.Result.{IfOk-weaker}
 use Rattle.u_rules.specs.Terms.{terms}
 use Rattle.u_entail.specs.Marks.{IsMark}
-use Rattle.u_entail.proofs.Doubled.{again-at, term-at}
+use Rattle.u_entail.proofs.copies.Doubled.{again-at, term-at}
 use Rattle.u_entail.proofs.following.Front.again.Goals as goal
 
 pub again_behind-requires-clause-parted : goal.again_behind-requires-clause-parted

@@ -1,6 +1,6 @@
 use Rattle.std.proofs.Common.{sym, ◌∙◌}
 use Rattle.u_rules.specs.Terms.{terms}
-use Rattle.u_entail.proofs.Doubled.{again-behind}
+use Rattle.u_entail.proofs.copies.Doubled.{again-behind}
 use Rattle.u_entail.proofs.following.Front.again_behind.Goals as goal
 
 pub then-requires-clause-joins : goal.then-requires-clause-joins

@@ -3,8 +3,8 @@ use Rattle.std.proofs.lemmas.List.{length-map, length-take}
 use Rattle.u_terms.specs.Syntax.{U}
 use Rattle.u_rules.specs.Terms.{terms}
 use Rattle.u_entail.specs.Following.{Crosses, LandsAt}
-use Rattle.u_entail.proofs.Parts.{terms-front}
-use Rattle.u_entail.proofs.Followed.{hop-within, part-facts, part-stands, hop-stands, hop-followed}
+use Rattle.u_entail.proofs.products.Parts.{terms-front}
+use Rattle.u_entail.proofs.chains.Followed.{hop-within, part-facts, part-stands, hop-stands, hop-followed}
 use Rattle.u_entail.proofs.following.Front.along.Goals as goal
 
 pub slice_bounds-front-end : goal.slice_bounds-front-end

@@ -4,7 +4,7 @@ use Rattle.u_rules.specs.Terms.{terms}
 use Rattle.u_entail.specs.declared.hops.Hop.{Hop}
 use Rattle.u_entail.specs.Gaining.{right_side}
 use Rattle.u_entail.specs.Hops.{AreHops}
-use Rattle.u_entail.proofs.Along.{lead-of}
+use Rattle.u_entail.proofs.chains.Along.{lead-of}
 use Rattle.u_entail.proofs.following.Front.appended.Goals as goal
 
 pub gained-requires-clause-first : goal.gained-requires-clause-first

@@ -5,8 +5,8 @@ use Rattle.u_terms.specs.Syntax.{U}
 use Rattle.u_terms.specs.Places.{IsClosed}
 use Rattle.u_rules.specs.Terms.{terms}
 use Rattle.u_entail.specs.Spines.{spine}
-use Rattle.u_entail.proofs.Parts.{one-known}
-use Rattle.u_entail.proofs.Gained.{equality-begun}
+use Rattle.u_entail.proofs.products.Parts.{one-known}
+use Rattle.u_entail.proofs.chains.Gained.{equality-begun}
 use Rattle.u_entail.proofs.following.Front.begun.Goals as goal
 
 pub then_behind-requires-clause-facts : goal.then_behind-requires-clause-facts

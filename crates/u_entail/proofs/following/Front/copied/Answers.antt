@@ -6,7 +6,7 @@ use Rattle.u_moves.specs.Derivations.{IsKnown}
 use Rattle.u_entail.specs.Gaining.{EndsIn, IsLed}
 use Rattle.u_entail.specs.Hops.{Lead}
 use Rattle.u_entail.specs.Spines.{spine}
-use Rattle.u_entail.proofs.Copied.{copied-by, ends-between, mark-here}
+use Rattle.u_entail.proofs.copies.Copied.{copied-by, ends-between, mark-here}
 use Rattle.u_entail.proofs.following.Front.copied.Goals as goal
 
 pub again-requires-clause-mark : goal.again-requires-clause-mark

@@ -5,7 +5,7 @@ use Rattle.u_rules.specs.Terms.{◌≐◌, neg, terms}
 use Rattle.u_entail.specs.Gaining.{EndsIn, IsLed}
 use Rattle.u_entail.specs.Hops.{Lead}
 use Rattle.u_entail.specs.Spines.{spine}
-use Rattle.u_entail.proofs.Copied.{copied-by, ends-between, exchanged-known}
+use Rattle.u_entail.proofs.copies.Copied.{copied-by, ends-between, exchanged-known}
 use Rattle.u_entail.proofs.following.Front.copied_exchanged.Goals as goal
 
 pub led-requires-clause-begun : goal.led-requires-clause-begun

@@ -4,7 +4,7 @@ use Rattle.u_terms.specs.Syntax.{U}
 use Rattle.u_rules.specs.Terms.{terms}
 use Rattle.u_moves.specs.Derivations.{IsKnown}
 use Rattle.u_entail.specs.Following.{Exchanges}
-use Rattle.u_entail.proofs.Followed.{hop-spot, hop-side, body-known, crosses}
+use Rattle.u_entail.proofs.chains.Followed.{hop-spot, hop-side, body-known, crosses}
 use Rattle.u_entail.proofs.following.Front.crossed.Goals as goal
 
 pub put_at-requires : goal.put_at-requires

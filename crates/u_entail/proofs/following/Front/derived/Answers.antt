@@ -1,6 +1,6 @@
 use Rattle.std.proofs.lemmas.Result.{IfOk-weaker}
 use Rattle.u_rules.specs.Terms.{◌≐◌, terms}
-use Rattle.u_entail.proofs.Gained.{gained-between, product-gained}
+use Rattle.u_entail.proofs.chains.Gained.{gained-between, product-gained}
 use Rattle.u_entail.proofs.following.Front.derived.Goals as goal
 
 pub gained_in-requires-clause-lead : goal.gained_in-requires-clause-lead

@@ -5,8 +5,8 @@ use Rattle.u_terms.specs.Places.{IsClosed}
 use Rattle.u_terms.specs.Size.{depth}
 use Rattle.u_rules.specs.Terms.{◌≐◌, neg, terms}
 use Rattle.u_moves.specs.Derivations.{IsKnown}
-use Rattle.u_entail.proofs.Copied.{equality-closed, mark-here, shallow-mark}
-use Rattle.u_entail.proofs.Negated.{negation-exchanged, part-of-negation}
+use Rattle.u_entail.proofs.copies.Copied.{equality-closed, mark-here, shallow-mark}
+use Rattle.u_entail.proofs.products.Negated.{negation-exchanged, part-of-negation}
 use Rattle.u_entail.proofs.following.Front.difference_exchanged.Goals as goal
 
 pub under-requires : goal.under-requires

@@ -5,7 +5,7 @@ use Rattle.u_terms.specs.Syntax.{U}
 use Rattle.u_terms.specs.Places.{IsClosed}
 use Rattle.u_rules.specs.Terms.{terms}
 use Rattle.u_entail.specs.Spines.{spine}
-use Rattle.u_entail.proofs.Doubled.{doubled-behind, fewer, mark-known}
+use Rattle.u_entail.proofs.copies.Doubled.{doubled-behind, fewer, mark-known}
 use Rattle.u_entail.proofs.following.Front.doubled_behind.Goals as goal
 
 pub doubled-requires-clause-known : goal.doubled-requires-clause-known

@@ -1,7 +1,7 @@
 use Rattle.std.proofs.Common.{◌≡◌}
 use Rattle.std.specs.Prelude.{Some, slice_get}
 use Rattle.u_rules.specs.Terms.{◌≐◌, terms}
-use Rattle.u_entail.proofs.Exchanged.{equality-at, exchanged-back, exchanged-forth}
+use Rattle.u_entail.proofs.chains.Exchanged.{equality-at, exchanged-back, exchanged-forth}
 use Rattle.u_entail.proofs.following.Front.exchanged.Goals as goal
 
 pub returns-then-turned : goal.returns-then-turned

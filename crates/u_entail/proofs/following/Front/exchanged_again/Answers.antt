@@ -4,7 +4,7 @@ use Rattle.std.proofs.lemmas.Result.{IfOk-weaker}
 use Rattle.u_terms.specs.Syntax.{U}
 use Rattle.u_terms.specs.Places.{IsClosed}
 use Rattle.u_rules.specs.Terms.{◌≐◌, neg, terms}
-use Rattle.u_entail.proofs.Copied.{again-facts, again-outs, again-stands, mark-closed, exchange-ready, negation-stands}
+use Rattle.u_entail.proofs.copies.Copied.{again-facts, again-outs, again-stands, mark-closed, exchange-ready, negation-stands}
 use Rattle.u_entail.proofs.following.Front.exchanged_again.Goals as goal
 
 pub again-requires-clause-mark : goal.again-requires-clause-mark

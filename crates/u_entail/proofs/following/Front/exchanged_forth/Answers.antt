@@ -4,8 +4,8 @@ use Rattle.u_terms.specs.Syntax.{U}
 use Rattle.u_rules.specs.Terms.{terms}
 use Rattle.u_moves.specs.Moving.{IsKnownValue}
 use Rattle.u_entail.specs.Spines.{spine}
-use Rattle.u_entail.proofs.Parts.{terms-behind}
-use Rattle.u_entail.proofs.Exchanged.{side-known, body-known, exchange-by}
+use Rattle.u_entail.proofs.products.Parts.{terms-behind}
+use Rattle.u_entail.proofs.chains.Exchanged.{side-known, body-known, exchange-by}
 use Rattle.u_entail.proofs.following.Front.exchanged_forth.Goals as goal
 
 pub eq_subst-requires-clause-a : goal.eq_subst-requires-clause-a

@@ -4,8 +4,8 @@ use Rattle.u_rules.specs.Terms.{terms}
 use Rattle.u_entail.specs.declared.hops.Hop.{Hop}
 use Rattle.u_entail.specs.Hops.{Lead}
 use Rattle.u_entail.specs.Following.{IsFollowed}
-use Rattle.u_entail.proofs.Lists.{drop-item}
-use Rattle.u_entail.proofs.Followed.{lead-first, lead-rest, followed-none, followed-more}
+use Rattle.u_entail.proofs.products.Lists.{drop-item}
+use Rattle.u_entail.proofs.chains.Followed.{lead-first, lead-rest, followed-none, followed-more}
 use Rattle.u_entail.proofs.following.Front.follow.Goals as goal
 
 pub along-requires-clause-leads : goal.along-requires-clause-leads

@@ -6,8 +6,8 @@ use Rattle.u_moves.specs.Derivations.{IsKnown}
 use Rattle.u_entail.specs.Gaining.{EndsIn}
 use Rattle.u_entail.specs.Hops.{Lead}
 use Rattle.u_entail.specs.Spines.{spine}
-use Rattle.u_entail.proofs.Gained.{equality-gained}
-use Rattle.u_entail.proofs.Parts.{eq-known}
+use Rattle.u_entail.proofs.chains.Gained.{equality-gained}
+use Rattle.u_entail.proofs.products.Parts.{eq-known}
 use Rattle.u_entail.proofs.following.Front.gained.Goals as goal
 
 pub led-requires-clause-begun : goal.led-requires-clause-begun

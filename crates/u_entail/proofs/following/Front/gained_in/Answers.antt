@@ -1,7 +1,7 @@
 use Rattle.std.proofs.lemmas.Result.{IfOk-weaker}
 use Rattle.u_rules.specs.Terms.{I, terms}
 use Rattle.u_entail.specs.Spines.{spine}
-use Rattle.u_entail.proofs.Gained.{spread-ends}
+use Rattle.u_entail.proofs.chains.Gained.{spread-ends}
 use Rattle.u_entail.proofs.following.Front.gained_in.Goals as goal
 
 pub gained-requires-clause-first : goal.gained-requires-clause-first

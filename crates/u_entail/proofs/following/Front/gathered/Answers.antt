@@ -3,8 +3,8 @@ use Rattle.u_terms.specs.Syntax.{U}
 use Rattle.u_rules.specs.Terms.{◌⊗◌, ◌≐◌, terms}
 use Rattle.u_moves.specs.Derivations.{IsKnown}
 use Rattle.u_entail.specs.Spines.{spine}
-use Rattle.u_entail.proofs.Parts.{eq-known, mul-known, spine-known}
-use Rattle.u_entail.proofs.Gained.{gathered-leaves}
+use Rattle.u_entail.proofs.products.Parts.{eq-known, mul-known, spine-known}
+use Rattle.u_entail.proofs.chains.Gained.{gathered-leaves}
 use Rattle.u_entail.proofs.following.Front.gathered.Goals as goal
 
 pub mul_ac-requires-clause-x : goal.mul_ac-requires-clause-x

@@ -3,7 +3,7 @@ use Rattle.std.proofs.lemmas.Result.{IfOk-weaker}
 use Rattle.u_terms.specs.Syntax.{U}
 use Rattle.u_entail.specs.Following.{LandsAt}
 use Rattle.u_rules.specs.Terms.{terms}
-use Rattle.u_entail.proofs.Followed.{hop-spot, hop-side, lands}
+use Rattle.u_entail.proofs.chains.Followed.{hop-spot, hop-side, lands}
 use Rattle.u_entail.proofs.following.Front.landed.Goals as goal
 
 pub other_side-side-requires : goal.other_side-side-requires

@@ -1,5 +1,5 @@
 use Rattle.u_rules.specs.Terms.{terms}
-use Rattle.u_entail.proofs.Gained.{start-stands, last-led}
+use Rattle.u_entail.proofs.chains.Gained.{start-stands, last-led}
 use Rattle.u_entail.proofs.following.Front.led.Goals as goal
 
 pub follow-requires-clause-stands : goal.follow-requires-clause-stands

@@ -2,7 +2,7 @@ use Rattle.std.proofs.Common.{ap, ◌∙◌}
 use Rattle.u_terms.specs.Syntax.{U}
 use Rattle.u_rules.specs.Terms.{terms}
 use Rattle.u_entail.specs.Spines.{spine}
-use Rattle.u_entail.proofs.Doubled.{first-known, last-known, last-leaves}
+use Rattle.u_entail.proofs.copies.Doubled.{first-known, last-known, last-leaves}
 use Rattle.u_entail.proofs.following.Front.mark_last.Goals as goal
 
 pub mul_ac-requires-clause-x : goal.mul_ac-requires-clause-x

@@ -1,7 +1,7 @@
 use Rattle.std.proofs.Common.{◌≡◌, length, rules, ap, ◌∙◌, arith}
 use Rattle.u_rules.specs.Terms.{terms}
 use Rattle.u_entail.specs.Marks.{without}
-use Rattle.u_entail.proofs.Doubled.{terms-without, within-terms}
+use Rattle.u_entail.proofs.copies.Doubled.{terms-without, within-terms}
 use Rattle.u_entail.proofs.following.Front.others.Goals as goal
 
 pub remove-requires : goal.remove-requires

@@ -1,6 +1,6 @@
 use Rattle.std.proofs.Common.{sym, ◌∙◌}
 use Rattle.u_rules.specs.Terms.{terms}
-use Rattle.u_entail.proofs.Gained.{regathered}
+use Rattle.u_entail.proofs.chains.Gained.{regathered}
 use Rattle.u_entail.proofs.following.Front.regathered.Goals as goal
 
 pub then-requires-clause-joins : goal.then-requires-clause-joins

@@ -4,8 +4,8 @@ use Rattle.u_terms.specs.Syntax.{Val}
 use Rattle.u_rules.specs.declared.rule.Rule.TheVariants as rule
 use Rattle.u_rules.specs.Terms.{◌≐◌, terms}
 use Rattle.u_moves.specs.Moving.{IsKnownValue}
-use Rattle.u_entail.proofs.Copied.{sides-here}
-use Rattle.u_entail.proofs.Gained.{regrouped}
+use Rattle.u_entail.proofs.copies.Copied.{sides-here}
+use Rattle.u_entail.proofs.chains.Gained.{regrouped}
 use Rattle.u_entail.proofs.following.Front.sides_exchanged.Goals as goal
 
 pub eq_sym-requires-clause-a : goal.eq_sym-requires-clause-a

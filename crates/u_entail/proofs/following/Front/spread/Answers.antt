@@ -3,8 +3,8 @@ use Rattle.std.specs.Prelude.{IsPermutation}
 use Rattle.u_terms.specs.Syntax.{U}
 use Rattle.u_rules.specs.Terms.{I, mul_leaves, terms}
 use Rattle.u_moves.specs.Derivations.{IsKnown}
-use Rattle.u_entail.proofs.Parts.{one-known, spine-known}
-use Rattle.u_entail.proofs.Gained.{spread-leaves}
+use Rattle.u_entail.proofs.products.Parts.{one-known, spine-known}
+use Rattle.u_entail.proofs.chains.Gained.{spread-leaves}
 use Rattle.u_entail.proofs.following.Front.spread.Goals as goal
 
 pub mul_ac-requires-clause-y : goal.mul_ac-requires-clause-y

@@ -2,8 +2,8 @@ use Rattle.std.proofs.Common.{◌≡◌, ap, sym, ◌∙◌, subst}
 use Rattle.u_terms.specs.Syntax.{U}
 use Rattle.u_rules.specs.Terms.{◌⊗◌}
 use Rattle.u_moves.specs.Derivations.{IsKnown}
-use Rattle.u_entail.proofs.Parts.{mul-known, one-known}
-use Rattle.u_entail.proofs.Gained.{widened-leaves}
+use Rattle.u_entail.proofs.products.Parts.{mul-known, one-known}
+use Rattle.u_entail.proofs.chains.Gained.{widened-leaves}
 use Rattle.u_entail.proofs.following.Front.times_one.Goals as goal
 
 pub mul_ac-requires-clause-y : goal.mul_ac-requires-clause-y

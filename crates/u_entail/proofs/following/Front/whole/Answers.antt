@@ -5,8 +5,8 @@ use Rattle.u_terms.specs.Syntax.{U}
 use Rattle.u_terms.specs.Products.{product_of}
 use Rattle.u_rules.specs.Terms.{terms}
 use Rattle.u_entail.specs.Spines.{spine}
-use Rattle.u_entail.proofs.Parts.{terms-last}
-use Rattle.u_entail.proofs.Spines.{product-spine}
+use Rattle.u_entail.proofs.products.Parts.{terms-last}
+use Rattle.u_entail.proofs.products.Spines.{product-spine}
 use Rattle.u_entail.proofs.following.Front.whole.Goals as goal
 
 pub returns : goal.returns

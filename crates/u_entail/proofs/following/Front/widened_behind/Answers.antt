@@ -2,7 +2,7 @@ use Rattle.std.proofs.Common.{refl}
 use Rattle.std.proofs.lemmas.Result.{IfOk-weaker}
 use Rattle.u_rules.specs.Terms.{terms}
 use Rattle.u_entail.specs.Spines.{spine}
-use Rattle.u_entail.proofs.Gained.{last-known, whole-known, whole-shallow, widened-more}
+use Rattle.u_entail.proofs.chains.Gained.{last-known, whole-known, whole-shallow, widened-more}
 use Rattle.u_entail.proofs.following.Front.widened_behind.Goals as goal
 
 pub still-requires-clause-known : goal.still-requires-clause-known

@@ -5,8 +5,8 @@ use Rattle.std.proofs.lemmas.Result.{on_ok_weaker}
 use Rattle.u_equal.specs.Joined.{label_now, seen}
 use Rattle.u_equal.specs.Standing.{IsIn}
 use Rattle.u_equal.specs.Agendas.{users_at}
-use Rattle.u_equal.proofs.Listed.{place-within}
-use Rattle.u_equal.proofs.Waiting.{each-item, each-more, user-here, user-still}
+use Rattle.u_equal.proofs.products.Listed.{place-within}
+use Rattle.u_equal.proofs.congruence.Waiting.{each-item, each-more, user-here, user-still}
 use Rattle.u_equal.proofs.agenda.Agenda.enter.Goals as goal
 
 pub class_of-class-requires-clause-place : goal.class_of-class-requires-clause-place

@@ -3,7 +3,7 @@ use Rattle.std.proofs.Math.ListN.{set}
 use Rattle.std.proofs.lemmas.List.{length-set}
 use Rattle.u_equal.specs.Standing.{IsIn}
 use Rattle.u_equal.specs.Agendas.{users_at}
-use Rattle.u_equal.proofs.Waiting.{each-item, each-more, user-here, user-still, users-now}
+use Rattle.u_equal.proofs.congruence.Waiting.{each-item, each-more, user-here, user-still, users-now}
 use Rattle.u_equal.proofs.agenda.Agenda.move_users.Goals as goal
 
 pub loop-number-preserved : goal.loop-number-preserved

@@ -4,7 +4,7 @@ use Rattle.indexmap.specs.IndexMap.{get}
 use Rattle.u_equal.specs.declared.calls.Signature.{Signature}
 use Rattle.u_equal.specs.Joined.{label_now, seen}
 use Rattle.u_equal.specs.Tables.{same_signature, signature}
-use Rattle.u_equal.proofs.Signatures.{forgets}
+use Rattle.u_equal.proofs.congruence.Signatures.{forgets}
 use Rattle.u_equal.proofs.agenda.Agenda.wake_call.Goals as goal
 
 pub returns-clause-forgotten : goal.returns-clause-forgotten

@@ -1,5 +1,5 @@
 use Rattle.std.proofs.Common.{◌<◌, List, ℕ, length, get_or, sym, ap, subst, arith}
-use Rattle.u_equal.proofs.Listed.{place-within}
+use Rattle.u_equal.proofs.products.Listed.{place-within}
 use Rattle.u_equal.proofs.calls.Call.signature_at.Goals as goal
 
 pub class_at-requires-clause-place : goal.class_at-requires-clause-place

@@ -3,8 +3,8 @@ use Rattle.std.specs.Prelude.{Some, None}
 use Rattle.std.proofs.lemmas.Bool.{true≢false}
 use Rattle.u_terms.specs.Syntax.{U}
 use Rattle.u_equal.specs.Routes.{IsChain}
-use Rattle.u_equal.proofs.Answered.{classes-complete}
-use Rattle.u_equal.proofs.Routed.{chain-of}
+use Rattle.u_equal.proofs.entailment.Answered.{classes-complete}
+use Rattle.u_equal.proofs.links.Routed.{chain-of}
 use Rattle.u_equal.proofs.classes.Classes.chain.Goals as goal
 
 pub returns-then-not-are_same : goal.returns-then-not-are_same

@@ -2,7 +2,7 @@ use Rattle.std.proofs.Common.{subst}
 use Rattle.std.specs.Prelude.{◌↔◌, IsTrue}
 use Rattle.u_terms.specs.Syntax.{U}
 use Rattle.u_equal.specs.Entails.{Entails}
-use Rattle.u_equal.proofs.Answered.{classes-sound, classes-complete}
+use Rattle.u_equal.proofs.entailment.Answered.{classes-sound, classes-complete}
 use Rattle.u_equal.proofs.classes.Classes.entails.Goals as goal
 
 pub returns : goal.returns

@@ -5,7 +5,7 @@ use Rattle.u_rules.specs.Terms.{mul_leaves, terms}
 use Rattle.u_equal.specs.Gathering.{values_at}
 use Rattle.u_equal.specs.Joined.{seen, JoinsFactors}
 use Rattle.u_equal.specs.Tables.{AreValuesOf, HasArguments, HasSides}
-use Rattle.u_equal.proofs.Made.{fresh-state, sides-in, arguments-in, classes-made}
+use Rattle.u_equal.proofs.products.Made.{fresh-state, sides-in, arguments-in, classes-made}
 use Rattle.u_equal.proofs.classes.Classes.of.Goals as goal
 
 pub join_factors-requires-clause-state : goal.join_factors-requires-clause-state

@@ -3,7 +3,7 @@ use Rattle.std.proofs.lemmas.Bool.{true≢false}
 use Rattle.u_terms.specs.Syntax.{U}
 use Rattle.u_equal.specs.Entails.{Entails}
 use Rattle.u_equal.specs.Routes.{IsFrom}
-use Rattle.u_equal.proofs.Answered.{classes-complete}
+use Rattle.u_equal.proofs.entailment.Answered.{classes-complete}
 use Rattle.u_equal.proofs.classes.Classes.route.Goals as goal
 
 pub returns-then-not-are_same : goal.returns-then-not-are_same

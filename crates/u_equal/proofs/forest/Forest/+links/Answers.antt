@@ -12,10 +12,10 @@ use Rattle.std.proofs.lemmas.Result.{IfOk-weaker}
 use Rattle.u_equal.specs.LinkCounts.{links_of_hops, links_of_values, sum_of_pairs}
 use Rattle.u_equal.specs.Joined.{seen}
 use Rattle.u_equal.specs.Chains.{LinksHops}
-use Rattle.u_equal.proofs.Ways.{edge-read}
-use Rattle.u_equal.proofs.Linked.{way-each, links-of, leads-same, hops-none, hops-more, given-hop, called-hop, calls-hop, given-count, called-count, count-found, each-more}
-use Rattle.u_equal.proofs.LinkNumbers.{links-same, links-at, same-taken, pairs-counted, hops-counted}
-use Rattle.u_equal.proofs.Nested.{given-nests, call-nests, links-nest, pairs-nest}
+use Rattle.u_equal.proofs.links.Ways.{edge-read}
+use Rattle.u_equal.proofs.links.Linked.{way-each, links-of, leads-same, hops-none, hops-more, given-hop, called-hop, calls-hop, given-count, called-count, count-found, each-more}
+use Rattle.u_equal.proofs.links.LinkNumbers.{links-same, links-at, same-taken, pairs-counted, hops-counted}
+use Rattle.u_equal.proofs.links.Nested.{given-nests, call-nests, links-nest, pairs-nest}
 use Rattle.u_equal.proofs.forest.Forest.+links.Goals as goal
 
 -- ---- link

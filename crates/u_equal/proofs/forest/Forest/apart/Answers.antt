@@ -1,5 +1,5 @@
 use Rattle.std.proofs.Common.{arith}
-use Rattle.u_equal.proofs.Trees.{tree-fresh}
+use Rattle.u_equal.proofs.edges.Trees.{tree-fresh}
 use Rattle.u_equal.proofs.forest.Forest.apart.Goals as goal
 
 pub returns-clause-tree : goal.returns-clause-tree

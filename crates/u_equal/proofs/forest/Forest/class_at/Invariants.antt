@@ -1,6 +1,6 @@
 use Rattle.std.proofs.Common.{◌≡◌, ◌<◌, length}
 use Rattle.u_equal.specs.Joined.{label_at, place_at}
-use Rattle.u_equal.proofs.Trees.{age}
+use Rattle.u_equal.proofs.edges.Trees.{age}
 use Rattle.u_equal.proofs.forest.Forest.class_at.Given as goal
 
 abbrev pub invariant-loop-place : goal.invariant-loop-place

@@ -1,7 +1,7 @@
 use Rattle.std.proofs.Common.{length, ap, sym, ◌∙◌}
 use Rattle.u_equal.specs.Joined.{seen}
 use Rattle.u_equal.specs.Links.{told}
-use Rattle.u_equal.proofs.LinkNumbers.{links-same, told-zero}
+use Rattle.u_equal.proofs.links.LinkNumbers.{links-same, told-zero}
 use Rattle.u_equal.proofs.forest.Forest.count_links.Goals as goal
 
 pub returns-then-same_value : goal.returns-then-same_value

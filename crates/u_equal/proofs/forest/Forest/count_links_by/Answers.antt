@@ -7,8 +7,8 @@ use Rattle.u_equal.specs.declared.chains.Hop.{Hop}
 use Rattle.u_equal.specs.Joined.{seen}
 use Rattle.u_equal.specs.Links.{told}
 use Rattle.u_equal.specs.LinkCounts.{links_of_edge, links_of_hops}
-use Rattle.u_equal.proofs.Linked.{way-each}
-use Rattle.u_equal.proofs.LinkNumbers.{links-same, links-at, told-sum, told-zero}
+use Rattle.u_equal.proofs.links.Linked.{way-each}
+use Rattle.u_equal.proofs.links.LinkNumbers.{links-same, links-at, told-sum, told-zero}
 use Rattle.u_equal.proofs.forest.Forest.count_links_by.Goals as goal
 
 pub returns-then-same_value : goal.returns-then-same_value

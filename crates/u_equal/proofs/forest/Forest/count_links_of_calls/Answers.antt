@@ -5,7 +5,7 @@ use Rattle.u_terms.specs.declared.term.Val.TheVariants as v
 use Rattle.u_equal.specs.Joined.{seen}
 use Rattle.u_equal.specs.Links.{told}
 use Rattle.u_equal.specs.LinkCounts.{links_of_values}
-use Rattle.u_equal.proofs.LinkNumbers.{pairs-found}
+use Rattle.u_equal.proofs.links.LinkNumbers.{pairs-found}
 use Rattle.u_equal.proofs.forest.Forest.count_links_of_calls.Goals as goal
 
 pub returns-in-Fun-Fun : goal.returns-in-Fun-Fun

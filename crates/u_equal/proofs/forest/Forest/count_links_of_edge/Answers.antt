@@ -4,8 +4,8 @@ use Rattle.u_equal.specs.declared.forest.Edge.{Edge}
 use Rattle.u_equal.specs.Joined.{seen}
 use Rattle.u_equal.specs.Links.{told}
 use Rattle.u_equal.specs.LinkCounts.{arguments, links_of_edge, links_of_values, sum_of_pairs}
-use Rattle.u_equal.proofs.Ways.{edge-read}
-use Rattle.u_equal.proofs.LinkNumbers.{edge-called, told-sum}
+use Rattle.u_equal.proofs.links.Ways.{edge-read}
+use Rattle.u_equal.proofs.links.LinkNumbers.{edge-called, told-sum}
 use Rattle.u_equal.proofs.forest.Forest.count_links_of_edge.Goals as goal
 
 pub returns-in_ok-inside-in-Called : goal.returns-in_ok-inside-in-Called

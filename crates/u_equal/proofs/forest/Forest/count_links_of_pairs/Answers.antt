@@ -4,7 +4,7 @@ use Rattle.u_terms.specs.Syntax.{Val}
 use Rattle.u_equal.specs.Joined.{seen}
 use Rattle.u_equal.specs.Links.{told}
 use Rattle.u_equal.specs.LinkCounts.{links_of_values, sum_of_pairs}
-use Rattle.u_equal.proofs.LinkNumbers.{same-taken, pairs-number, told-sum}
+use Rattle.u_equal.proofs.links.LinkNumbers.{same-taken, pairs-number, told-sum}
 use Rattle.u_equal.proofs.forest.Forest.count_links_of_pairs.Goals as goal
 
 pub loop-i-preserved : goal.loop-i-preserved

@@ -1,4 +1,4 @@
-use Rattle.u_equal.proofs.KeyLaws.{found}
+use Rattle.u_equal.proofs.products.KeyLaws.{found}
 use Rattle.u_equal.proofs.forest.Forest.find.Goals as goal
 
 pub returns : goal.returns

@@ -2,7 +2,7 @@ use Rattle.std.proofs.Common.{rules, ◌≡◌, ℕ, List, [], ◌∷◌, ◌++�
 use Rattle.u_equal.specs.declared.forest.Edge.{Edge}
 use Rattle.u_equal.specs.declared.forest.Place.TheVariants.{Root, Under}
 use Rattle.u_equal.specs.Joined.{seen, IsTreeOf}
-use Rattle.u_equal.proofs.Trees.{tree-hung}
+use Rattle.u_equal.proofs.edges.Trees.{tree-hung}
 use Rattle.u_equal.proofs.forest.Forest.hang.Goals as goal
 
 pub returns-clause-tree : goal.returns-clause-tree

@@ -5,7 +5,7 @@ use Rattle.indexmap.specs.IndexMap.{get}
 use Rattle.u_equal.specs.declared.calls.Signature.{Signature}
 use Rattle.u_equal.specs.Joined.{seen, label_now}
 use Rattle.u_equal.specs.Tables.{IsNoted, IsStep, same_signature, signature}
-use Rattle.u_equal.proofs.Signatures.{step-joined}
+use Rattle.u_equal.proofs.congruence.Signatures.{step-joined}
 use Rattle.u_equal.proofs.forest.Forest.join_call.Goals as goal
 
 pub returns-in-Some-clause-step : goal.returns-in-Some-clause-step

@@ -5,9 +5,9 @@ use Rattle.u_terms.specs.Syntax.{Val}
 use Rattle.u_equal.specs.Joined.{State, label_now, seen, IsProgress}
 use Rattle.u_equal.specs.Tables.{AreCallsOf, same_signature}
 use Rattle.u_equal.specs.Agendas.{EachUses}
-use Rattle.u_equal.proofs.Reaches.{fewer-edges}
-use Rattle.u_equal.proofs.Signatures.{all-closed, known-less, progress-through}
-use Rattle.u_equal.proofs.Waiting.{all-settled, all-use, each-leads}
+use Rattle.u_equal.proofs.edges.Reaches.{fewer-edges}
+use Rattle.u_equal.proofs.congruence.Signatures.{all-closed, known-less, progress-through}
+use Rattle.u_equal.proofs.congruence.Waiting.{all-settled, all-use, each-leads}
 use Rattle.u_equal.proofs.forest.Forest.join_calls.Goals as goal
 
 pub loop-agenda-smaller : goal.loop-agenda-smaller

@@ -6,8 +6,8 @@ use Rattle.u_terms.specs.Syntax.{Val}
 use Rattle.u_rules.specs.Terms.{terms}
 use Rattle.u_equal.specs.Standing.{IsIn}
 use Rattle.u_equal.specs.Joined.{seen}
-use Rattle.u_equal.proofs.Listed.{item-here}
-use Rattle.u_equal.proofs.Sides.{factors-none, factors-other, factors-more}
+use Rattle.u_equal.proofs.products.Listed.{item-here}
+use Rattle.u_equal.proofs.products.Sides.{factors-none, factors-other, factors-more}
 use Rattle.u_equal.proofs.forest.Forest.join_factors.Goals as goal
 use Rattle.u_equal.proofs.forest.Forest.join_factors.Goals.{in-Eq+in_ok-join, in_default}
 

@@ -4,7 +4,7 @@ use Rattle.indexmap.specs.IndexMap.{get}
 use Rattle.u_equal.specs.Joined.{State, seen}
 use Rattle.u_equal.specs.Tables.{same_signature}
 use Rattle.u_equal.specs.Agendas.{AreSettled, IsNext}
-use Rattle.u_equal.proofs.Waiting.{next-joined, next-none, rest-settled}
+use Rattle.u_equal.proofs.congruence.Waiting.{next-joined, next-none, rest-settled}
 use Rattle.u_equal.proofs.forest.Forest.join_next.Goals as goal
 
 pub returns-then-branch-clause-next : goal.returns-then-branch-clause-next

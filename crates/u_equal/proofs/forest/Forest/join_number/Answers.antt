@@ -4,7 +4,7 @@ use Rattle.std.proofs.lemmas.Result.{IfOk-weaker}
 use Rattle.indexmap.specs.IndexMap.{get}
 use Rattle.u_equal.specs.Joined.{seen}
 use Rattle.u_equal.specs.Tables.{same_signature}
-use Rattle.u_equal.proofs.Waiting.{looked-none, looked-step}
+use Rattle.u_equal.proofs.congruence.Waiting.{looked-none, looked-step}
 use Rattle.u_equal.proofs.forest.Forest.join_number.Goals as goal
 
 pub returns-in-Some-clause-looked : goal.returns-in-Some-clause-looked

@@ -2,7 +2,7 @@ use Rattle.std.proofs.Common.{◌≡◌, ◌+◌, ◌<◌, inl, inr, arith, ap, 
 use Rattle.std.proofs.lemmas.Bool.{cases_eq, ne_eqb}
 use Rattle.u_equal.specs.declared.forest.Edge.{Edge}
 use Rattle.u_equal.specs.Joined.{edge_at, label_at, seen}
-use Rattle.u_equal.proofs.Ways.{apart-start, some-edge, edge-read, meets-forth, meets-back}
+use Rattle.u_equal.proofs.links.Ways.{apart-start, some-edge, edge-read, meets-forth, meets-back}
 use Rattle.u_equal.proofs.forest.Forest.meeting.Goals as goal
 
 pub loop-joined-init : goal.loop-joined-init

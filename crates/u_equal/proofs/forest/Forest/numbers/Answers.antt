@@ -2,7 +2,7 @@ use Rattle.std.proofs.Common.{length, ap, sym, subst, arith}
 use Rattle.std.specs.Prelude.{ℕ, List}
 use Rattle.u_equal.specs.Joined.{seen}
 use Rattle.u_equal.specs.LinkCounts.{AreNumbers}
-use Rattle.u_equal.proofs.LinkNumbers.{numbers-long}
+use Rattle.u_equal.proofs.links.LinkNumbers.{numbers-long}
 use Rattle.u_equal.proofs.forest.Forest.numbers.Goals as goal
 
 pub count_links_of_edge-requires-clause-numbers : goal.count_links_of_edge-requires-clause-numbers

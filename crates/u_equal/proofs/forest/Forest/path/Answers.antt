@@ -3,7 +3,7 @@ use Rattle.u_equal.specs.declared.chains.Part.{Part}
 use Rattle.u_equal.specs.declared.chains.Part.TheVariants.{Open}
 use Rattle.u_equal.specs.Joined.{reach, seen}
 use Rattle.u_equal.specs.LinkCounts.{links_between}
-use Rattle.u_equal.proofs.Ways.{way-opened, part-sound, walked-way, walked-short, walked-counted}
+use Rattle.u_equal.proofs.links.Ways.{way-opened, part-sound, walked-way, walked-short, walked-counted}
 use Rattle.u_equal.proofs.forest.Forest.path.Goals as goal
 
 pub loop-part-init : goal.loop-part-init

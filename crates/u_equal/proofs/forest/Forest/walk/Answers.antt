@@ -3,7 +3,7 @@ use Rattle.std.proofs.lemmas.Result.{on_ok_weaker}
 use Rattle.u_equal.specs.declared.chains.Part.{Part}
 use Rattle.u_equal.specs.Joined.{seen}
 use Rattle.u_equal.specs.Chains.{IsSound, Walks}
-use Rattle.u_equal.proofs.Ways.{walks-found, walks-same, walks-parted}
+use Rattle.u_equal.proofs.links.Ways.{walks-found, walks-same, walks-parted}
 use Rattle.u_equal.proofs.forest.Forest.walk.Goals as goal
 
 pub returns-then-from-to : goal.returns-then-from-to

@@ -1,7 +1,7 @@
 use Rattle.std.proofs.Common.{ap, ◌∙◌}
 use Rattle.u_terms.specs.Syntax.{Val}
 use Rattle.u_equal.specs.Keys.{same_code}
-use Rattle.u_equal.proofs.KeyLaws.{same-is}
+use Rattle.u_equal.proofs.products.KeyLaws.{same-is}
 use Rattle.u_equal.proofs.key.KeyPartialEq.eq.Goals as goal
 
 pub returns : goal.returns

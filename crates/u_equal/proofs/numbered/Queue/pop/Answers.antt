@@ -1,6 +1,6 @@
 use Rattle.std.proofs.Common.{List, ℕ, Bool, subst, arith}
 use Rattle.u_equal.specs.Numbered.{AreMarked}
-use Rattle.u_equal.proofs.Added.{first-within, marked-left}
+use Rattle.u_equal.proofs.congruence.Added.{first-within, marked-left}
 use Rattle.u_equal.proofs.numbered.Queue.pop.Goals as goal
 
 pub index_mut-requires : goal.index_mut-requires

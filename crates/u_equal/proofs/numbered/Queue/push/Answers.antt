@@ -1,7 +1,7 @@
 use Rattle.std.proofs.Common.{ℕ, List, true, slice_set, sym, subst}
 use Rattle.u_equal.specs.Standing.{IsIn}
 use Rattle.u_equal.specs.Numbered.{AreMarked, IsAdded}
-use Rattle.u_equal.proofs.Added.{added-last, marked-more, marked-same}
+use Rattle.u_equal.proofs.congruence.Added.{added-last, marked-more, marked-same}
 use Rattle.u_equal.proofs.numbered.Queue.push.Goals as goal
 
 pushed : (c : goal.After-self-1) → AreMarked c.push_back.new.self.items (slice_set c.make_place.new.marks.items c.args.number true)

@@ -1,6 +1,6 @@
 use Rattle.std.proofs.Common.{List, ℕ, sym, subst}
 use Rattle.u_equal.specs.Numbered.{IsAdded}
-use Rattle.u_equal.proofs.Added.{added-key}
+use Rattle.u_equal.proofs.congruence.Added.{added-key}
 use Rattle.u_equal.proofs.numbered.Users.insert.Goals as goal
 
 pub returns : goal.returns

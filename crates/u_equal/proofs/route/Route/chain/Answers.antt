@@ -1,7 +1,7 @@
 use Rattle.std.proofs.Common.{subst}
 use Rattle.std.specs.Prelude.{Some, IfOk}
 use Rattle.u_equal.specs.Routes.{Course, IsChain}
-use Rattle.u_equal.proofs.Routed.{chain-ok}
+use Rattle.u_equal.proofs.links.Routed.{chain-ok}
 use Rattle.u_equal.proofs.route.Route.chain.Goals as goal
 
 pub returns-clause-leads : goal.returns-clause-leads

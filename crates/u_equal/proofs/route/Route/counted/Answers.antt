@@ -1,5 +1,5 @@
 use Rattle.std.proofs.Common.{refl}
-use Rattle.u_equal.proofs.Routed.{from-route}
+use Rattle.u_equal.proofs.links.Routed.{from-route}
 use Rattle.u_equal.proofs.route.Route.counted.Goals as goal
 
 pub returns : goal.returns

@@ -4,7 +4,7 @@ use Rattle.u_rules.specs.Terms.{mul_leaves}
 use Rattle.u_equal.specs.Links.{HasNoCall, is_equality}
 use Rattle.u_equal.specs.Routes.{Course}
 use Rattle.u_equal.specs.Standing.{standing}
-use Rattle.u_equal.proofs.Routed.{route-few}
+use Rattle.u_equal.proofs.links.Routed.{route-few}
 use Rattle.u_equal.proofs.route.Route.links.Goals as goal
 
 pub returns-clause-few : goal.returns-clause-few

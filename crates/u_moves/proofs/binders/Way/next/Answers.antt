@@ -1,7 +1,7 @@
 use Rattle.std.proofs.Common.{◌≡◌, ◌<◌, ◌∷◌, subst, sym, rules, arith}
 use Rattle.u_deriv.specs.Turns.{count_of}
 use Rattle.u_deriv.specs.Walk.{first_count}
-use Rattle.u_deriv.proofs.Ways.{next_in_run, next_at_end}
+use Rattle.u_deriv.proofs.paths.Ways.{next_in_run, next_at_end}
 use Rattle.u_moves.proofs.binders.Way.next.Goals as goal
 
 pub returns-then-passed-count : goal.returns-then-passed-count

@@ -1,9 +1,9 @@
 use Rattle.std.proofs.Common.{◌≡◌, ◌∙◌, subst, sym, arith}
 use Rattle.u_terms.specs.Syntax.{U}
 use Rattle.u_terms.specs.Size.{nodes}
-use Rattle.u_deriv.proofs.Extents.{replaced-nodes}
+use Rattle.u_deriv.proofs.contexts.Extents.{replaced-nodes}
 use Rattle.u_moves.specs.Lifting.{Stands}
-use Rattle.u_moves.proofs.Sound.{never_refused}
+use Rattle.u_moves.proofs.derivations.Sound.{never_refused}
 use Rattle.u_moves.proofs.counted.Counted.replace.Goals as goal
 
 pub overflow_sub-self : goal.overflow_sub-self

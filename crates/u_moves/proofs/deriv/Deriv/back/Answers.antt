@@ -1,6 +1,6 @@
 use Rattle.std.proofs.Common.{refl}
 use Rattle.u_moves.specs.Derivations.{Derivation}
-use Rattle.u_moves.proofs.Sound.{turned, turned-sound, sound-by}
+use Rattle.u_moves.proofs.derivations.Sound.{turned, turned-sound, sound-by}
 use Rattle.u_moves.proofs.deriv.Deriv.back.Goals as goal
 
 pub invariant_of-result : goal.invariant_of-result

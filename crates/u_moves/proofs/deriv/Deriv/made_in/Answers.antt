@@ -1,6 +1,6 @@
 use Rattle.std.proofs.lemmas.Result.{IfOk-at_ok}
 use Rattle.u_moves.specs.Derivations.{Derivation}
-use Rattle.u_moves.proofs.Made.{Given, shallow-inside, room-inside, stands-inside, made-whole, made-shown}
+use Rattle.u_moves.proofs.derivations.Made.{Given, shallow-inside, room-inside, stands-inside, made-whole, made-shown}
 use Rattle.u_moves.proofs.deriv.Deriv.made_in.Goals as goal
 
 pub replaced-requires-clause-shallow : goal.replaced-requires-clause-shallow

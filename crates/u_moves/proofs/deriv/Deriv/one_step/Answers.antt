@@ -1,6 +1,6 @@
 use Rattle.std.proofs.Common.{max, [], ◌∷◌, refl, ◌∙◌}
 use Rattle.u_terms.specs.Size.{nodes, depth}
-use Rattle.u_moves.proofs.Sound.{one-sound, sound-by}
+use Rattle.u_moves.proofs.derivations.Sound.{one-sound, sound-by}
 use Rattle.u_moves.proofs.deriv.Deriv.one_step.Goals as goal
 
 pub invariant_of-result : goal.invariant_of-result

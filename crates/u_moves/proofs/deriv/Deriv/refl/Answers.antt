@@ -1,7 +1,7 @@
 use Rattle.std.proofs.Common.{[], ◌∙◌, arith}
 use Rattle.u_terms.specs.Size.{nodes, depth}
 use Rattle.std.proofs.Common.{◌≡◌, ap, refl}
-use Rattle.u_moves.proofs.Sound.{still-sound, sound-by}
+use Rattle.u_moves.proofs.derivations.Sound.{still-sound, sound-by}
 use Rattle.u_moves.proofs.deriv.Deriv.refl.Goals as goal
 
 pub invariant_of-result : goal.invariant_of-result

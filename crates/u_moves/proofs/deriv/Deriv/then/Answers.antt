@@ -1,6 +1,6 @@
 use Rattle.std.proofs.Common.{◌++◌, ap, ap₂, arith, ◌∙◌}
 use Rattle.u_moves.specs.Derivations.{Derivation}
-use Rattle.u_moves.proofs.Sound.{joined, joined-sound, sound-by}
+use Rattle.u_moves.proofs.derivations.Sound.{joined, joined-sound, sound-by}
 use Rattle.u_moves.proofs.deriv.Deriv.then.Goals as goal
 
 pub invariant_of-result : goal.invariant_of-result

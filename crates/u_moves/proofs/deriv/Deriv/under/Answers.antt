@@ -1,7 +1,7 @@
 use Rattle.std.proofs.Common.{◌≡◌, ap, ◌∙◌}
 use Rattle.u_moves.specs.Derivations.{Derivation}
 use Rattle.u_moves.specs.Lifting.{IsMadeIn, IsUnder}
-use Rattle.u_moves.proofs.Whole.{enough-names, whole-known, whole-shallow, part-of-none, under-shown, if-ok}
+use Rattle.u_moves.proofs.derivations.Whole.{enough-names, whole-known, whole-shallow, part-of-none, under-shown, if-ok}
 use Rattle.u_moves.proofs.deriv.Deriv.under.Goals as goal
 
 pub overflow_sub-names : goal.overflow_sub-names

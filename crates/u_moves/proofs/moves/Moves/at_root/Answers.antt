@@ -1,7 +1,7 @@
 use Rattle.std.proofs.Common.{List, subst}
 use Rattle.u_rules.specs.declared.rule.Arg.{Arg}
 use Rattle.u_rules.specs.Rows.{Instance}
-use Rattle.u_moves.proofs.Rooted.{root-known, root-made}
+use Rattle.u_moves.proofs.steps.Rooted.{root-known, root-made}
 use Rattle.u_moves.proofs.moves.Moves.at_root.Goals as goal
 
 pub one_step-requires-clause-known : goal.one_step-requires-clause-known

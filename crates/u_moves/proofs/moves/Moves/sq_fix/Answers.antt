@@ -2,7 +2,7 @@ use Rattle.std.proofs.Common.{[], ◌∷◌, ap, ◌∙◌}
 use Rattle.u_terms.specs.Syntax.{U}
 use Rattle.u_rules.specs.declared.rule.Arg.TheVariants.{Term}
 use Rattle.u_rules.specs.Terms.{sq}
-use Rattle.u_moves.proofs.Fixed.{fix-known, fix-made}
+use Rattle.u_moves.proofs.steps.Fixed.{fix-known, fix-made}
 use Rattle.u_moves.proofs.moves.Moves.sq_fix.Goals as goal
 
 pub one_step-requires-clause-known : goal.one_step-requires-clause-known

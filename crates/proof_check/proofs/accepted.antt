@@ -1,0 +1,5 @@
+pub mod StepsTaken
+pub mod StepsKept
+pub mod Meaning
+mod LimitSamples
+mod ProofSamples

@@ -1,0 +1,3 @@
+pub mod PiecesTaken
+pub mod OneState
+pub mod FirstLines

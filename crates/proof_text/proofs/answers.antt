@@ -1,0 +1,4 @@
+pub mod Counting
+pub mod LineAnswers
+pub mod LinesCounted
+pub mod OneAnswer

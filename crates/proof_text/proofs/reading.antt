@@ -1,0 +1,11 @@
+pub mod Answering
+pub mod Goes
+pub mod LinesRead
+pub mod Loops
+pub mod NumbersRead
+pub mod OneLine
+pub mod PartsRead
+pub mod TermsRead
+pub mod Digits
+pub mod Firsts
+pub mod Overwritten

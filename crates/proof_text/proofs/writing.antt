@@ -1,0 +1,4 @@
+pub mod LineBounds
+pub mod LongTexts
+pub mod Sending
+pub mod TextsAt

@@ -1,0 +1,5 @@
+pub mod Booleans
+pub mod Lists
+pub mod Occurring
+pub mod Each
+pub mod Written

@@ -1,0 +1,13 @@
+pub mod Columns
+pub mod Outputs
+pub mod Walks
+pub mod Groups
+pub mod Values
+pub mod Conditions
+pub mod Bounds
+pub mod Queries
+pub mod Fronts
+pub mod Blocks
+pub mod Singles
+pub mod Scalars
+pub mod Aggregates

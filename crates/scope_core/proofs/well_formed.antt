@@ -1,0 +1,3 @@
+pub mod Resolvable
+pub mod Resolvability
+pub mod NoFault

@@ -1,0 +1,3 @@
+pub mod OverEntries
+pub mod Products
+pub mod Means

@@ -1,0 +1,4 @@
+pub mod Whole
+pub mod WholeSizes
+pub mod QueryLaws
+pub mod Wholes

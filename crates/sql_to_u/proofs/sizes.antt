@@ -1,0 +1,3 @@
+pub mod ProductSizes
+pub mod Sized
+pub mod SizeLaws

@@ -1,0 +1,5 @@
+pub mod Places
+pub mod OverEarlier
+pub mod FactorLaws
+pub mod TermLaws
+pub mod Weights

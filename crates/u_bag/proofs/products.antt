@@ -1,0 +1,4 @@
+pub mod Factors
+pub mod Splits
+pub mod Marked
+pub mod Gained

@@ -1,0 +1,3 @@
+pub mod Doubled
+pub mod Carried
+pub mod Copied

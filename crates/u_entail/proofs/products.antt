@@ -1,0 +1,6 @@
+pub mod Lists
+pub mod Spines
+pub mod Plain
+pub mod Behind
+pub mod Parts
+pub mod Negated

@@ -1,0 +1,3 @@
+pub mod Added
+pub mod Signatures
+pub mod Waiting

@@ -1,0 +1,5 @@
+pub mod Nested
+pub mod Closings
+pub mod Paths
+pub mod Items
+pub mod Depths

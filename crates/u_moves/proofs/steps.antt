@@ -1,0 +1,4 @@
+pub mod Elsewhere
+pub mod Chains
+pub mod Rooted
+pub mod Fixed

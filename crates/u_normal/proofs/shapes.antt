@@ -1,0 +1,3 @@
+pub mod SaidAgain
+pub mod TidiedBlocks
+pub mod ShapedSums

@@ -1,0 +1,3 @@
+pub mod Vanishings
+pub mod KnownParts
+pub mod Largeness

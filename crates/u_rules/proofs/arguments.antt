@@ -1,0 +1,5 @@
+pub mod Kept
+pub mod SidesKept
+pub mod Answering
+pub mod TemplatesAt
+pub mod OneInstance

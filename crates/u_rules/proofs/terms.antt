@@ -1,0 +1,3 @@
+pub mod UnderSums
+pub mod Measured
+pub mod TableMeasures
