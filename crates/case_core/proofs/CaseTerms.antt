@@ -4,7 +4,7 @@ use Rattle.std.specs.Option.{option_or}
 use Rattle.u_terms.specs.Syntax.{U}
 use Rattle.sql_to_u.specs.declared.fault.TermFault.{TermFault}
 use Rattle.sql_to_u.specs.Limits.{IsCause, IsWithinLimits, too_big}
-use Rattle.sql_to_u.proofs.Wholes.{none-within}
+use Rattle.sql_to_u.proofs.queries.Wholes.{none-within}
 use Rattle.case_core.specs.Parts.{Parts}
 use Rattle.case_core.specs.Terms.{term_of, terms_fault}
 

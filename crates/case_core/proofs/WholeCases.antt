@@ -12,7 +12,7 @@ use Rattle.scope_core.specs.declared.fault.ScopeFault.TheVariants as scope_refus
 use Rattle.scope_core.specs.Answer.{IsCause}
 use Rattle.scope_core.specs.FirstFault.{query_fault, schema_fault as views_fault}
 use Rattle.scope_core.specs.WellFormed.{SchemaWellFormed, SchemaWithinWidth, WellFormed, WithinWidth}
-use Rattle.scope_core.proofs.NoFault.{query_fault-none, schema_fault-none}
+use Rattle.scope_core.proofs.well_formed.NoFault.{query_fault-none, schema_fault-none}
 use Rattle.case_core.specs.declared.fault.CaseFault.{CaseFault}
 use Rattle.case_core.specs.declared.fault.CaseFault.TheVariants.{Read, QueriesDiffer, NotTwoQueries, NoMemory}
 use Rattle.case_core.specs.declared.text.CaseText.{CaseText}

@@ -1,5 +1,5 @@
 -- How a reader takes single tokens, numbers what it reads and counts copies; and that reading went on.
-use Rattle.std.specs.Prelude.{ℕ, ◌+◌, ◌≡◌, ◌≢◌, ◌≤◌, ◌<◌, Bool, true, false, ◌&&◌, ◌||◌, ◌==◌, nat_lt, if◌then◌else◌, List, [], ◌∷◌, ◌++◌, length, Option, Some, None, Result, Ok, Err}
+use Rattle.std.specs.Prelude.{ℕ, ◌+◌, ◌≡◌, ◌≢◌, ◌≤◌, ◌<◌, Bool, true, false, List, [], ◌∷◌, ◌++◌, length, Option, Some, None, Result, Ok, Err}
 use Rattle.sql_lex.specs.declared.token.Token.{Token}
 use Rattle.sql_lex.specs.Lexemes.{Lexeme, lexeme_of}
 use Rattle.sql_cursor.specs.declared.fault.ReadFault.{ReadFault}
@@ -7,10 +7,8 @@ use Rattle.sql_cursor.specs.declared.fault.ReadFault.TheVariants.{Limit, NoMemor
 use Rattle.sql_cursor.specs.declared.fault.LimitKind.TheVariants as limit
 use Rattle.sql_cursor.specs.Cursor.{Cursor, behind_next}
 use Rattle.sql_grammar.specs.QueryCopies.{most_copies}
-use Rattle.sql_grammar.specs.QueryEntries.{most_entries}
-use Rattle.sql_grammar.specs.declared.kinds.Kind.TheVariants as k
 use Rattle.sql_grammar.specs.declared.kinds.Kind.{Kind}
-use Rattle.sql_grammar.specs.Kinds.{kind_of, among, name_kinds, same}
+use Rattle.sql_grammar.specs.Kinds.{kind_of}
 use Rattle.sql_cursor.specs.declared.tokens.counting.Mark.{Mark}
 use Rattle.sql_grammar.specs.Numbering.{Built}
 use Rattle.sql_cursor.specs.Refusals.{IsLeftOut, refusal}
@@ -114,10 +112,3 @@ IsMark mark cursor = (mark.passed ≡ cursor.passed) × (mark.copies ≡ cursor.
 -- what was made here or before
 abbrev pub IsBehind : Mark → Cursor → Type 0
 IsBehind mark cursor = (mark.passed ≤ cursor.passed) × (mark.copies ≤ cursor.copies)
-
--- ---- the limit on entries
--- An entry behind so many others is one too many at the first token of its own, but for a parenthesis that is too deep.
-abbrev pub allowed_entry : ℕ → ℕ → List Lexeme → Result (Unit {0}) ReadFault
-allowed_entry levels count tokens =
-    if nat_lt count most_entries || (levels == 0 && is_next (same k.Open) tokens) then Ok tt
-    else (if is_next (same k.Open) tokens || is_next (among name_kinds) tokens then Err (Limit limit.Entries) else Ok tt)

@@ -1,3 +1,4 @@
+pub mod Names
 pub mod Cursor
 pub mod Refusals
 pub mod Unquoting

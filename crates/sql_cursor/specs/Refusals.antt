@@ -5,7 +5,7 @@ use Rattle.sql_lex.specs.declared.token.TokenKind.{TokenKind}
 use Rattle.sql_lex.specs.declared.token.TokenKind.TheVariants.{Word, Quoted, Number, Text, Symbol}
 use Rattle.sql_lex.specs.Bytes.{folded_byte}
 use Rattle.sql_lex.specs.Lexemes.{Lexeme}
-use Rattle.sql_lex.specs.Reserved.{is_left_out}
+use Rattle.sql_grammar.specs.Kinds.{is_left_out}
 use Rattle.sql_cursor.specs.declared.fault.ReadFault.{ReadFault}
 use Rattle.sql_cursor.specs.declared.fault.ReadFault.TheVariants.{Lex, Unexpected, LeftOut}
 use Rattle.sql_cursor.specs.Cursor.{Cursor, next_of}

@@ -1,7 +1,7 @@
 //! Laws of the definitions, each the contract of a function that does nothing.
 ghost use Rattle.std.specs.Prelude.{◌≡◌, ℕ, List};
-ghost use Rattle.sql_lex.specs.Names.{SpellsName};
 ghost use Rattle.sql_lex.specs.declared.token.TokenKind.{TokenKind as Kind};
+ghost use Rattle.sql_cursor.specs.Names.{SpellsName};
 
 /// No token spells two names.
 #[tactic(auto, using(crate::proofs::code::Unquoting::same_name))]

@@ -2,12 +2,12 @@
 ghost use Rattle.std.specs.Prelude.{◌≡◌, ◌↔◌, ℕ, List, map, false, IfOk, IfSome, IfNone, IsTrue};
 ghost use Rattle.std.specs.Option.{option_map};
 ghost use Rattle.sql_lex.specs.Bytes.{folded_byte};
-ghost use Rattle.sql_lex.specs.Names.{SpellsName};
+ghost use Rattle.sql_cursor.specs.Names.{SpellsName};
 ghost use Rattle.sql_cursor.specs.Refusals.{is_left_out_word};
 ghost use Rattle.sql_cursor.specs.Unquoting.{quoted_name, some_name, unquoted};
 
+use sql_grammar::words::{is_left_out, is_reserved};
 use sql_lex::bytes::folded;
-use sql_lex::reserved::{is_left_out, is_reserved};
 use sql_lex::{Token, TokenKind};
 use sql_model::{Name, NoMemory};
 use std::alloc::Global;

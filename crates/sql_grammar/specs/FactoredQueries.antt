@@ -14,8 +14,8 @@ use Rattle.sql_grammar.specs.QueryTailTrees as tails
 use Rattle.sql_grammar.specs.QueryTrees.{Left}
 use Rattle.sql_grammar.specs.QueryTailTrees.{Enclosed, Inside}
 use Rattle.sql_grammar.specs.QueryEntries.{few_froms}
-use Rattle.sql_grammar.specs.QueryGrammar.{Production, Read, The, Froms, block_with, a, one_of, name, called_word, in_parentheses, parens, listed, alias, not_neg, exists, minus, comparison, block, item, from, reference, expr, rest, value, primary, agg, set_tail, and_tail, expr_tail, inner, in_inner}
-use Rattle.sql_grammar.specs.QueryTails.{commas}
+use Rattle.sql_grammar.specs.QueryGrammar.{Production, Read, The, Froms, block_with, a, one_of, name, called_word, in_parentheses, parens, listed, alias, not_neg, exists, minus, comparison, block, item, from, reference, expr, rest, value, primary, agg}
+use Rattle.sql_grammar.specs.QueryTails.{commas, set_tail, and_tail, expr_tail, inner, in_inner}
 use Rattle.sql_grammar.specs.Queries.{rules}
 
 -- ---- first parts of expressions

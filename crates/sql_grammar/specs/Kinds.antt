@@ -1,17 +1,16 @@
 -- The kinds of tokens that the grammar tells apart.
-use Rattle.std.specs.Prelude.{ℕ, ◌==◌, Bool, List, [], ◌∷◌, map, bytes_eq, codes, if◌then◌else◌}
+use Rattle.std.specs.Prelude.{ℕ, ◌==◌, Bool, not, List, [], ◌∷◌, map, bytes_eq, codes, if◌then◌else◌}
 use Rattle.std.specs.List.{list_any}
 use Rattle.sql_lex.specs.declared.token.TokenKind.{TokenKind}
 use Rattle.sql_lex.specs.declared.token.TokenKind.TheVariants as token
 use Rattle.sql_lex.specs.Bytes.{folded_byte}
 use Rattle.sql_lex.specs.Lexemes.{Lexeme}
-use Rattle.sql_lex.specs.Reserved.{is_reserved}
 pub use Rattle.sql_grammar.specs.declared.kinds.Kind.{Kind}
 pub use Rattle.sql_grammar.specs.declared.kinds.Kind.TheVariants.{All, And, As, Between, By, Constraint, Create, Cross, Distinct, Except, Exists, Foreign, From, Group, Having, In, Inner, Intersect, Join, Like, Not, Null, On, Or, Primary, References, Select, Table, Union, Unique, Where, Count, Sum, Avg, Min, Max, Key, View, Index, Word, Quoted, Number, Text, LeftOut, Open, Close, Comma, Semicolon, Dot, Star, Equals, Differs, Less, AtMost, Greater, AtLeast, Plus, Minus, Slash, Concat}
 
 -- ---- the kind of a token
 
--- reserved words
+-- the reserved words that the grammar uses
 abbrev pub used_kinds : List (List ℕ × Kind)
 used_kinds =
     (codes "all", All) ∷ (codes "and", And) ∷ (codes "as", As) ∷ (codes "between", Between) ∷
@@ -22,6 +21,16 @@ used_kinds =
     (codes "like", Like) ∷ (codes "not", Not) ∷ (codes "null", Null) ∷ (codes "on", On) ∷ (codes "or", Or) ∷
     (codes "primary", Primary) ∷ (codes "references", References) ∷ (codes "select", Select) ∷
     (codes "table", Table) ∷ (codes "union", Union) ∷ (codes "unique", Unique) ∷ (codes "where", Where) ∷ []
+
+-- the reserved words that begin or name what the grammar leaves out
+abbrev pub left_out_words : List (List ℕ)
+left_out_words =
+    codes "alter" ∷ codes "any" ∷ codes "asc" ∷ codes "case" ∷ codes "cast" ∷ codes "check" ∷ codes "collate" ∷
+    codes "cube" ∷ codes "default" ∷ codes "delete" ∷ codes "desc" ∷ codes "else" ∷ codes "end" ∷ codes "escape" ∷
+    codes "false" ∷ codes "fetch" ∷ codes "full" ∷ codes "grouping" ∷ codes "insert" ∷ codes "is" ∷ codes "lateral" ∷
+    codes "left" ∷ codes "limit" ∷ codes "natural" ∷ codes "offset" ∷ codes "order" ∷ codes "outer" ∷ codes "over" ∷
+    codes "recursive" ∷ codes "right" ∷ codes "rollup" ∷ codes "some" ∷ codes "then" ∷ codes "true" ∷ codes "update" ∷
+    codes "using" ∷ codes "when" ∷ codes "window" ∷ codes "with" ∷ []
 
 -- unreserved words that mean something at some places
 abbrev pub special_kinds : List (List ℕ × Kind)
@@ -44,7 +53,7 @@ kind_in [] other text = other
 kind_in (p ∷ rows) other text = if bytes_eq p.0 text then p.1 else kind_in rows other text
 
 abbrev pub word_kind : List ℕ → Kind
-word_kind word = kind_in used_kinds (if is_reserved word then LeftOut else kind_in special_kinds Word word) word
+word_kind word = kind_in used_kinds (if list_any (bytes_eq word) left_out_words then LeftOut else kind_in special_kinds Word word) word
 
 abbrev pub kind_of : Lexeme → Kind
 kind_of lexeme = by_class lexeme.kind
@@ -150,3 +159,13 @@ other_aggregates = Sum ∷ Avg ∷ Min ∷ Max ∷ []
 -- the signs of comparisons
 abbrev pub comparisons : List Kind
 comparisons = Equals ∷ Differs ∷ Less ∷ AtMost ∷ Greater ∷ AtLeast ∷ []
+
+-- ---- words
+
+-- A word is reserved where its kind is none of a name (SQL, ISO/IEC 9075-2, 5.2, as far as words are used here or left out by name).
+abbrev pub is_reserved : List ℕ → Bool
+is_reserved word = not (among name_kinds (word_kind word))
+
+-- Words at which a refusal says that the grammar leaves them out: those of that list, and two that it uses in few places.
+abbrev pub is_left_out : List ℕ → Bool
+is_left_out word = list_any (bytes_eq word) (codes "all" ∷ codes "null" ∷ left_out_words)

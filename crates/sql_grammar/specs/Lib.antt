@@ -1,3 +1,4 @@
+pub mod Letters
 pub mod Kinds
 pub mod TokenValues
 pub mod Numbering

@@ -16,7 +16,7 @@ pub use Rattle.sql_grammar.specs.Kinds.{name_kinds}
 use Rattle.sql_grammar.specs.Numbering.{Built, plain}
 use Rattle.sql_grammar.specs.QueryTrees as t
 use Rattle.sql_grammar.specs.QueryTrees.{Left, Listed, SetWord, not_sub}
-use Rattle.sql_grammar.specs.QueryTailTrees.{Inside}
+use Rattle.sql_grammar.specs.QueryTailTrees.{Tail, ReadTail}
 
 pub data Production : Type 0 where
   query : Production
@@ -38,11 +38,7 @@ pub data Production : Type 0 where
   primary : Production
   agg : Production
   -- of these the grammar has no need: they are what one token of lookahead can read (QueryTails)
-  set_tail : Production
-  and_tail : Production
-  expr_tail : Production
-  inner : Production
-  in_inner : Production
+  further : Tail → Production
 
 -- what is read of each
 abbrev pub Read : Production → Type 0
@@ -64,11 +60,7 @@ Read term = Built Expr
 Read unary = Built Expr
 Read primary = Built Expr
 Read agg = Built Expr
-Read set_tail = Built Query → Built Query
-Read and_tail = Built Expr → Built Expr
-Read expr_tail = Left → Built Expr
-Read inner = Inside (Unit {0})
-Read in_inner = Inside (List (Built Expr))
+Read (further tail) = ReadTail tail
 
 abbrev pub The : Type 0 → Type 1
 The A = Form Lexeme Kind Production Read A

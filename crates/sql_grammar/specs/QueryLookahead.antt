@@ -3,7 +3,8 @@ use Rattle.std.specs.Prelude.{Bool, true, false, List, [], ◌∷◌}
 use Rattle.grammar.specs.Lookahead.{Lookahead}
 use Rattle.sql_grammar.specs.Kinds as k
 use Rattle.sql_grammar.specs.Kinds.{Kind, among}
-use Rattle.sql_grammar.specs.QueryGrammar.{Production, query, part, operand, block, item, from, entry, reference, expr, conj, neg, test, rest, value, term, unary, primary, agg, set_tail, and_tail, expr_tail, inner, in_inner}
+use Rattle.sql_grammar.specs.QueryGrammar.{Production, query, part, operand, block, item, from, entry, reference, expr, conj, neg, test, rest, value, term, unary, primary, agg}
+use Rattle.sql_grammar.specs.QueryTails.{set_tail, and_tail, expr_tail, inner, in_inner}
 
 abbrev pub some : Bool → List Kind → List Kind → Lookahead Kind
 some nullable first last = record { nullable = nullable; first = among first; last = among last }

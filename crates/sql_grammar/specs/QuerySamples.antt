@@ -17,19 +17,12 @@ use Rattle.sql_lex.specs.declared.token.TokenKind.{TokenKind}
 use Rattle.sql_lex.specs.declared.token.TokenKind.TheVariants as token
 use Rattle.sql_lex.specs.Bytes.{begins_word, is_digit, quote, double_quote}
 use Rattle.sql_lex.specs.Lexemes.{Lexeme}
-use Rattle.sql_lex.specs.Reserved.{used_words}
-use Rattle.sql_grammar.specs.Kinds.{kind_of, used_kinds}
+use Rattle.sql_grammar.specs.Kinds.{kind_of}
 use Rattle.sql_grammar.specs.Numbering.{first_numbers}
 use Rattle.sql_grammar.specs.QueryCopies.{copies_nothing}
 use Rattle.sql_grammar.specs.QueryEntries.{few_rules}
 use Rattle.sql_grammar.specs.Queries.{rules}
 use Rattle.sql_grammar.specs.QueryGrammar as g
-
--- ---- words
-
--- the words with a kind of their own are those that are reserved for the grammar
-pub same_words : map (λ row. row.0) used_kinds ≡ used_words
-same_words = refl
 
 -- ---- texts
 

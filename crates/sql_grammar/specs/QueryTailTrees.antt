@@ -48,3 +48,20 @@ in_inside word in_word (inl q) left = in_query word in_word q left
 in_inside word in_word (inr (inl (p, []))) left = in_query word in_word p.1 left
 in_inside word in_word (inr (inl (p, next ∷ others))) left = in_list word (sub p, next ∷ others) left
 in_inside word in_word (inr (inr p)) left = in_list word p left
+
+-- ---- what they have names for
+
+pub data Tail : Type 0 where
+  set_tail : Tail
+  and_tail : Tail
+  expr_tail : Tail
+  inner : Tail
+  in_inner : Tail
+
+-- what is read of each
+abbrev pub ReadTail : Tail → Type 0
+ReadTail set_tail = Built Query → Built Query
+ReadTail and_tail = Built Expr → Built Expr
+ReadTail expr_tail = Left → Built Expr
+ReadTail inner = Inside (Unit {0})
+ReadTail in_inner = Inside (List (Built Expr))

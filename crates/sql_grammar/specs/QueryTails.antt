@@ -13,7 +13,27 @@ use Rattle.sql_grammar.specs.Numbering.{Built}
 use Rattle.sql_grammar.specs.QueryTrees.{not_sub}
 use Rattle.sql_grammar.specs.QueryTailTrees as t
 use Rattle.sql_grammar.specs.QueryTailTrees.{Inside}
-use Rattle.sql_grammar.specs.QueryGrammar.{Production, Read, The, a, most_separators, in_parentheses, parens, intersects, unions, products, sums, ands, ors, query, block, expr, rest, set_tail, and_tail, expr_tail, inner, in_inner}
+use Rattle.sql_grammar.specs.QueryGrammar.{Production, Read, The, a, most_separators, in_parentheses, parens, intersects, unions, products, sums, ands, ors, query, block, expr, rest, further}
+
+-- INTERSECT, UNION and EXCEPT behind an operand
+pattern abbrev pub set_tail : Production
+set_tail = further t.set_tail
+
+-- AND and OR behind a part of AND
+pattern abbrev pub and_tail : Production
+and_tail = further t.and_tail
+
+-- what follows the first part of an expression
+pattern abbrev pub expr_tail : Production
+expr_tail = further t.expr_tail
+
+-- what stands in parentheses
+pattern abbrev pub inner : Production
+inner = further t.inner
+
+-- what stands in those of IN
+pattern abbrev pub in_inner : Production
+in_inner = further t.in_inner
 
 -- a query that begins with a parenthesis, and goes on behind it
 abbrev pub longer_query : The (Built Query)

@@ -1,5 +1,6 @@
 //! Laws of the grammar of queries, each the contract of a function that does nothing.
-ghost use Rattle.std.specs.Prelude.{◌≡◌, ◌++◌, ◌+◌, ◌∷◌, ◌≤◌, ◌<◌, List, [], length, None, ℕ};
+ghost use Rattle.std.specs.Prelude.{◌≡◌, ◌++◌, ◌+◌, ◌∷◌, ◌≤◌, ◌<◌, ◌||◌, List, [], bytes_eq, length, None, ℕ};
+ghost use Rattle.std.specs.List.{list_any};
 ghost use Rattle.grammar.specs.Completions.{Completed, Completes, Overspends};
 ghost use Rattle.grammar.specs.Form.{Room, language};
 ghost use Rattle.grammar.specs.Language.{HasPrefixes, Includes, IsUnambiguous};
@@ -8,7 +9,7 @@ ghost use Rattle.grammar.specs.Lookahead.{HasLookahead};
 ghost use Rattle.grammar.specs.Parses.{name_parses, whole_values};
 ghost use Rattle.sql_lex.specs.Lexemes.{Lexeme};
 ghost use Rattle.sql_model.specs.declared.tree.Query.{Query};
-ghost use Rattle.sql_grammar.specs.Kinds.{kind_of};
+ghost use Rattle.sql_grammar.specs.Kinds.{is_reserved, kind_of, left_out_words, used_kinds};
 ghost use Rattle.sql_grammar.specs.Numbering.{Built, Numbers};
 ghost use Rattle.sql_grammar.specs.Queries.{Begins, IsTooDeep, of_production, queries, rules, shallow_queries, Spells};
 ghost use Rattle.sql_grammar.specs.QueryCopies.{IsCopyTooMany, copies_nothing, most_copies, within_copies};
@@ -16,6 +17,11 @@ ghost use Rattle.sql_grammar.specs.QueryEntries.{IsEntryTooMany, few_queries, fe
 ghost use Rattle.sql_grammar.specs.FactoredQueries.{few_factored, of_factored};
 ghost use Rattle.sql_grammar.specs.QueryLookahead.{table};
 ghost use Rattle.sql_grammar.specs.QueryGrammar.{Production, query};
+
+/// A word is reserved where it is one of those that the grammar uses or leaves out, and nowhere else.
+pub fn reserved_words()
+    ensures { (word : List ℕ) → is_reserved word ≡ (list_any (λ row. bytes_eq row.0 word) used_kinds || list_any (bytes_eq word) left_out_words) }
+{}
 
 /// A text may go on after no tokens, after fewer tokens than it may go on after, and after a query.
 pub fn prefixes()

@@ -3,7 +3,9 @@
 
 pub mod kinds;
 pub mod laws;
+mod letters;
 mod listed;
+pub mod words;
 
 pub use kinds::Kind;
 pub use listed::Listed;

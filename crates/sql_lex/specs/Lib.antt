@@ -1,11 +1,8 @@
 pub mod Bytes
-pub mod Letters
-pub mod Reserved
 pub mod Lexemes
 pub mod Classes
 pub mod Gaps
 pub mod Faults
 pub mod Tokens
-pub mod Names
 pub mod Front
 pub mod Lexing

@@ -4,9 +4,7 @@
 pub mod bytes;
 mod front;
 pub mod laws;
-pub mod letters;
 mod lexer;
-pub mod reserved;
 mod token;
 
 pub use lexer::Lexer;

@@ -1,6 +1,7 @@
 -- What the reading functions do, from the left: what is read, or where and why reading stops. They go like the left-factored grammar: one token always tells how
 -- to go on.
-use Rattle.std.specs.Prelude.{ℕ, zero, suc, ◌+◌, ◌-◌, Bool, true, false, List, [], ◌∷◌, ◌++◌, length, Option, Some, None, Result}
+use Rattle.std.specs.Prelude.{ℕ, zero, suc, ◌+◌, ◌-◌, Bool, true, false, List, [], ◌∷◌, ◌++◌, length, Option, Some, None, Result, ◌⊎◌}
+use Rattle.std.proofs.Common.{inl, inr}
 use Rattle.sql_lex.specs.Lexemes.{Lexeme}
 use Rattle.sql_model.specs.declared.tree.Entry.{Entry}
 use Rattle.sql_model.specs.declared.tree.Expr.{Expr}
@@ -30,8 +31,7 @@ use Rattle.sql_read.specs.declared.reading.item.Starred.TheVariants as starred
 use Rattle.sql_read.specs.declared.reading.test.Sought.{Sought}
 use Rattle.sql_cursor.specs.declared.tokens.counting.Mark.{Mark}
 use Rattle.sql_cursor.specs.Cursor.{Cursor}
-use Rattle.sql_cursor.specs.Eating.{allowed_entry}
-use Rattle.sql_read.specs.Parts.{grouped_of}
+use Rattle.sql_read.specs.Parts.{grouped_of, allowed_entry}
 use Rattle.sql_cursor.specs.Readers.{Reader, ◌>>=◌, Gives, done, refused, seen, eaten, eaten_within, on, accepted, expected, expected_within, repeated, numbered, copied, mark, weight_since}
 
 -- ---- lists
@@ -67,6 +67,15 @@ column_or_star word c =
     (λ star. done (starred.All (an_item.AliasStar (name_of word) word.start)))
     (λ c. expected (among name_kinds) c >>= λ name. done (starred.First (t.column (Some word, name)))))
     (done (starred.First (t.column (None, word))))
+
+-- a call where a parenthesis follows this word, and else the word, which begins a column
+abbrev pub call_behind : (Lexeme → Reader Expr) → Lexeme → Reader (Lexeme ⊎ Expr)
+call_behind call word = seen (same k.Open) (λ c. call word c >>= λ x. done (inr x)) (done (inl word))
+
+-- what is read behind the word, or made of the call
+abbrev pub with_named : {A : Type 0} → (Lexeme → Reader A) → (Expr → A) → Lexeme ⊎ Expr → Reader A
+with_named column made (inl word) = column word
+with_named column made (inr call) = done (made call)
 
 -- [AS] name
 unfoldable pub alias : Reader Lexeme
@@ -194,19 +203,18 @@ module _ (levels : ℕ) (deeper : Deeper) where
   unfoldable pub aggregate : Lexeme → Reader Expr
   aggregate word c = opened c >>= λ open_. closed (deeper.argument word) (λ x. x)
 
-  -- a name and what follows it, or a call
-  abbrev pub words : {A : Type 0} → (Lexeme → Reader A) → (Reader Expr → Reader A) → Reader A
-  words dotted call c =
-      eaten (same k.Quoted) c >>= on dotted
-      (λ c. eaten (among called_kinds) c >>= on (λ word. seen (same k.Open) (call (arguments word)) (dotted word))
-      (λ c. eaten (same k.Count) c >>= on (λ word. seen (same k.Open) (call (count_arguments word)) (dotted word))
-      (λ c. expected (among other_aggregates) c >>= λ word. seen (same k.Open) (call (aggregate word)) (dotted word))))
+  unfoldable pub call_or_word : Reader (Lexeme ⊎ Expr)
+  call_or_word c =
+      eaten (same k.Quoted) c >>= on (λ word. done (inl word))
+      (λ c. eaten (among called_kinds) c >>= on (call_behind arguments)
+      (λ c. eaten (same k.Count) c >>= on (call_behind count_arguments)
+      (λ c. expected (among other_aggregates) c >>= call_behind aggregate)))
 
   unfoldable pub named_first : Reader Expr
-  named_first = words column (λ f. f)
+  named_first c = call_or_word c >>= with_named column (λ x. x)
 
   unfoldable pub name_or_star : Reader Starred
-  name_or_star = words column_or_star (λ f c. f c >>= λ x. done (starred.First x))
+  name_or_star c = call_or_word c >>= with_named column_or_star (λ x. starred.First x)
 
   -- ---- operands
 

@@ -6,4 +6,4 @@ mod listed;
 mod reading;
 mod trees;
 
-pub use reading::{MOST_LEVELS, MOST_SEPARATORS, NAME_KINDS, read_inner_query, read_query};
+pub use reading::{MOST_LEVELS, MOST_SEPARATORS, read_inner_query, read_query};

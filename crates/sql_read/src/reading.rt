@@ -19,7 +19,6 @@ mod primary;
 mod query;
 mod test;
 
-pub use item::NAME_KINDS;
 use query::query;
 use sql_cursor::{ReadFault, Tokens};
 use sql_model::Query;

@@ -12,10 +12,10 @@ use Rattle.proof_check.specs.declared.answers.Stop.TheVariants.{Fails, Fault}
 use Rattle.proof_check.specs.declared.answers.Verdict.{Verdict}
 use Rattle.proof_check.specs.declared.answers.Verdict.TheVariants.{Proved, StepFails, EndDiffers}
 use Rattle.proof_check.specs.Checking.{Stands, Finishes, Shows, on, stopped}
-use Rattle.proof_check.proofs.StepsTaken.{shown-accepted}
-use Rattle.proof_check.proofs.StepsKept.{accepted-shown}
-use Rattle.proof_check.proofs.OneState.{one_answer}
-use Rattle.proof_check.proofs.FirstLines.{decided_alone, stopped_whole}
+use Rattle.proof_check.proofs.accepted.StepsTaken.{shown-accepted}
+use Rattle.proof_check.proofs.accepted.StepsKept.{accepted-shown}
+use Rattle.proof_check.proofs.texts.OneState.{one_answer}
+use Rattle.proof_check.proofs.texts.FirstLines.{decided_alone, stopped_whole}
 use Rattle.udp_run.specs.Limits.{most_proof_bytes}
 use Rattle.udp_run.specs.Proofs.{Claim, IsAnswered, IsDecidedIn, IsTooLong, IsUndecidedIn, early, facts_of, whole}
 use Rattle.udp_run.specs.Answer.{IsProof}

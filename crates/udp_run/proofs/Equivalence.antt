@@ -18,10 +18,10 @@ use Rattle.u_terms.specs.Meaning.{meaning}
 use Rattle.scope_core.specs.ViewTrees.{tree_of, views_of}
 use Rattle.scope_core.specs.WellFormed.{SchemaWellFormed, WellFormed}
 use Rattle.scope_core.specs.Width.{width}
-use Rattle.scope_core.proofs.AnswersFit.{rows-are-wide}
-use Rattle.scope_core.proofs.Relations.{answer-resolved}
-use Rattle.scope_core.proofs.SoundTrees.{tree-sound, tree-width, views-sound}
-use Rattle.sql_to_u.proofs.Whole.{query-counts}
+use Rattle.scope_core.proofs.schema.AnswersFit.{rows-are-wide}
+use Rattle.scope_core.proofs.schema.Relations.{answer-resolved}
+use Rattle.scope_core.proofs.schema.SoundTrees.{tree-sound, tree-width, views-sound}
+use Rattle.sql_to_u.proofs.queries.Whole.{query-counts}
 use Rattle.case_core.specs.declared.text.CaseText.{CaseText}
 use Rattle.udp_run.specs.Cases.{AreComparable, term_of}
 

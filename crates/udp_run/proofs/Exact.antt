@@ -12,7 +12,7 @@ use Rattle.udp_run.specs.declared.answer.Verdict.{Verdict}
 use Rattle.udp_run.specs.declared.answer.Verdict.TheVariants.{Proved, StepFails, EndDiffers, CaseRefused, TermRefused, ProofRefused, NoSuchForm, CaseUnread, ProofUnread, CaseTooLong, ProofTooLong, OutOfMemory}
 use Rattle.udp_run.specs.Cases.{size_fault}
 use Rattle.udp_run.specs.Output.{case_status, proof_status, size_status}
-use Rattle.udp_run.specs.Answer.{AsksCheck, AsksNothing, BothTold, HasReadFault, IsAnswer, IsCause, IsCheck, IsFound, IsJust, IsSaid, PassesLimit, status_of}
+use Rattle.udp_run.specs.Answer.{AsksCheck, AsksNothing, BothTold, HasReadFault, IsAnswer, IsCause, IsCheck, IsFound, IsJust, IsSaid, PassesSomeLimit, status_of}
 use Rattle.udp_run.proofs.OneVerdict.{IsFault, one_verdict, size-found}
 use Rattle.udp_run.proofs.TopAnswers.{IsRefusal, case-refusal, ends_limit, ends_memory, ends_proof, ends_refused, proof-refusal, size-refusal}
 
@@ -57,7 +57,7 @@ pub is-found : (fault : TermFault) (found : Option TermFault) → size_status fa
 is-found (no_term.TooBig what count) found e c = λ none. let n : Some (no_term.TooBig what count) ≡ None = sym (size-found (no_term.TooBig what count) found (λ m. cc) c) ∙ none in cc
 is-found no_term.NoMemory found e c = absurd cc
 
-just-limit : (told : BothTold) (verdict : Verdict) → status_of verdict ≡ status.Limit → IsJust told verdict → PassesLimit told.case.text told.proof.text
+just-limit : (told : BothTold) (verdict : Verdict) → status_of verdict ≡ status.Limit → IsJust told verdict → PassesSomeLimit told.case.text told.proof.text
 just-limit told CaseTooLong e l = inl l
 just-limit told (CaseRefused fault) e r = inr (inl (fault, e, r))
 just-limit told (TermRefused fault) e h = inr (inr (inl (record {
@@ -154,8 +154,8 @@ module _ (words : List (String Global)) (told : List ℕ → List ℕ → BothTo
       by (inl (case, proof, are, just)) = (case, proof, are, holds (told case proof) status_is just)
       by (inr (form, nothing)) = absurd (usage (sym status_is ∙ subst (λ (v : Verdict). status_of v ≡ status.Usage) (sym form) refl))
 
-  pub run-limits : answer ≡ status.Limit → AsksCheck words (λ case proof. PassesLimit (told case proof).case.text (told case proof).proof.text)
-  run-limits limit = of-status status.Limit limit (λ e. cc) (λ e. cc) (λ e. cc) (λ t. PassesLimit t.case.text t.proof.text) (λ t. just-limit t verdict)
+  pub run-limits : answer ≡ status.Limit → AsksCheck words (λ case proof. PassesSomeLimit (told case proof).case.text (told case proof).proof.text)
+  run-limits limit = of-status status.Limit limit (λ e. cc) (λ e. cc) (λ e. cc) (λ t. PassesSomeLimit t.case.text t.proof.text) (λ t. just-limit t verdict)
 
   pub run-read_fault : answer ≡ status.ReadFault → AsksCheck words (λ case proof. HasReadFault (told case proof))
   run-read_fault fault = of-status status.ReadFault fault (λ e. cc) (λ e. cc) (λ e. cc) HasReadFault (λ t. just-read_fault t verdict)

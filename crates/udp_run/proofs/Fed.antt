@@ -9,7 +9,7 @@ use Rattle.std.proofs.lemmas.Bool.Decides.{nat_tests}
 use Rattle.u_terms.specs.declared.term.U.{U}
 use Rattle.proof_text.specs.LinesOfText.{AreEnded}
 use Rattle.proof_text.specs.LinesOfText as text
-use Rattle.proof_text.proofs.EndedLines.{ended-before, ended-lines}
+use Rattle.proof_text.proofs.texts.EndedLines.{ended-before, ended-lines}
 use Rattle.proof_check.specs.declared.answers.ProofFault.{ProofFault}
 use Rattle.proof_check.specs.declared.answers.ProofFault.TheVariants.{NoMemory}
 use Rattle.proof_check.specs.declared.answers.Stop.{Stop}
@@ -19,8 +19,8 @@ use Rattle.proof_check.specs.Judging.{begun}
 use Rattle.proof_check.specs.Checking.{Finishes, Shows, State, Stands, none, on, stopped}
 use Rattle.proof_check.specs.Checking as state
 use Rattle.proof_check.specs.Pieces.{Feeds, GoesOn, IsFinished, IsLastFed, IsOn, IsStoppedIn, IsTaken, IsUnbroken, Partial}
-use Rattle.proof_check.proofs.FirstLines.{feeds-stand}
-use Rattle.proof_check.proofs.PiecesTaken.{none-taken, stopped-append, taken-append}
+use Rattle.proof_check.proofs.texts.FirstLines.{feeds-stand}
+use Rattle.proof_check.proofs.texts.PiecesTaken.{none-taken, stopped-append, taken-append}
 use Rattle.udp_io.specs.Reading.{IsZeroAtEnd}
 use Rattle.udp_run.specs.Limits.{most_piece_bytes, most_proof_bytes}
 use Rattle.udp_run.specs.Proofs.{Claim, IsAnswered, IsDecidedIn, IsTooLong, IsUndecidedBefore, IsUndecidedIn, early, whole}

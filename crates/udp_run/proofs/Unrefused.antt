@@ -28,7 +28,7 @@ use Rattle.scope_core.specs.FirstFault.{first_fault, query_fault, relations_faul
 use Rattle.scope_core.specs.Relations.{known_relations}
 use Rattle.scope_core.specs.Scope.{heading}
 use Rattle.scope_core.specs.Sites.{sites}
-use Rattle.scope_core.proofs.NoFault.{query_fault-none, schema_fault-none}
+use Rattle.scope_core.proofs.well_formed.NoFault.{query_fault-none, schema_fault-none}
 use Rattle.case_core.specs.declared.fault.CaseFault.{CaseFault}
 use Rattle.case_core.specs.declared.fault.CaseFault.TheVariants.{Read, Schema, Scope, QueriesDiffer, NotTwoQueries, NoMemory}
 use Rattle.case_core.specs.declared.text.CaseText.{CaseText}

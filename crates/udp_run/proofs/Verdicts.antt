@@ -6,7 +6,7 @@ use Rattle.udp_io.specs.Faults.{Rose}
 use Rattle.sql_model.specs.declared.schema.Schema.{Schema}
 use Rattle.schema_read.proofs.built.FactsLaws.{facts_ok, same_databases}
 use Rattle.scope_core.specs.Width.{width}
-use Rattle.scope_core.proofs.SoundTrees.{tree-width}
+use Rattle.scope_core.proofs.schema.SoundTrees.{tree-width}
 use Rattle.u_terms.specs.declared.term.U.{U}
 use Rattle.u_terms.specs.declared.facts.Facts.{Facts}
 use Rattle.u_terms.specs.Facts.{FactsOk}
@@ -15,11 +15,11 @@ use Rattle.u_terms.specs.Meaning.{meaning}
 use Rattle.sql_to_u.specs.declared.fault.TermFault.{TermFault}
 use Rattle.sql_to_u.specs.Answer.{translation}
 use Rattle.sql_to_u.specs.Limits.{IsCause as IsSizeCause, too_big}
-use Rattle.sql_to_u.proofs.Wholes.{none-within}
+use Rattle.sql_to_u.proofs.queries.Wholes.{none-within}
 use Rattle.proof_check.specs.declared.answers.ProofFault.{ProofFault}
 use Rattle.proof_check.specs.declared.answers.Verdict.{Verdict as Shown}
 use Rattle.proof_check.specs.declared.answers.Verdict.TheVariants as shown
-use Rattle.proof_check.proofs.Meaning.{accepted-means}
+use Rattle.proof_check.proofs.accepted.Meaning.{accepted-means}
 use Rattle.case_core.specs.declared.text.CaseText.{CaseText}
 use Rattle.case_core.specs.Answer.{width_of}
 use Rattle.case_core.specs.Parts.{Parts}

@@ -11,7 +11,7 @@ use Rattle.scope_core.specs.Faults.{is_too_wide, most_outputs}
 use Rattle.scope_core.specs.Relations.{known_of}
 use Rattle.scope_core.specs.Scope.{Known, Levels, grouping_of, heading, headings_here, no_entry, output_level, rows_level}
 use Rattle.scope_core.specs.Sites.{Outputs, Site, TwoWidths, block_sites, entry_sites, group_by_sites, item_sites, items_sites, on_sites, sites, written_sites}
-use Rattle.scope_core.proofs.Each.{Each-left, Each-right}
+use Rattle.scope_core.proofs.basics.Each.{Each-left, Each-right}
 use Rattle.scope_core.specs.WellFormed.{IsWithinWidth, WithinWidth}
 use Rattle.case_core.specs.Answer.{width_of}
 

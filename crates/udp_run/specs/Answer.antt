@@ -202,8 +202,8 @@ HasReadFault told = HasFailed told.case ⊎ (HasFailed told.proof × HasBoth tol
 
 -- A limit is passed: by the length of the case, by what it spells, by one of its terms, by a line of the proof, or by the proof's length, and then
 -- the case is in order.
-abbrev pub PassesLimit : Option (List ℕ) → Option (List ℕ) → Type 0
-PassesLimit case proof =
+abbrev pub PassesSomeLimit : Option (List ℕ) → Option (List ℕ) → Type 0
+PassesSomeLimit case proof =
     IfSome case IsLongCase
     ⊎ (((fault : CaseFault) × (case_status fault ≡ status.Limit) × IfSome case (IsRefusedFor fault))
     ⊎ (HasCase case (λ schema written. size_fault schema written ≢ None)

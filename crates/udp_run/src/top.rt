@@ -1,9 +1,10 @@
 //! A check, over any store and any sink.
 ghost use Rattle.std.specs.Prelude.{◌≡◌, ◌≤◌, List, [], ℕ, length, codes, IfSome, IfOk, IfErr};
 ghost use Rattle.proof_check.specs.Limits.{IsSmall};
+ghost use Rattle.scope_core.specs.Faults.{most_outputs};
 ghost use Rattle.udp_io.specs.Faults.{Rose};
 ghost use Rattle.udp_io.specs.Writing.{Grows};
-ghost use Rattle.udp_run.specs.Answer.{AsksCheck, AsksNothing, HasReadFault, IsAnswer, IsCause, IsCheck, IsFound, IsJust, IsProof, IsProved, IsSaid, PassesLimit, TellsBoth, both_told};
+ghost use Rattle.udp_run.specs.Answer.{AsksCheck, AsksNothing, HasReadFault, IsAnswer, IsCause, IsCheck, IsFound, IsJust, IsProof, IsProved, IsSaid, PassesSomeLimit, TellsBoth, both_told};
 ghost use Rattle.udp_run.specs.Output.{line};
 ghost use Rattle.udp_run.specs.Proofs.{Claim as TheClaim};
 ghost use Rattle.udp_run.specs.Runs.{IsCaseCause, IsCaseRead, IsProofVerdict, answer_of, fresh, verdict_of};
@@ -85,7 +86,7 @@ fn check_selected<S: Store>(
     store: &mut S,
 ) -> Verdict
     requires usable { S.usable store.old name.now }
-    requires outs { outs ≤ 2048 }
+    requires outs { outs ≤ most_outputs }
     requires small { IsSmall left.now }
     ensures found { IsProofVerdict (record { facts = facts.now; outs = outs; left = left.now; right = right.now })
         (record { text = S.left store.old; before = S.faults store.old name.now; now = S.faults store.new name.now }) (S.left store.new) result }
@@ -107,7 +108,7 @@ fn check_proof<S: Store>(
     name: &str,
     store: &mut S,
 ) -> Verdict
-    requires outs { outs ≤ 2048 }
+    requires outs { outs ≤ most_outputs }
     requires small { IsSmall left.now }
     ensures found { IsProofVerdict (record { facts = facts.now; outs = outs; left = left.now; right = right.now })
         (record { text = S.text store.old name.now; before = S.faults store.old name.now; now = S.faults store.new name.now }) (S.left store.new) result }
@@ -209,7 +210,7 @@ pub fn run<S: Store, K: Sink>(alloc: Global, words: &[String], store: &mut S, ou
     ensures write_fault { result ≡ Status.WriteFault → Rose (K.faults out.old) (K.faults out.new) }
 
     // A limit is answered only where the case or the proof passes one.
-    ensures limits { result ≡ Status.Limit → AsksCheck words.now (λ case proof. PassesLimit (S.text store.old case) (S.text store.old proof)) }
+    ensures limits { result ≡ Status.Limit → AsksCheck words.now (λ case proof. PassesSomeLimit (S.text store.old case) (S.text store.old proof)) }
 
     // Without memory nothing was written.
     ensures memory { result ≡ Status.NoMemory → Grows (K.written out.old) (K.written out.new) [] }

@@ -18,10 +18,10 @@ use Rattle.scope_core.specs.Sound.{IsSound, IsSoundAlone, IsSoundSource, SeenBlo
 use Rattle.scope_core.specs.Syntax.{RSource, Table, View, Derived}
 use Rattle.scope_core.specs.WellFormed.{WellFormed}
 use Rattle.scope_core.specs.Width.{width}
-use Rattle.scope_core.proofs.Each.{Each-in, Each-end}
-use Rattle.scope_core.proofs.Resolvability.{well_formed-resolvable}
-use Rattle.scope_core.proofs.Soundness.{query-sound}
-use Rattle.scope_core.proofs.SoundTrees.{tree-width}
+use Rattle.scope_core.proofs.basics.Each.{Each-in, Each-end}
+use Rattle.scope_core.proofs.well_formed.Resolvability.{well_formed-resolvable}
+use Rattle.scope_core.proofs.trees.Soundness.{query-sound}
+use Rattle.scope_core.proofs.schema.SoundTrees.{tree-width}
 use Rattle.shapes.specs.Small.{most_entries}
 use Rattle.shapes.specs.Tried.{tries}
 use Rattle.schema_read.specs.SchemaFacts.{by_numbers}
@@ -29,7 +29,7 @@ use Rattle.sql_to_u.specs.Answer.{translation}
 use Rattle.sql_to_u.specs.Limits.{IsCause as IsSizeCause, too_big}
 use Rattle.sql_to_u.specs.declared.fault.TermFault.{TermFault}
 use Rattle.sql_to_u.specs.declared.fault.TermFault.TheVariants as no_term
-use Rattle.sql_to_u.proofs.Wholes.{none-within}
+use Rattle.sql_to_u.proofs.queries.Wholes.{none-within}
 use Rattle.case_core.specs.declared.fault.CaseFault.{CaseFault}
 use Rattle.case_core.specs.declared.text.CaseText.{CaseText}
 use Rattle.u_prover.specs.Proving.{IsUnknown}

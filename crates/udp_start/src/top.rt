@@ -3,7 +3,7 @@ ghost use Rattle.std.specs.Prelude.{◌≡◌, ◌⊎◌, Bool, List, [], ℕ, c
 ghost use Rattle.alike_unions.specs.Unknown.{IsUnknownOf};
 ghost use Rattle.udp_io.specs.Faults.{Rose};
 ghost use Rattle.udp_io.specs.Writing.{Grows};
-ghost use Rattle.udp_run.specs.Answer.{AsksCheck, HasFailed, HasReadFault, IsAnswer, IsCause, IsCheck, IsFound, IsProof, IsProved, IsSaid, PassesLimit, TellsBoth, both_told};
+ghost use Rattle.udp_run.specs.Answer.{AsksCheck, HasFailed, HasReadFault, IsAnswer, IsCause, IsCheck, IsFound, IsProof, IsProved, IsSaid, PassesSomeLimit, TellsBoth, both_told};
 ghost use Rattle.udp_run.specs.Output.{line};
 ghost use Rattle.udp_run.specs.declared.answer.Verdict.{Verdict as TheVerdict};
 ghost use Rattle.udp_run.specs.declared.answer.Verdict.TheVariants.{NoSuchForm, Proved};
@@ -93,7 +93,7 @@ pub fn start<S: Store, K: Sink>(
 
     // A limit is answered only where the case or the proof passes one.
     ensures limits { result ≡ Status.Limit →
-        AsksCheck words.now (λ case proof. PassesLimit (S.text store.old case) (S.text store.old proof))
+        AsksCheck words.now (λ case proof. PassesSomeLimit (S.text store.old case) (S.text store.old proof))
         ⊎ AsksProof words.now (λ case. PassesCaseLimit (S.text store.old case)) }
 
     // Without memory nothing was written.

@@ -10,9 +10,9 @@ use super::names::{name, type_name};
 use super::rules::constraint;
 use plain_data::List;
 use sql_cursor::{LimitKind, ReadFault, Tokens};
-use sql_grammar::Kind;
+use sql_grammar::kinds::{Kind, NAME_KINDS};
 use sql_model::{NameAt, TableRule};
-use sql_read::{MOST_SEPARATORS, NAME_KINDS};
+use sql_read::MOST_SEPARATORS;
 use std::alloc::Global;
 
 /// What a rule of a table begins with, where it is no column.

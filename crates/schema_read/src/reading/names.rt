@@ -8,10 +8,10 @@ ghost use Rattle.schema_read.specs.StatementTrees as t;
 
 use plain_data::List;
 use sql_cursor::{ReadFault, Tokens, name_in, place};
-use sql_grammar::Kind;
+use sql_grammar::kinds::{Kind, NAME_KINDS};
 use sql_lex::Token;
 use sql_model::{NameAt, NoMemory};
-use sql_read::{MOST_SEPARATORS, NAME_KINDS};
+use sql_read::MOST_SEPARATORS;
 use std::alloc::Global;
 
 /// Unreserved words.

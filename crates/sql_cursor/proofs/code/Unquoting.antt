@@ -8,7 +8,7 @@ use Rattle.sql_lex.specs.declared.token.TokenKind.{TokenKind}
 use Rattle.sql_lex.specs.declared.token.TokenKind.TheVariants.{Word, Quoted, Number, Text, Symbol}
 use Rattle.sql_lex.specs.Bytes.{double_quote}
 use Rattle.sql_lex.specs.Classes.{doubled}
-use Rattle.sql_lex.specs.Names.{SpellsName}
+use Rattle.sql_cursor.specs.Names.{SpellsName}
 use Rattle.sql_cursor.specs.Unquoting.{behind, quoted_name, some_name, unquoted}
 
 pub behind-nothing : (o : Option (List ℕ)) → behind [] o ≡ o

@@ -13,18 +13,14 @@ use Rattle.sql_grammar.specs.Numbering.{Built, plain, each, perhaps}
 use Rattle.sql_grammar.specs.QueryTrees as t
 use Rattle.sql_grammar.specs.QueryTrees.{SetWord, not_sub}
 use Rattle.sql_grammar.specs.QueryGrammar as grammar
-use Rattle.sql_grammar.specs.QueryGrammar.{Production, Read, The, a, one_of, in_parentheses, parens, listed, alias, union_or_except, intersect, join_on, cross_join, group_by, exists, minus, not_neg, call, query, part, operand, block, item, from, entry, reference, expr, conj, neg, test, rest, value, term, unary, primary, agg, set_tail, and_tail, expr_tail, inner, in_inner, most_operators, most_separators}
+use Rattle.sql_grammar.specs.QueryGrammar.{Production, Read, The, a, one_of, in_parentheses, parens, listed, alias, union_or_except, intersect, join_on, cross_join, group_by, exists, minus, not_neg, call, query, part, operand, block, item, from, entry, reference, expr, conj, neg, test, rest, value, term, unary, primary, agg, further, most_operators, most_separators}
 use Rattle.sql_grammar.specs.Queries.{rules}
 
 -- what is copied in a value of a production that goes by its parts alone
 abbrev pub copies_in : (p : Production) → Read p → ℕ
 copies_in reference read = 0
 copies_in rest read = 0
-copies_in set_tail read = 0
-copies_in and_tail read = 0
-copies_in expr_tail read = 0
-copies_in inner read = 0
-copies_in in_inner read = 0
+copies_in (further tail) read = 0
 copies_in other read = read.copies
 
 -- ---- sums with nothing
@@ -80,11 +76,7 @@ call_copies word (Some p) = ap (λ z. 0 + (p.0.copies + z)) (each_copies p.1)
 abbrev pub is_counted : Production → Bool
 is_counted test = false
 is_counted rest = false
-is_counted set_tail = false
-is_counted and_tail = false
-is_counted expr_tail = false
-is_counted inner = false
-is_counted in_inner = false
+is_counted (further tail) = false
 is_counted other = true
 
 module _ {Costed : (A : Type 0) → The A → (A → ℕ) → Type 0} (pr : Costing copies_in Costed) where

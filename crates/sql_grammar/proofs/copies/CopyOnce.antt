@@ -11,8 +11,8 @@ use Rattle.grammar.proofs.completed.SamePrefixes.{SameOf, StillOf, alike, same_p
 use Rattle.grammar.proofs.languages.Sets.{and_both}
 use Rattle.sql_lex.specs.Lexemes.{Lexeme}
 use Rattle.sql_grammar.specs.Kinds.{every_kind, kind_of}
-use Rattle.sql_grammar.specs.QueryGrammar.{Production, Read, The, query, item, reference, test, rest, primary, agg, set_tail, and_tail, expr_tail, inner, in_inner}
-use Rattle.sql_grammar.specs.QueryTails.{commas}
+use Rattle.sql_grammar.specs.QueryGrammar.{Production, Read, The, query, item, reference, test, rest, primary, agg}
+use Rattle.sql_grammar.specs.QueryTails.{commas, set_tail, and_tail, expr_tail, inner, in_inner}
 use Rattle.sql_grammar.specs.Queries.{of_form, queries}
 use Rattle.sql_grammar.specs.QueryCopies.{copies_nothing}
 use Rattle.sql_grammar.specs.QueryLookahead.{table}

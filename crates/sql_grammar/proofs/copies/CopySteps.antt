@@ -20,8 +20,8 @@ use Rattle.sql_grammar.specs.QueryTrees as t
 use Rattle.sql_grammar.specs.QueryTailTrees as tails
 use Rattle.sql_grammar.specs.QueryTrees.{Left, weight}
 use Rattle.sql_grammar.specs.QueryGrammar as grammar
-use Rattle.sql_grammar.specs.QueryGrammar.{The, expr_tail, set_tail, rest, most_separators}
-use Rattle.sql_grammar.specs.QueryTails.{next_comma, commas}
+use Rattle.sql_grammar.specs.QueryGrammar.{The, rest, most_separators}
+use Rattle.sql_grammar.specs.QueryTails.{next_comma, commas, expr_tail, set_tail}
 use Rattle.sql_grammar.specs.Queries.{rules}
 use Rattle.sql_grammar.specs.FactoredQueries.{by_word, of_factored}
 use Rattle.sql_grammar.specs.QueryCopies.{copies_nothing}

@@ -15,8 +15,8 @@ use Rattle.sql_grammar.specs.QueryTrees as t
 use Rattle.sql_grammar.specs.QueryTailTrees as tails
 use Rattle.sql_grammar.specs.QueryTrees.{Left, SetWord, weight}
 use Rattle.sql_grammar.specs.QueryTailTrees.{Inside}
-use Rattle.sql_grammar.specs.QueryGrammar.{Production, Read, The, a, products, sums, ands, ors, part, operand, expr, conj, neg, rest, term, unary, set_tail, and_tail, expr_tail, inner, in_inner, most_operators, most_separators}
-use Rattle.sql_grammar.specs.QueryTails.{next_comma, commas}
+use Rattle.sql_grammar.specs.QueryGrammar.{Production, Read, The, a, products, sums, ands, ors, part, operand, expr, conj, neg, rest, term, unary, most_operators, most_separators}
+use Rattle.sql_grammar.specs.QueryTails.{next_comma, commas, set_tail, and_tail, expr_tail, inner, in_inner}
 use Rattle.sql_grammar.specs.Queries.{rules}
 use Rattle.sql_grammar.specs.QueryCopies.{copies_nothing}
 use Rattle.sql_grammar.proofs.copies.TestCopies.{behind_commas, comma_copies, no_members, one_more_comma}

@@ -13,7 +13,8 @@ use Rattle.sql_grammar.specs.QueryTrees as t
 use Rattle.sql_grammar.specs.QueryTailTrees as tails
 use Rattle.sql_grammar.specs.QueryTrees.{Left, weight}
 use Rattle.sql_grammar.specs.QueryTailTrees.{Enclosed, Inside}
-use Rattle.sql_grammar.specs.QueryGrammar.{The, a, name, name_kinds, called_word, parens, minus, comparison, block, item, expr, test, rest, value, primary, agg, in_inner}
+use Rattle.sql_grammar.specs.QueryGrammar.{The, a, name, name_kinds, called_word, parens, minus, comparison, block, item, expr, test, rest, value, primary, agg}
+use Rattle.sql_grammar.specs.QueryTails.{in_inner}
 use Rattle.sql_grammar.specs.Queries.{rules}
 use Rattle.sql_grammar.specs.FactoredQueries.{factored, literal, dot_name, dot_star_or_name, arguments, one_argument, other_aggregate, count_arguments, word_with, words, column_of, named_first, enclosed_first, going_on, going_on_by_and, no_parenthesis, sort, after_query, after_expression, factored_of_insides, Starred, star_or_column, star_or_left, by_word}
 use Rattle.sql_grammar.specs.QueryCopies.{copies_nothing}

@@ -22,7 +22,7 @@ use Rattle.sql_grammar.specs.Numbering.{Built}
 use Rattle.sql_grammar.specs.Queries.{of_form, rules}
 use Rattle.sql_grammar.specs.QueryTrees as t
 use Rattle.sql_grammar.specs.QueryTrees.{not_sub}
-use Rattle.sql_grammar.specs.QueryGrammar.{Production, Read, The, a, in_parentheses, parens, listed, comparison, in_query, in_list, between, like, next_or, expr, rest, value, primary, set_tail, and_tail, expr_tail, inner, in_inner}
+use Rattle.sql_grammar.specs.QueryGrammar.{Production, Read, The, a, in_parentheses, parens, listed, comparison, in_query, in_list, between, like, next_or, expr, rest, value, primary, further}
 use Rattle.sql_grammar.specs.QueryCopies.{copies_nothing}
 use Rattle.sql_grammar.proofs.copies.QueryFillings.{Filled, FilledBy, of_names, samples, word, symbol, number_one, fill_token, fill_only, fill_parens, fill_first, fill_second, fill_listed, fill_expr, fill_conj}
 
@@ -79,11 +79,7 @@ no_subquery ts v s = go ((to_rule kind_of rules None expr).spells ts v s)
 -- ---- the productions that a query has as parts
 
 abbrev pub is_part : Production → Bool
-is_part set_tail = false
-is_part and_tail = false
-is_part expr_tail = false
-is_part inner = false
-is_part in_inner = false
+is_part (further tail) = false
 is_part other = true
 
 abbrev Completion : ℕ → {A : Type 0} → The A → List Lexeme → Type 0
@@ -198,11 +194,7 @@ module _ (h : ℕ) (m : AreCompleted h) where
   goes : (p : Production) → is_part p ≡ true → Goes (rules p)
   goes rest i = goes_rest
   goes primary i = goes_primary
-  goes set_tail i = absurd (never i)
-  goes and_tail i = absurd (never i)
-  goes expr_tail i = absurd (never i)
-  goes inner i = absurd (never i)
-  goes in_inner i = absurd (never i)
+  goes (further tail) i = absurd (never i)
   goes other i = by_parts (rules other) refl
 
 completed_at : (h : ℕ) → AreCompleted h

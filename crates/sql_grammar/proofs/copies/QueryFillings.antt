@@ -18,8 +18,8 @@ use Rattle.sql_grammar.specs.QueryTrees as t
 use Rattle.sql_grammar.specs.QueryTailTrees as tails
 use Rattle.sql_grammar.specs.QueryTrees.{Listed, not_sub}
 use Rattle.sql_grammar.specs.QueryGrammar as grammar
-use Rattle.sql_grammar.specs.QueryGrammar.{Production, Read, The, a, one_of, parens, name, listed, alias, group_by, comparison, like, minus, not_neg, exists, join_on, cross_join, next_sum, next_product, next_and, next_or, next_intersect, next_union, query, part, operand, block, item, from, entry, reference, expr, conj, neg, test, rest, value, term, unary, primary, agg, set_tail, and_tail, expr_tail, inner, in_inner, most_operators, most_separators}
-use Rattle.sql_grammar.specs.QueryTails.{insides, commas}
+use Rattle.sql_grammar.specs.QueryGrammar.{Production, Read, The, a, one_of, parens, name, listed, alias, group_by, comparison, like, minus, not_neg, exists, join_on, cross_join, next_sum, next_product, next_and, next_or, next_intersect, next_union, query, part, operand, block, item, from, entry, reference, expr, conj, neg, test, rest, value, term, unary, primary, agg, most_operators, most_separators}
+use Rattle.sql_grammar.specs.QueryTails.{insides, commas, set_tail, and_tail, expr_tail, inner, in_inner}
 use Rattle.sql_grammar.specs.Queries.{rules}
 use Rattle.sql_grammar.specs.QueryCopies.{copies_nothing}
 

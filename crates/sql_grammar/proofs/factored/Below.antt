@@ -3,8 +3,8 @@ use Rattle.grammar.specs.Language.{Includes}
 use Rattle.grammar.specs.Form.{Room, empty, language}
 use Rattle.grammar.proofs.factorings.Factorings.{below_included}
 use Rattle.sql_grammar.specs.Kinds.{kind_of}
-use Rattle.sql_grammar.specs.QueryGrammar.{Production, rules_with, item, reference, rest, primary, agg, inner, in_inner}
-use Rattle.sql_grammar.specs.QueryTails.{commas, tail_rules}
+use Rattle.sql_grammar.specs.QueryGrammar.{Production, rules_with, item, reference, rest, primary, agg}
+use Rattle.sql_grammar.specs.QueryTails.{commas, tail_rules, inner, in_inner}
 use Rattle.sql_grammar.specs.FactoredQueries.{factored_with}
 use Rattle.grammar.proofs.factorings.Alike.{itself}
 use Rattle.sql_grammar.proofs.queries.QueryWords.{Below}

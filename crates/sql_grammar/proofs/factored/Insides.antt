@@ -11,8 +11,8 @@ use Rattle.sql_grammar.specs.Kinds.{kind_of}
 use Rattle.sql_grammar.specs.Numbering.{Built}
 use Rattle.sql_grammar.specs.QueryTrees as t
 use Rattle.sql_grammar.specs.QueryTrees.{Left, not_sub}
-use Rattle.sql_grammar.specs.QueryGrammar.{Production, Read, The, rules_with, next_product, next_sum, next_and, next_or, expr, unary, primary, set_tail, expr_tail, rest, most_operators, most_separators}
-use Rattle.sql_grammar.specs.QueryTails.{tail_rules}
+use Rattle.sql_grammar.specs.QueryGrammar.{Production, Read, The, rules_with, next_product, next_sum, next_and, next_or, expr, unary, primary, rest, most_operators, most_separators}
+use Rattle.sql_grammar.specs.QueryTails.{tail_rules, set_tail, expr_tail}
 use Rattle.sql_grammar.specs.Queries.{rules}
 use Rattle.sql_grammar.proofs.queries.QuerySplits.{is_kept}
 use Rattle.sql_grammar.proofs.queries.QuerySplits as split

@@ -10,8 +10,8 @@ use Rattle.sql_grammar.specs.QueryTrees as t
 use Rattle.sql_grammar.specs.QueryTrees.{Left, not_sub}
 use Rattle.sql_grammar.specs.QueryTailTrees.{Enclosed, Inside}
 use Rattle.sql_grammar.specs.QueryGrammar as grammar
-use Rattle.sql_grammar.specs.QueryGrammar.{The, parens, minus, not_neg, exists, unary, primary, and_tail, expr}
-use Rattle.sql_grammar.specs.QueryTails.{insides}
+use Rattle.sql_grammar.specs.QueryGrammar.{The, parens, minus, not_neg, exists, unary, primary, expr}
+use Rattle.sql_grammar.specs.QueryTails.{insides, and_tail}
 use Rattle.sql_grammar.specs.Queries.{rules}
 use Rattle.sql_grammar.specs.FactoredQueries.{column_of, literal, named_first, arguments, one_argument, count_arguments, going_on, going_on_by_and, no_parenthesis, after_query, after_expression, factored_of_insides}
 use Rattle.sql_grammar.proofs.queries.QuerySplits as split

@@ -11,8 +11,8 @@ use Rattle.sql_grammar.specs.Numbering.{Built}
 use Rattle.sql_grammar.specs.QueryTrees as t
 use Rattle.sql_grammar.specs.QueryTrees.{Left, not_sub}
 use Rattle.sql_grammar.specs.QueryTailTrees.{Enclosed, Inside}
-use Rattle.sql_grammar.specs.QueryGrammar.{The, in_parentheses, parens, rules_with, query, operand, block, unary, primary, set_tail, expr, expr_tail, inner}
-use Rattle.sql_grammar.specs.QueryTails.{insides, longer_query, tail_rules}
+use Rattle.sql_grammar.specs.QueryGrammar.{The, in_parentheses, parens, rules_with, query, operand, block, unary, primary, expr}
+use Rattle.sql_grammar.specs.QueryTails.{insides, longer_query, tail_rules, set_tail, expr_tail, inner}
 use Rattle.sql_grammar.specs.Queries.{rules}
 use Rattle.sql_grammar.specs.FactoredQueries.{enclosed_first, literal, factored}
 use Rattle.sql_grammar.proofs.queries.QuerySplits as split

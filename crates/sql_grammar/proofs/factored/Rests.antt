@@ -13,8 +13,8 @@ use Rattle.sql_grammar.specs.QueryTrees as t
 use Rattle.sql_grammar.specs.QueryTailTrees as tails
 use Rattle.sql_grammar.specs.QueryTrees.{not_sub}
 use Rattle.sql_grammar.specs.QueryTailTrees.{Inside}
-use Rattle.sql_grammar.specs.QueryGrammar.{The, a, in_parentheses, parens, listed, comparison, in_query, in_list, between, like, query, expr, value, rest, in_inner, most_separators}
-use Rattle.sql_grammar.specs.QueryTails.{commas, next_comma, insides}
+use Rattle.sql_grammar.specs.QueryGrammar.{The, a, in_parentheses, parens, listed, comparison, in_query, in_list, between, like, query, expr, value, rest, most_separators}
+use Rattle.sql_grammar.specs.QueryTails.{commas, next_comma, insides, in_inner}
 use Rattle.sql_grammar.specs.Queries.{rules}
 use Rattle.sql_grammar.specs.FactoredQueries.{factored, by_word}
 use Rattle.sql_grammar.proofs.queries.QueryWords.{Below, Test, alone, given, given_parts, negated, parens_alt, parens_below, parens_map}

@@ -1,8 +1,7 @@
 -- Looking a kind up in a table, row by row.
-use Rattle.std.proofs.Common.{◌≡◌, ℕ, ◌+◌, ◌≤◌, ◌<◌, List, map, Bor, length, drop, get_or, drop-cons, add-one, Bool, true, false, bytes_eq, refl, if◌then◌else◌}
+use Rattle.std.proofs.Common.{◌≡◌, ℕ, ◌+◌, ◌≤◌, ◌<◌, List, map, Bor, length, drop, get_or, drop-cons, add-one, true, false, bytes_eq, refl}
 use Rattle.std.proofs.lemmas.List.{drop_all}
 use Rattle.sql_lex.specs.Bytes.{folded_byte}
-use Rattle.sql_grammar.specs.Kinds as k
 use Rattle.sql_grammar.specs.Kinds.{Kind, kind_in}
 
 abbrev pub Row : Type 0
@@ -25,9 +24,3 @@ row_passed rows i d text other h e = rw (drop-cons rows i d h, e, add-one) refl
 
 pub no_row : (rows : List Row) (i : ℕ) (text : List ℕ) (other : Kind) → length rows ≤ i → kind_in (folded_rows (drop i rows)) other (map folded_byte text) ≡ other
 no_row rows i text other h = rw (drop_all i rows h) refl
-
-pub left_out : (reserved : Bool) (other : Kind) → reserved ≡ true → (if reserved then k.LeftOut else other) ≡ k.LeftOut
-left_out reserved other e = rw e refl
-
-pub not_left_out : (reserved : Bool) (other : Kind) → reserved ≡ false → (if reserved then k.LeftOut else other) ≡ other
-not_left_out reserved other e = rw e refl

@@ -1,14 +1,13 @@
 -- The kind of a word is found among those for its first letter.
 use Rattle.std.proofs.Common.{◌≡◌, ℕ, Bool, true, false, not, cond, List, [], ◌∷◌, ◌++◌, map, bytes_eq, refl, sym, ap, ◌∙◌, inl, inr, if◌then◌else◌}
-use Rattle.std.specs.List.{filter}
+use Rattle.std.specs.List.{filter, list_any}
 use Rattle.std.proofs.lemmas.Bool.{cases_Bool, true≢false, false≢true}
 use Rattle.std.proofs.lemmas.Slice.Eq.{bytes_eq-Decides}
 use Rattle.sql_lex.specs.Bytes.{folded_byte}
-use Rattle.sql_lex.specs.Letters.{IsByLetter, begins_with, begins_with_letter, entries_for}
-use Rattle.sql_lex.specs.Reserved.{is_reserved}
-use Rattle.sql_lex.proofs.FirstLetters.{entries_found, mapped_entries, none_found, same_first}
 use Rattle.sql_grammar.specs.Kinds as k
-use Rattle.sql_grammar.specs.Kinds.{Kind, kind_in, special_kinds, used_kinds, word_kind}
+use Rattle.sql_grammar.specs.Kinds.{Kind, kind_in, left_out_words, special_kinds, used_kinds, word_kind}
+use Rattle.sql_grammar.specs.Letters.{IsByLetter, begins_with, begins_with_letter, entries_for}
+use Rattle.sql_grammar.proofs.lists.FirstLetters.{entries_found, mapped_entries, none_found, same_first}
 use Rattle.sql_grammar.proofs.lists.KindRows.{Row, folded_rows}
 
 abbrev Entry : Type 0
@@ -79,19 +78,22 @@ behind_used : (rows more : List Entry) (other : Kind) (word : List ℕ) → kind
 behind_used [] more other word = refl
 behind_used (row ∷ rows) more other word = ap (λ kind. if bytes_eq row.0 word then row.1 else kind) (behind_used rows more other word)
 
--- no special word is reserved
-reserved_not_special : (word : List ℕ) (other : Kind) → is_reserved word ≡ true → kind_in special_kinds other word ≡ other
-reserved_not_special word other e = lost (λ w. not (is_reserved w)) other word (ap not e) special_kinds
+abbrev pub is_never_used : List ℕ → Bool
+is_never_used word = list_any (bytes_eq word) left_out_words
 
-by_reserved : (word : List ℕ) (reserved : Bool) → is_reserved word ≡ reserved
-    → (if reserved then k.LeftOut else kind_in special_kinds k.Word word) ≡ kind_in special_kinds (if reserved then k.LeftOut else k.Word) word
-by_reserved word true e = sym (reserved_not_special word k.LeftOut e)
-by_reserved word false e = refl
+-- no special word is left out
+not_special : (word : List ℕ) (other : Kind) → is_never_used word ≡ true → kind_in special_kinds other word ≡ other
+not_special word other e = lost (λ w. not (is_never_used w)) other word (ap not e) special_kinds
 
-word_kind-known : (word : List ℕ) → word_kind word ≡ known (if is_reserved word then k.LeftOut else k.Word) word
+by_never_used : (word : List ℕ) (never : Bool) → is_never_used word ≡ never
+    → (if never then k.LeftOut else kind_in special_kinds k.Word word) ≡ kind_in special_kinds (if never then k.LeftOut else k.Word) word
+by_never_used word true e = sym (not_special word k.LeftOut e)
+by_never_used word false e = refl
+
+word_kind-known : (word : List ℕ) → word_kind word ≡ known (if is_never_used word then k.LeftOut else k.Word) word
 word_kind-known word =
-    ap (λ kind. kind_in used_kinds kind word) (by_reserved word (is_reserved word) refl)
-    ∙ sym (behind_used used_kinds special_kinds (if is_reserved word then k.LeftOut else k.Word) word)
+    ap (λ kind. kind_in used_kinds kind word) (by_never_used word (is_never_used word) refl)
+    ∙ sym (behind_used used_kinds special_kinds (if is_never_used word then k.LeftOut else k.Word) word)
 
 -- ---- what a search of a table by first letters finds
 by_table : (table : List (List Row)) (rows : List Row) (text : List ℕ) (other : Kind) → rows ≡ entries_for table (map folded_byte text) → IsByLetter (λ (row : Entry). row.0) (used_kinds ++ special_kinds) (map folded_rows table)
@@ -102,5 +104,5 @@ by_table table rows text other e by_letter =
     ∙ found (used_kinds ++ special_kinds) (map folded_rows table) by_letter other (map folded_byte text)
 
 pub word_kind-by_table : (table : List (List Row)) (rows : List Row) (text : List ℕ) → rows ≡ entries_for table (map folded_byte text) → IsByLetter (λ (row : Entry). row.0) (used_kinds ++ special_kinds) (map folded_rows table)
-    → word_kind (map folded_byte text) ≡ kind_in (folded_rows rows) (if is_reserved (map folded_byte text) then k.LeftOut else k.Word) (map folded_byte text)
+    → word_kind (map folded_byte text) ≡ kind_in (folded_rows rows) (if is_never_used (map folded_byte text) then k.LeftOut else k.Word) (map folded_byte text)
 word_kind-by_table table rows text e by_letter = word_kind-known (map folded_byte text) ∙ sym (by_table table rows text _ e by_letter)

@@ -5,8 +5,8 @@ use Rattle.grammar.proofs.languages.Heights.{name_prefixes}
 use Rattle.grammar.proofs.languages.Known.{Known, narrowed}
 use Rattle.grammar.proofs.factorings.Factorings.{below_included}
 use Rattle.sql_grammar.specs.Kinds.{kind_of}
-use Rattle.sql_grammar.specs.QueryGrammar.{Production, rules_with, item, reference, rest, primary, agg, inner, in_inner}
-use Rattle.sql_grammar.specs.QueryTails.{commas, tail_rules}
+use Rattle.sql_grammar.specs.QueryGrammar.{Production, rules_with, item, reference, rest, primary, agg}
+use Rattle.sql_grammar.specs.QueryTails.{commas, tail_rules, inner, in_inner}
 use Rattle.sql_grammar.specs.FactoredQueries.{factored_with}
 use Rattle.sql_grammar.specs.QueryLookahead.{table}
 use Rattle.sql_grammar.proofs.queries.QueryInside.{P}

@@ -11,7 +11,8 @@ use Rattle.sql_grammar.specs.QueryTrees as t
 use Rattle.sql_grammar.specs.QueryTailTrees as tails
 use Rattle.sql_grammar.specs.QueryTrees.{Left, not_sub}
 use Rattle.sql_grammar.specs.QueryTailTrees.{Enclosed, Inside}
-use Rattle.sql_grammar.specs.QueryGrammar.{a, name, aggregate_word, parens, subquery, call, expr, reference, primary, agg, inner}
+use Rattle.sql_grammar.specs.QueryGrammar.{a, name, aggregate_word, parens, subquery, call, expr, reference, primary, agg}
+use Rattle.sql_grammar.specs.QueryTails.{inner}
 use Rattle.sql_grammar.specs.Queries.{rules}
 use Rattle.sql_grammar.specs.FactoredQueries.{factored, sort, literal, dot_name, one_argument, other_aggregate, count_arguments, column_of, named_first, enclosed_first}
 use Rattle.sql_grammar.proofs.queries.QueryInside.{P, fl, opens, closes, deeper_there, deeper_back, deeper_spells, deeper_prefix, sorted}

@@ -13,7 +13,8 @@ use Rattle.sql_grammar.specs.QueryTrees as t
 use Rattle.sql_grammar.specs.QueryTailTrees as tails
 use Rattle.sql_grammar.specs.QueryTrees.{Left}
 use Rattle.sql_grammar.specs.QueryTailTrees.{Enclosed, Inside}
-use Rattle.sql_grammar.specs.QueryGrammar.{Production, Read, The, in_parentheses, next_intersect, next_union, next_product, next_sum, next_and, next_or, intersects, unions, query, operand, block, set_tail, expr_tail, inner, most_operators, most_separators}
+use Rattle.sql_grammar.specs.QueryGrammar.{Production, Read, The, in_parentheses, next_intersect, next_union, next_product, next_sum, next_and, next_or, intersects, unions, query, operand, block, most_operators, most_separators}
+use Rattle.sql_grammar.specs.QueryTails.{set_tail, expr_tail, inner}
 use Rattle.sql_grammar.specs.Queries.{rules}
 use Rattle.sql_grammar.specs.FactoredQueries.{factored_with, sort}
 use Rattle.sql_grammar.proofs.queries.Variants.{Variant}

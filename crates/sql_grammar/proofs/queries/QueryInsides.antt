@@ -12,8 +12,8 @@ use Rattle.sql_grammar.specs.QueryTrees as t
 use Rattle.sql_grammar.specs.QueryTailTrees as tails
 use Rattle.sql_grammar.specs.QueryTrees.{Left, not_sub}
 use Rattle.sql_grammar.specs.QueryTailTrees.{Enclosed, Inside}
-use Rattle.sql_grammar.specs.QueryGrammar.{Production, The, in_parentheses, minus, rules_with, query, item, reference, expr, rest, unary, primary, agg, expr_tail, inner, in_inner}
-use Rattle.sql_grammar.specs.QueryTails.{insides, tail_rules}
+use Rattle.sql_grammar.specs.QueryGrammar.{Production, The, in_parentheses, minus, rules_with, query, item, reference, expr, rest, unary, primary, agg}
+use Rattle.sql_grammar.specs.QueryTails.{insides, tail_rules, expr_tail, inner, in_inner}
 use Rattle.sql_grammar.specs.FactoredQueries.{factored_with, sort, after_query, after_expression, factored_of_insides, no_parenthesis, going_on, going_on_by_and, enclosed_first, literal, named_first}
 use Rattle.sql_grammar.proofs.queries.QuerySplits.{is_kept}
 use Rattle.sql_grammar.proofs.queries.QuerySplits as split

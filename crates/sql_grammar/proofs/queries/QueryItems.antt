@@ -11,7 +11,8 @@ use Rattle.sql_grammar.specs.Kinds as k
 use Rattle.sql_grammar.specs.Numbering.{Built}
 use Rattle.sql_grammar.specs.QueryTrees as t
 use Rattle.sql_grammar.specs.QueryTrees.{Left}
-use Rattle.sql_grammar.specs.QueryGrammar.{The, a, name, called_word, alias, minus, parens, item, expr, expr_tail}
+use Rattle.sql_grammar.specs.QueryGrammar.{The, a, name, called_word, alias, minus, parens, item, expr}
+use Rattle.sql_grammar.specs.QueryTails.{expr_tail}
 use Rattle.sql_grammar.specs.Queries.{rules}
 use Rattle.sql_grammar.specs.FactoredQueries.{factored, literal, dot_name, dot_star_or_name, arguments, one_argument, other_aggregate, count_arguments, word_with, words, column_of, named_first, enclosed_first, going_on, going_on_by_and, star_or_column, star_or_left, Starred}
 use Rattle.sql_grammar.proofs.queries.QueryInside.{P, fl}

@@ -12,8 +12,8 @@ use Rattle.sql_grammar.specs.QueryTrees as t
 use Rattle.sql_grammar.specs.QueryTailTrees as tails
 use Rattle.sql_grammar.specs.QueryTrees.{Left}
 use Rattle.sql_grammar.specs.QueryTailTrees.{Enclosed, Inside}
-use Rattle.sql_grammar.specs.QueryGrammar.{The, a, in_parentheses, parens, listed, comparison, query, operand, set_tail, expr, expr_tail, value, rest, inner, in_inner, most_separators}
-use Rattle.sql_grammar.specs.QueryTails.{commas, next_comma, insides}
+use Rattle.sql_grammar.specs.QueryGrammar.{The, a, in_parentheses, parens, listed, comparison, query, operand, expr, value, rest, most_separators}
+use Rattle.sql_grammar.specs.QueryTails.{commas, next_comma, insides, set_tail, expr_tail, inner, in_inner}
 use Rattle.sql_grammar.specs.Queries.{rules}
 use Rattle.sql_grammar.specs.FactoredQueries.{factored, factored_of_insides, going_on, going_on_by_and, enclosed_first, by_word}
 use Rattle.sql_grammar.proofs.queries.QuerySplits as split

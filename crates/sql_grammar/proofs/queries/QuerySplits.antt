@@ -11,8 +11,8 @@ use Rattle.sql_grammar.specs.Numbering.{Built}
 use Rattle.sql_grammar.specs.QueryTrees as t
 use Rattle.sql_grammar.specs.QueryTailTrees as tails
 use Rattle.sql_grammar.specs.QueryTrees.{Left}
-use Rattle.sql_grammar.specs.QueryGrammar.{Production, Read, The, Froms, rules_with, intersects, unions, products, sums, ands, ors, not_neg, exists, query, part, operand, item, reference, expr, conj, neg, test, rest, value, term, unary, primary, agg, set_tail, and_tail, expr_tail, inner, in_inner}
-use Rattle.sql_grammar.specs.QueryTails.{tail_rules}
+use Rattle.sql_grammar.specs.QueryGrammar.{Production, Read, The, Froms, rules_with, intersects, unions, products, sums, ands, ors, not_neg, exists, query, part, operand, item, reference, expr, conj, neg, test, rest, value, term, unary, primary, agg}
+use Rattle.sql_grammar.specs.QueryTails.{tail_rules, set_tail, and_tail, expr_tail, inner, in_inner}
 use Rattle.sql_grammar.specs.FactoredQueries.{going_on, going_on_by_and}
 
 -- whether the left-factored grammar has the grammar's own production of a name

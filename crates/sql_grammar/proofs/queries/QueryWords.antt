@@ -12,7 +12,8 @@ use Rattle.sql_grammar.specs.Kinds.{Kind, kind_of, same, among}
 use Rattle.sql_grammar.specs.Numbering.{Built}
 use Rattle.sql_grammar.specs.QueryTrees as t
 use Rattle.sql_grammar.specs.QueryTrees.{Left}
-use Rattle.sql_grammar.specs.QueryGrammar.{The, a, name, name_kinds, call, called_word, aggregate_word, expr, in_parentheses, listed, parens, expr_tail}
+use Rattle.sql_grammar.specs.QueryGrammar.{The, a, name, name_kinds, call, called_word, aggregate_word, expr, in_parentheses, listed, parens}
+use Rattle.sql_grammar.specs.QueryTails.{expr_tail}
 use Rattle.sql_grammar.proofs.lists.EveryKind.{every_kind_is_there}
 use Rattle.sql_grammar.specs.FactoredQueries.{arguments, column_of, count_arguments, dot_name, dot_star_or_name, going_on, one_argument, other_aggregate, star_or_column, word_with, words, Starred}
 use Rattle.sql_grammar.proofs.queries.QueryInside.{Names, P, el, fl}

@@ -8,7 +8,8 @@ use Rattle.sql_model.specs.declared.tree.Entry.{Entry}
 use Rattle.sql_cursor.specs.declared.fault.ReadFault.{ReadFault}
 use Rattle.sql_read.specs.Copied.{Copied}
 use Rattle.sql_cursor.specs.Cursor.{Cursor}
-use Rattle.sql_cursor.specs.Eating.{Extends, Passes, PassesWithin, allowed_entry, is_next, Overflows}
+use Rattle.sql_cursor.specs.Eating.{Extends, Passes, PassesWithin, is_next, Overflows}
+use Rattle.sql_read.specs.Parts.{allowed_entry}
 use Rattle.sql_read.specs.Reads.{Takes, entries_too, few_form, Builds, RefusesWithin}
 use Rattle.sql_read.specs.Reading.{Deeper, entry, joined_entry, joined_on}
 use Rattle.sql_cursor.specs.Readers.{Reader, Reading, ◌>>=◌, accepted, done, eaten_within, expected, on}

@@ -17,6 +17,7 @@ use Rattle.sql_grammar.specs.declared.kinds.Kind.TheVariants as k
 use Rattle.sql_grammar.specs.Kinds.{among, kind_of, same, every_kind}
 use Rattle.sql_grammar.specs.Numbering.{Built, each}
 use Rattle.sql_grammar.specs.QueryGrammar as grammar
+use Rattle.sql_grammar.specs.QueryTails as further
 use Rattle.sql_grammar.specs.QueryGrammar.{The, a, exists, listed, next_and, next_or, next_sum, not_neg, most_operators, most_separators}
 use Rattle.sql_grammar.specs.FactoredQueries.{one_argument}
 use Rattle.sql_grammar.specs.QueryTrees.{aggregate, and_node, chained, is_given, listed_or_none, not_of, operated, or_node}
@@ -127,9 +128,9 @@ module _ (levels : ℕ) (deeper : Deeper) (d : DeeperAgrees levels deeper) where
   and_tail first c = ands levels deeper first c >>= ors levels deeper
 
   pub and_tail_agrees : (before : Built Expr) (start now : Cursor) (first : Expr) → Builds before start first now
-      → Agrees (ref grammar.and_tail) levels (λ tail. tail before) (λ tail. tail before) start now (and_tail first now)
+      → Agrees (ref further.and_tail) levels (λ tail. tail before) (λ tail. tail before) start now (and_tail first now)
   and_tail_agrees before start now first b =
-      then_tail (ands levels deeper first now) (ors levels deeper) (ands_agrees before start now first b) (mapped (production grammar.and_tail whole)) refl (fill_none (Some most_separators) next_or) (λ v. refl)
+      then_tail (ands levels deeper first now) (ors levels deeper) (ands_agrees before start now first b) (mapped (production further.and_tail whole)) refl (fill_none (Some most_separators) next_or) (λ v. refl)
       (λ read left mid b. ors_agrees _ start mid left b)
 
   -- operators behind a first part
@@ -140,7 +141,7 @@ module _ (levels : ℕ) (deeper : Deeper) (d : DeeperAgrees levels deeper) where
 
   module _ (before : Built Expr) (count : ℕ) (began now : Cursor) (start : Mark) (first : Expr) (marked : IsMark start began) (b : IsBuilt before count began first now) where
     abbrev Tail : Reading Expr → Type 0
-    Tail r = Agrees (ref grammar.expr_tail) levels (λ tail. tail (before, count)) (λ tail. tail (before, count)) began now r
+    Tail r = Agrees (ref further.expr_tail) levels (λ tail. tail (before, count)) (λ tail. tail (before, count)) began now r
 
     -- a test, AND and OR
     abbrev behind_operators : Expr → Reader Expr
@@ -148,7 +149,7 @@ module _ (levels : ℕ) (deeper : Deeper) (d : DeeperAgrees levels deeper) where
 
     together : Tail ((products levels deeper first now >>= sums levels deeper) >>= behind_operators)
     together = then_counted (products levels deeper first now >>= sums levels deeper) (λ v left. operated (operated left.0 v.0) v.1) (operators_agree before began now first b.builds)
-        (mapped (production grammar.expr_tail (whole {start = now}))) refl (fill_seq (fill_absent (ref grammar.rest)) fill_chain) (λ u count. refl) (λ v. refl)
+        (mapped (production further.expr_tail (whole {start = now}))) refl (fill_seq (fill_absent (ref grammar.rest)) fill_chain) (λ u count. refl) (λ v. refl)
         (λ left mid t l. then_rest (tested levels deeper start left mid) (tested_agrees levels deeper d _ _ began mid start left marked (counted_on b t.extends t.reads.answers.builds))
         (λ left next u. then_tail (ands levels deeper left next) (ors levels deeper) (ands_agrees _ began next left u.reads.answers.builds) (second l refl u) refl (fill_none (Some most_separators) next_or) (λ v. refl)
         (λ read left last b. ors_agrees _ began last left b))

@@ -10,12 +10,13 @@ use Rattle.sql_read.specs.declared.reading.item.Starred.TheVariants as starred
 use Rattle.sql_cursor.specs.Cursor.{Cursor}
 use Rattle.sql_read.specs.Parts.{built_starred}
 use Rattle.sql_read.specs.Reads.{Builds, entries_too, few_form}
-use Rattle.sql_read.specs.Reading.{Deeper, enclosed, expr_tail, item, item_name, name_or_star, named_first, named_item, negative, starred_item, expr, in_parentheses, neg, primary, unary}
+use Rattle.sql_read.specs.Reading.{Deeper, enclosed, expr_tail, item, item_name, call_or_word, name_or_star, named_first, named_item, negative, starred_item, expr, in_parentheses, neg, primary, unary}
 use Rattle.sql_cursor.specs.Readers.{Reading, ◌>>=◌, mark, seen, eaten, eaten_within, expected, expected_within}
 use Rattle.sql_grammar.specs.declared.kinds.Kind.TheVariants as kind
 use Rattle.sql_grammar.specs.Kinds.{among, called_kinds, name_kinds, other_aggregates, same}
 use Rattle.sql_grammar.specs.Numbering.{Built, plain}
 use Rattle.sql_grammar.specs.QueryGrammar as grammar
+use Rattle.sql_grammar.specs.QueryTails as further
 use Rattle.sql_grammar.specs.QueryGrammar.{The, minus}
 use Rattle.sql_grammar.specs.FactoredQueries as factored
 use Rattle.sql_grammar.specs.QueryTrees as t
@@ -63,14 +64,14 @@ module _ (levels : ℕ) (deeper : Deeper) (d : DeeperAgrees levels deeper) where
     Went c r = Agrees goes_on levels (λ read. read) (λ read. read) c c r
 
     -- the first part is read
-    begun : (c : Cursor) → ok left_factored (seq (counted first_part) (ref grammar.expr_tail)) ≡ true → Residual (seq (counted first_part) (ref grammar.expr_tail)) levels c goes_on levels c (λ p. p.1 p.0) → (r : Reading Expr)
+    begun : (c : Cursor) → ok left_factored (seq (counted first_part) (ref further.expr_tail)) ≡ true → Residual (seq (counted first_part) (ref further.expr_tail)) levels c goes_on levels c (λ p. p.1 p.0) → (r : Reading Expr)
         → Agrees first_part levels (λ read. read) (λ read. read) c c r → Went c (r >>= expr_tail levels deeper (mark c))
     begun c o l r u = then_counted r (λ v. v) u l o fill_expr_tail (λ v count. refl) (λ v. refl)
         (λ x mid t l. ends_in (expr_tail levels deeper (mark c) x mid) l (λ v. refl) (expr_tail_agrees levels deeper d t.reads.answers.read _ c mid (mark c) x (refl, refl) (built_counted t.extends t.reads.answers.builds)))
 
   -- where a part of the form begins an expression that begins with no sign, literal, NOT or EXISTS
   module _ (form : The (Built Expr)) (c : Cursor) (form_agrees : Agrees form levels (λ read. read) (λ read. read) c c (seen (same kind.Open) (enclosed levels deeper) (named_first levels deeper) c))
-      (o : ok left_factored (seq (counted (first_part form)) (ref grammar.expr_tail)) ≡ true)
+      (o : ok left_factored (seq (counted (first_part form)) (ref further.expr_tail)) ≡ true)
       (going : ok left_factored (going_on (first_part form)) ≡ true) (no_word : begins_otherwise word_kinds (ahead left_factored (going_on (first_part form))) ≡ true)
       (others : ok left_factored (alt factored.literal form) ≡ true) (no_minus : begins_otherwise (same kind.Minus) (ahead left_factored (alt factored.literal form)) ≡ true)
       (last : ok left_factored form ≡ true) (no_literal : begins_otherwise literal_kinds (ahead left_factored form) ≡ true) where
@@ -101,7 +102,7 @@ module _ (levels : ℕ) (deeper : Deeper) (d : DeeperAgrees levels deeper) where
 
   -- what begins with no name and no parenthesis is refused in either way
   none_begins : (c : Cursor) → is_next (same kind.Open) c.tokens ≡ false → is_next (among name_kinds) c.tokens ≡ false → enclosed levels deeper c ≡ named_first levels deeper c
-  unfolding enclosed in_parentheses named_first expected expected_within eaten eaten_within
+  unfolding enclosed in_parentheses call_or_word named_first expected expected_within eaten eaten_within
   none_begins c n m = rw (
     none_among (among (kind.Open ∷ [])) (same kind.Open) refl c.tokens n,
     none_among (same kind.Quoted) (among name_kinds) refl c.tokens m,

@@ -27,6 +27,7 @@ use Rattle.sql_grammar.specs.Numbering.{Built}
 use Rattle.grammar.proofs.readers.Completing.{either_of}
 use Rattle.sql_grammar.specs.QueryCopies.{copies_nothing}
 use Rattle.sql_grammar.specs.QueryGrammar as grammar
+use Rattle.sql_grammar.specs.QueryTails as further
 use Rattle.sql_grammar.specs.QueryGrammar.{The, most_separators}
 use Rattle.sql_grammar.specs.QueryTails.{commas, next_comma}
 use Rattle.sql_grammar.specs.FactoredQueries as factored
@@ -77,7 +78,7 @@ module _ {A X : Type 0} {N : The A} {e : ℕ} {whole_of whole_copied : A → Bui
 -- what stops a query or an expression in parentheses, by which it goes on
 module _ {A M : Type 0} {N : The A} {e d : ℕ} {start here : Cursor} {more : The M} {m : M} {h : tails.Inside M → A} where
   group_stops : Residual (fork sorted_parentheses (factored.after_query more) (factored.after_expression more)) d here N e start h → ok left_factored (fork sorted_parentheses (factored.after_query more) (factored.after_expression more)) ≡ true → Filled more m
-      → StopsIn entries_too (grammar.in_parentheses (ref grammar.inner)) (few_form (grammar.in_parentheses (ref grammar.inner))) d here N (few_form N) e start (λ v. h (closed m v))
+      → StopsIn entries_too (grammar.in_parentheses (ref further.inner)) (few_form (grammar.in_parentheses (ref further.inner))) d here N (few_form N) e start (λ v. h (closed m v))
   group_stops l o b = counted_of (inside (fork_of l o query_closed expr_closed) (all_left (mapped whole))) same
     where
       query_of : tails.Enclosed × ℕ → tails.Inside M
@@ -101,10 +102,10 @@ module _ (levels : ℕ) (deeper : Deeper) (d : DeeperAgrees levels deeper) where
   -- ---- behind a query in parentheses
 
   module _ (opening : Lexeme) (before : Built Query) (count : ℕ) (began now : Cursor) (start : Mark) (q : Query) (at : ℕ) (place : opening.start ≡ at) (marked : IsMark start began) (b : IsBuilt before count began q now) where
-    set_tail_there : is_next (among set_kinds) now.tokens ≡ true → Agrees (nonempty (ref grammar.set_tail)) levels (λ tail. tail before) (λ tail. tail before) began now (set_tail levels deeper q now)
+    set_tail_there : is_next (among set_kinds) now.tokens ≡ true → Agrees (nonempty (ref further.set_tail)) levels (λ tail. tail before) (λ tail. tail before) began now (set_tail levels deeper q now)
     set_tail_there n = some_agrees (among set_kinds) set_tail_begins n (λ fault after r. some_set_tail r) (set_tail levels deeper q now) (set_tail_agrees levels deeper d before began now q b.builds)
 
-    expr_tail_there : is_next (among tail_kinds) now.tokens ≡ true → Agrees (nonempty (ref grammar.expr_tail)) levels (λ tail. tail (t.sub (opening, before), count)) (λ tail. tail (t.sub (opening, before), count)) began now
+    expr_tail_there : is_next (among tail_kinds) now.tokens ≡ true → Agrees (nonempty (ref further.expr_tail)) levels (λ tail. tail (t.sub (opening, before), count)) (λ tail. tail (t.sub (opening, before), count)) began now
         (expr_tail levels deeper start (an_expr.Sub q at) now)
     expr_tail_there n = some_agrees (among tail_kinds) expr_tail_begins n (λ fault after r. some_expr_tail r) (expr_tail levels deeper start (an_expr.Sub q at) now)
         (expr_tail_agrees levels deeper d (t.sub (opening, before)) count began now start (an_expr.Sub q at) marked (built_sub opening place b))
@@ -126,10 +127,10 @@ module _ (levels : ℕ) (deeper : Deeper) (d : DeeperAgrees levels deeper) where
   -- ---- inside of parentheses
 
   abbrev Inner : Cursor → Reading Inside → Type 0
-  Inner c r = Agrees (ref grammar.inner) levels built_inside built_inside c c r
+  Inner c r = Agrees (ref further.inner) levels built_inside built_inside c c r
 
-  inner_behind : (c : Cursor) → Residual (fork sorted_parentheses (factored.after_query empty) (factored.after_expression empty)) levels c (ref grammar.inner) levels c (λ v. v) → (group : Grouped) (mid : Cursor)
-      → Agrees (grammar.in_parentheses (ref grammar.inner)) levels built_grouped built_grouped c c (Ok group, mid) → Inner c (after_group levels deeper (mark c) group mid)
+  inner_behind : (c : Cursor) → Residual (fork sorted_parentheses (factored.after_query empty) (factored.after_expression empty)) levels c (ref further.inner) levels c (λ v. v) → (group : Grouped) (mid : Cursor)
+      → Agrees (grammar.in_parentheses (ref further.inner)) levels built_grouped built_grouped c c (Ok group, mid) → Inner c (after_group levels deeper (mark c) group mid)
   inner_behind c l (grouped.Query q at) mid u =
       let read = u.reads.answers in let i = query_of u.extends read.read read.takes read.builds in
       ends_in (after_query levels deeper (mark c) q at mid) (behind_first l refl i.takes u.extends) (λ v. refl) (after_query_agrees i.open_ i.built (mid.passed - c.passed) c mid (mark c) q at i.place (refl, refl) i.builds)
@@ -138,10 +139,10 @@ module _ (levels : ℕ) (deeper : Deeper) (d : DeeperAgrees levels deeper) where
       makes_alone (expr_tail levels deeper (mark c) x mid) (λ x. inside.Expr x) (mapped (behind_other l refl i.takes u.extends)) refl (λ v. refl) (λ v y end u. built_map (λ x. inside.Expr x) u)
       (expr_tail_agrees levels deeper d i.built (mid.passed - c.passed) c mid (mark c) x (refl, refl) i.builds)
 
-  pub inner_agrees : (c : Cursor) → Agrees (ref grammar.inner) levels built_inside built_inside c c (inner levels deeper c)
+  pub inner_agrees : (c : Cursor) → Agrees (ref further.inner) levels built_inside built_inside c c (inner levels deeper c)
   unfolding inner
   inner_agrees c =
-      let l = production grammar.inner (whole {start = c}) in
+      let l = production further.inner (whole {start = c}) in
       by_next (Inner c) (same kind.Select) c
       (λ n. let l = mapped (first_where (same kind.Select) l refl refl n) in
       then_rest (block levels deeper c) (block_agrees levels deeper d c)
@@ -189,10 +190,10 @@ module _ (levels : ℕ) (deeper : Deeper) (d : DeeperAgrees levels deeper) where
 
   module _ (sought : Sought) (word : Lexeme) (before : Built Expr) (count : ℕ) (began c : Cursor) (in_at : word.start ≡ sought.in_at) (weight : sought.weight ≡ t.weight (before, count)) (value : Builds before began sought.value c) where
     abbrev In : Reading Expr → Type 0
-    In r = Agrees (ref grammar.in_inner) levels (λ read. tails.in_inside None word read (before, count)) (λ read. tails.in_inside None word read (before, count)) began c r
+    In r = Agrees (ref further.in_inner) levels (λ read. tails.in_inside None word read (before, count)) (λ read. tails.in_inside None word read (before, count)) began c r
 
-    in_behind : Residual (fork sorted_parentheses (factored.after_query commas) (factored.after_expression commas)) levels c (ref grammar.in_inner) levels c (λ v. v) → (group : Grouped) (mid : Cursor)
-        → Agrees (grammar.in_parentheses (ref grammar.inner)) levels built_grouped built_grouped c c (Ok group, mid) → In (in_after_group levels deeper sought (mark c) group mid)
+    in_behind : Residual (fork sorted_parentheses (factored.after_query commas) (factored.after_expression commas)) levels c (ref further.in_inner) levels c (λ v. v) → (group : Grouped) (mid : Cursor)
+        → Agrees (grammar.in_parentheses (ref further.inner)) levels built_grouped built_grouped c c (Ok group, mid) → In (in_after_group levels deeper sought (mark c) group mid)
     in_behind l (grouped.Query q at) mid u =
         let read = u.reads.answers in let i = query_of u.extends read.read read.takes read.builds in
         ends_in (in_after_query levels deeper sought (mark c) q at mid) (behind_first l refl i.takes u.extends) (λ v. refl)
@@ -206,7 +207,7 @@ module _ (levels : ℕ) (deeper : Deeper) (d : DeeperAgrees levels deeper) where
     pub in_inner_agrees : In (in_inner levels deeper sought c)
     unfolding in_inner
     in_inner_agrees =
-        let l = production grammar.in_inner (whole {start = c}) in
+        let l = production further.in_inner (whole {start = c}) in
         by_next In (same kind.Select) c
         (λ n. let l = mapped (first_where (same kind.Select) l refl refl n) in
         then_rest (block levels deeper c) (block_agrees levels deeper d c)

@@ -1,5 +1,6 @@
 -- The readers of first parts of expressions, and of values, agree with the left-factored grammar.
-use Rattle.std.proofs.Common.{◌≡◌, ℕ, ◌+◌, true, ◌∷◌, codes, None, Ok, refl, ap, inl, inr, arith, [], Some}
+use Rattle.std.specs.Prelude.{if◌then◌else◌}
+use Rattle.std.proofs.Common.{◌≡◌, ◌⊎◌, ℕ, ◌+◌, Bool, true, false, ◌∷◌, codes, Option, None, Ok, Err, refl, ap, inl, inr, arith, [], Some, subst}
 use Rattle.grammar.specs.Form.{alt, map, ref, seq}
 use Rattle.grammar.specs.Productions.{skip_then}
 use Rattle.grammar.proofs.readers.Predictions.{ok, ahead}
@@ -8,12 +9,13 @@ use Rattle.sql_model.specs.declared.tree.Expr.{Expr}
 use Rattle.sql_model.specs.declared.tree.Expr.TheVariants as an_expr
 use Rattle.sql_cursor.specs.Cursor.{Cursor}
 use Rattle.sql_read.specs.Parts.{built_grouped, grouped_of}
-use Rattle.sql_read.specs.Reading.{Deeper, aggregate, arguments, column, count_arguments, enclosed, enclosed_of, in_parentheses, named_first, negative, primary, unary, words, products, sums, term, value}
-use Rattle.sql_cursor.specs.Readers.{Reader, Reading, seen}
+use Rattle.sql_read.specs.Reading.{Deeper, aggregate, arguments, call_behind, call_or_word, column, count_arguments, enclosed, enclosed_of, in_parentheses, named_first, negative, primary, unary, products, sums, term, value, with_named}
+use Rattle.sql_cursor.specs.Readers.{Reader, Reading, ◌>>=◌, done, eaten, expected, on, seen}
 use Rattle.sql_grammar.specs.declared.kinds.Kind.TheVariants as k
 use Rattle.sql_grammar.specs.Kinds.{among, called_kinds, other_aggregates, same}
 use Rattle.sql_grammar.specs.Numbering.{Built, symbol_number}
 use Rattle.sql_grammar.specs.QueryGrammar as grammar
+use Rattle.sql_grammar.specs.QueryTails as further
 use Rattle.sql_grammar.specs.QueryGrammar.{The, a, listed, parens, next_product, next_sum, most_operators}
 use Rattle.sql_grammar.specs.FactoredQueries.{column_of, dot_name, enclosed_first, one_argument}
 use Rattle.sql_grammar.specs.FactoredQueries as factored
@@ -31,7 +33,7 @@ use Rattle.sql_read.proofs.parts.ReadInsides.{built_enclosed, enclosed_cost}
 use Rattle.sql_read.proofs.steps.ReadLoops.{Begins, takes}
 use Rattle.sql_read.proofs.steps.ReadSteps as steps
 use Rattle.sql_read.proofs.steps.ReadSteps.{built_both, begins_with, built_map, plain_here, starts, took_token}
-use Rattle.sql_cursor.specs.Eating.{Passes}
+use Rattle.sql_cursor.specs.Eating.{Passes, is_next}
 use Rattle.sql_grammar.specs.QueryTrees.{count_rows, operated}
 use Rattle.sql_read.specs.Reads.{Takes, Builds}
 use Rattle.sql_read.proofs.steps.AgreeChains.{operators_agree}
@@ -43,6 +45,50 @@ fill_one_argument = fill_map (λ p word. t.aggregated word p.0 p.1) (fill_seq (f
 star_taken : {d : ℕ} {m n : Cursor} {star : Lexeme} → Passes (same k.Star) m star n
     → Takes (alt (map (λ sign word. t.count_rows word) (a k.Star)) one_argument) d m.tokens (λ word. t.count_rows word) n.tokens
 star_taken {d = d} q = steps.takes (steps.mapped (steps.by_token steps.whole refl q (starts q))) (took_token d q)
+
+module _ (levels : ℕ) (deeper : Deeper) where
+  -- a name and what follows it, or a call
+  abbrev pub words : {A : Type 0} → (Lexeme → Reader A) → (Reader Expr → Reader A) → Reader A
+  words dotted call c =
+      eaten (same k.Quoted) c >>= on dotted
+      (λ c. eaten (among called_kinds) c >>= on (λ word. seen (same k.Open) (call (arguments levels deeper word)) (dotted word))
+      (λ c. eaten (same k.Count) c >>= on (λ word. seen (same k.Open) (call (count_arguments levels deeper word)) (dotted word))
+      (λ c. expected (among other_aggregates) c >>= λ word. seen (same k.Open) (call (aggregate levels deeper word)) (dotted word))))
+
+  -- what is read behind the name, or made of the call, is so read and made at once
+  module _ {A : Type 0} (dotted : Lexeme → Reader A) (called : Expr → A) where
+    abbrev pub made_call : Reader Expr → Reader A
+    made_call f c = f c >>= λ x. done (called x)
+
+    through : (r : Reading (Option Lexeme)) (f : Lexeme → Reader (Lexeme ⊎ Expr)) (g : Reader (Lexeme ⊎ Expr)) (f' : Lexeme → Reader A) (g' : Reader A) → ((word : Lexeme) (mid : Cursor) → f' word mid ≡ (f word mid >>= with_named dotted called))
+        → ((mid : Cursor) → g' mid ≡ (g mid >>= with_named dotted called)) → (r >>= on f' g') ≡ ((r >>= on f g) >>= with_named dotted called)
+    through (Ok (Some word), mid) f g f' g' e i = e word mid
+    through (Ok None, mid) f g f' g' e i = i mid
+    through (Err fault, mid) f g f' g' e i = refl
+
+    through_last : (r : Reading Lexeme) (f : Lexeme → Reader (Lexeme ⊎ Expr)) (f' : Lexeme → Reader A) → ((word : Lexeme) (mid : Cursor) → f' word mid ≡ (f word mid >>= with_named dotted called))
+        → (r >>= f') ≡ ((r >>= f) >>= with_named dotted called)
+    through_last (Ok word, mid) f f' e = e word mid
+    through_last (Err fault, mid) f f' e = refl
+
+    of_call : (r : Reading Expr) → (r >>= λ x. done (called x)) ≡ ((r >>= λ x. done (inr x)) >>= with_named dotted called)
+    of_call (Ok x, mid) = refl
+    of_call (Err fault, mid) = refl
+
+    of_word : (call : Lexeme → Reader Expr) (word : Lexeme) (mid : Cursor) → seen (same k.Open) (made_call (call word)) (dotted word) mid ≡ (call_behind call word mid >>= with_named dotted called)
+    of_word call word mid = go (is_next (same k.Open) mid.tokens)
+      where
+        go : (b : Bool) → (if b then made_call (call word) mid else dotted word mid) ≡ ((if b then (call word mid >>= λ x. done (inr x)) else done (inl word) mid) >>= with_named dotted called)
+        go true = of_call (call word mid)
+        go false = refl
+
+    pub by_named : (c : Cursor) → words dotted made_call c ≡ (call_or_word levels deeper c >>= with_named dotted called)
+    unfolding call_or_word
+    by_named c =
+        through (eaten (same k.Quoted) c) _ _ _ _ (λ word mid. refl)
+        (λ c. through (eaten (among called_kinds) c) _ _ _ _ (of_word (arguments levels deeper))
+        (λ c. through (eaten (same k.Count) c) _ _ _ _ (of_word (count_arguments levels deeper))
+        (λ c. through_last (expected (among other_aggregates) c) _ _ (of_word (aggregate levels deeper)))))
 
 module _ (levels : ℕ) (deeper : Deeper) (d : DeeperAgrees levels deeper) where
   -- ---- calls
@@ -119,13 +165,14 @@ module _ (levels : ℕ) (deeper : Deeper) (d : DeeperAgrees levels deeper) where
 
   pub named_first_agrees : (c : Cursor) → Agrees factored.named_first levels (λ read. read) (λ read. read) c c (named_first levels deeper c)
   unfolding named_first
-  named_first_agrees c = words_agree dot_name column_of (λ x. x) (λ read. read) column (λ f. f) c (column_agrees levels) (λ args r word mid alike l t. ends_alike (r mid) l alike t)
-      (fill_absent (skip_then (a k.Dot) grammar.name))
-      refl refl refl refl refl refl refl refl refl refl refl
+  named_first_agrees c = subst (Agrees factored.named_first levels (λ read. read) (λ read. read) c c) (by_named levels deeper column (λ x. x) c)
+      (words_agree dot_name column_of (λ x. x) (λ read. read) column (made_call levels deeper column (λ x. x)) c (column_agrees levels)
+      (λ args r word mid alike l t. makes (r mid) (λ x. x) l (λ v. omega (arith, alike.copies)) (λ v y end b. built_from alike b) t) (fill_absent (skip_then (a k.Dot) grammar.name))
+      refl refl refl refl refl refl refl refl refl refl refl)
 
   -- ---- what stands in parentheses
 
-  pub in_parentheses_agrees : (c : Cursor) → Agrees (grammar.in_parentheses (ref grammar.inner)) levels built_grouped built_grouped c c (in_parentheses levels deeper c)
+  pub in_parentheses_agrees : (c : Cursor) → Agrees (grammar.in_parentheses (ref further.inner)) levels built_grouped built_grouped c c (in_parentheses levels deeper c)
   unfolding in_parentheses
   in_parentheses_agrees c =
       opens_alone k.Open (whole {start = c}) refl refl (fill_group fill_inner) (omega arith)

@@ -18,6 +18,7 @@ use Rattle.sql_grammar.specs.declared.kinds.Kind.{Kind}
 use Rattle.sql_grammar.specs.Kinds.{among, same}
 use Rattle.sql_grammar.specs.Numbering.{Built, both, mapped as built_mapped}
 use Rattle.sql_grammar.specs.QueryGrammar as grammar
+use Rattle.sql_grammar.specs.QueryTails as further
 use Rattle.sql_grammar.specs.QueryGrammar.{The, intersect, next_intersect, next_union, union_or_except, most_operators}
 use Rattle.sql_grammar.specs.QueryTrees.{SetWord, sets}
 use Rattle.sql_grammar.proofs.copies.QueryFillings.{fill_none, fill_query}
@@ -150,8 +151,8 @@ module _ (levels : ℕ) (deeper : Deeper) (d : DeeperAgrees levels deeper) where
       then_tail (part levels deeper c) (unions levels deeper) (part_agrees c) (mapped (production grammar.query whole)) refl (fill_none (Some most_operators) next_union) (λ v. refl) (λ read first mid b. unions_agrees read c mid first b)
 
   pub set_tail_agrees : (before : Built Query) (start now : Cursor) (first : Query) → Builds before start first now
-      → Agrees (ref grammar.set_tail) levels (λ tail. tail before) (λ tail. tail before) start now (set_tail levels deeper first now)
+      → Agrees (ref further.set_tail) levels (λ tail. tail before) (λ tail. tail before) start now (set_tail levels deeper first now)
   unfolding set_tail
   set_tail_agrees before start now first b =
-      then_tail (intersects levels deeper first now) (unions levels deeper) (intersects_agrees before start now first b) (mapped (production grammar.set_tail whole)) refl (fill_none (Some most_operators) next_union) (λ v. refl)
+      then_tail (intersects levels deeper first now) (unions levels deeper) (intersects_agrees before start now first b) (mapped (production further.set_tail whole)) refl (fill_none (Some most_operators) next_union) (λ v. refl)
       (λ read left mid b. unions_agrees (sets before read) start mid left b)

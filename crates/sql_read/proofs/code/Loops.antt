@@ -18,7 +18,8 @@ use Rattle.sql_cursor.specs.declared.fault.ReadFault.TheVariants.{Limit, NoMemor
 use Rattle.sql_cursor.specs.declared.fault.LimitKind.TheVariants as limit
 use Rattle.sql_cursor.specs.declared.tokens.counting.Mark.{Mark}
 use Rattle.sql_cursor.specs.Cursor.{Cursor}
-use Rattle.sql_cursor.specs.Eating.{PassesWithin, Stays, allowed_entry, is_next}
+use Rattle.sql_cursor.specs.Eating.{PassesWithin, Stays, is_next}
+use Rattle.sql_read.specs.Parts.{allowed_entry}
 use Rattle.sql_cursor.specs.Refusals.{refusal}
 use Rattle.sql_read.specs.Reading.{any_of, table_entry, joined, joined_entry, at, deeper_than}
 use Rattle.sql_cursor.specs.Readers.{Gives, Reader, Reading, Stops, ◌>>=◌, eaten, eaten_within, expected, mark, repeated}

@@ -12,7 +12,8 @@ use Rattle.sql_read.specs.Reading.{expr_kinds, set_kinds, tail_kinds, test_kinds
 use Rattle.sql_grammar.specs.declared.kinds.Kind.TheVariants as k
 use Rattle.sql_grammar.specs.declared.kinds.Kind.{Kind}
 use Rattle.sql_grammar.specs.Kinds.{among, called_kinds, comparisons, every_kind, kind_of, other_aggregates, same}
-use Rattle.sql_grammar.specs.QueryGrammar.{Production, The, ands, conj, expr, expr_tail, intersect, intersects, neg, next_and, next_intersect, next_or, next_product, next_sum, next_union, operand, ors, part, primary, products, rest, set_tail, sums, term, test, unary, union_or_except, unions, value, most_operators, most_separators}
+use Rattle.sql_grammar.specs.QueryGrammar.{Production, The, ands, conj, expr, intersect, intersects, neg, next_and, next_intersect, next_or, next_product, next_sum, next_union, operand, ors, part, primary, products, rest, sums, term, test, unary, union_or_except, unions, value, most_operators, most_separators}
+use Rattle.sql_grammar.specs.QueryTails.{expr_tail, set_tail}
 use Rattle.sql_grammar.specs.FactoredQueries.{factored, factored_of_rest, in_factored}
 use Rattle.sql_grammar.specs.Numbering.{Built}
 use Rattle.sql_grammar.specs.QueryTrees.{Left}

@@ -14,7 +14,8 @@ use Rattle.sql_cursor.specs.declared.fault.LimitKind.TheVariants as limit
 use Rattle.sql_cursor.specs.declared.fault.ReadFault.{ReadFault}
 use Rattle.sql_cursor.specs.declared.fault.ReadFault.TheVariants.{TooDeep, Limit, NoMemory}
 use Rattle.sql_cursor.specs.Cursor.{Cursor}
-use Rattle.sql_cursor.specs.Eating.{allowed_entry, is_next}
+use Rattle.sql_cursor.specs.Eating.{is_next}
+use Rattle.sql_read.specs.Parts.{allowed_entry}
 use Rattle.sql_grammar.specs.declared.kinds.Kind.TheVariants as k
 use Rattle.sql_grammar.specs.declared.kinds.Kind.{Kind}
 use Rattle.sql_grammar.specs.Kinds.{among, kind_of, name_kinds, same, every_kind}

@@ -23,8 +23,8 @@ use Rattle.sql_grammar.specs.declared.kinds.Kind.{Kind}
 use Rattle.sql_grammar.specs.Kinds.{same}
 use Rattle.sql_grammar.specs.Numbering.{Built, mapped}
 use Rattle.sql_grammar.specs.QueryCopies.{copies_nothing, most_copies}
-use Rattle.sql_grammar.specs.QueryGrammar.{The, expr_tail, in_parentheses, inner, set_tail}
-use Rattle.sql_grammar.specs.QueryTails.{commas}
+use Rattle.sql_grammar.specs.QueryGrammar.{The, in_parentheses}
+use Rattle.sql_grammar.specs.QueryTails.{commas, expr_tail, inner, set_tail}
 use Rattle.sql_grammar.specs.FactoredQueries.{sort, in_factored}
 use Rattle.sql_grammar.specs.QueryTrees as t
 use Rattle.sql_grammar.specs.QueryTailTrees as tails

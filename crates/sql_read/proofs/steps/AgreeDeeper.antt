@@ -11,6 +11,7 @@ use Rattle.sql_read.specs.Reads.{Builds}
 use Rattle.sql_read.specs.Reading.{Deeper}
 use Rattle.sql_grammar.specs.Numbering.{Built, each}
 use Rattle.sql_grammar.specs.QueryGrammar as grammar
+use Rattle.sql_grammar.specs.QueryTails as further
 use Rattle.sql_grammar.specs.QueryGrammar.{listed}
 use Rattle.sql_grammar.specs.FactoredQueries.{one_argument}
 use Rattle.sql_grammar.specs.QueryTrees as trees
@@ -25,10 +26,10 @@ pub record OneDeeper (levels : ℕ) (deeper : Deeper) : Type 0 where
   pub unary : (c : Cursor) → Agrees (ref grammar.unary) levels (λ read. read) (λ read. read) c c (deeper.unary c)
   pub exprs : (c : Cursor) → Agrees (optional (listed (ref grammar.expr))) levels (λ exprs. each (listed_or_none exprs)) (λ exprs. each (listed_or_none exprs)) c c (deeper.exprs c)
   pub argument : (word : Lexeme) (c : Cursor) → Agrees one_argument levels (λ read. read word) (λ read. read word) c c (deeper.argument word c)
-  pub inner : (c : Cursor) → Agrees (ref grammar.inner) levels built_inside built_inside c c (deeper.inner c)
+  pub inner : (c : Cursor) → Agrees (ref further.inner) levels built_inside built_inside c c (deeper.inner c)
   pub in_inner : (sought : Sought) (word : Lexeme) (before : Built Expr) (count : ℕ) (began c : Cursor) → word.start ≡ sought.in_at → sought.weight ≡ trees.weight (before, count)
       → Builds before began sought.value c
-      → Agrees (ref grammar.in_inner) levels (λ read. tails.in_inside None word read (before, count)) (λ read. tails.in_inside None word read (before, count)) began c (deeper.in_inner sought c)
+      → Agrees (ref further.in_inner) levels (λ read. tails.in_inside None word read (before, count)) (λ read. tails.in_inside None word read (before, count)) began c (deeper.in_inner sought c)
 
 -- where a level may be opened
 abbrev pub DeeperAgrees : ℕ → Deeper → Type 0

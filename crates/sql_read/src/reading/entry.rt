@@ -1,7 +1,8 @@
 //! The entries of FROM.
 ghost use Rattle.std.specs.Prelude.{IfOk, IfSome, OnOk, ◌<◌, ◌≡◌};
 ghost use Rattle.sql_grammar.specs.QueryEntries.{most_entries};
-ghost use Rattle.sql_cursor.specs.Eating.{Extends, allowed_entry};
+ghost use Rattle.sql_cursor.specs.Eating.{Extends};
+ghost use Rattle.sql_read.specs.Parts.{allowed_entry};
 ghost use Rattle.sql_read.specs.Reading as reading;
 ghost use Rattle.sql_read.specs.Reading.{Does};
 ghost use Rattle.sql_cursor.specs.Readers.{Gives};
@@ -9,12 +10,13 @@ ghost use Rattle.sql_cursor.specs.Readers.{Gives};
 use super::MOST_SEPARATORS;
 use super::deeper::deeper_query;
 use super::expr::expr;
-use super::item::{NAME_KINDS, alias, optional_alias};
+use super::item::{alias, optional_alias};
 use crate::growing::push;
 use crate::listed::{entry_of, listed_query, listed_table};
 use plain_data::{Kept, List};
 use sql_cursor::{LimitKind, ReadFault, Tokens};
-use sql_grammar::{Kind, Listed};
+use sql_grammar::Listed;
+use sql_grammar::kinds::{Kind, NAME_KINDS};
 use sql_model::Entry;
 use std::alloc::Global;
 

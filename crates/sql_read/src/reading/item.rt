@@ -7,34 +7,14 @@ ghost use Rattle.sql_read.specs.Reading.{Does};
 ghost use Rattle.sql_cursor.specs.Readers.{Gives, lexeme, lexeme_if_any};
 
 use super::expr::{expr, expr_tail};
-use super::primary::{aggregate, arguments, count_arguments};
+use super::primary::{Named, call_or_word};
 use crate::trees::{bare_column, qualified_column};
 use plain_data::Kept;
 use sql_cursor::{ReadFault, Tokens, name_in, place};
-use sql_grammar::Kind;
+use sql_grammar::kinds::{Kind, NAME_KINDS};
 use sql_lex::Token;
 use sql_model::{Expr, Item, Name};
 use std::alloc::Global;
-
-/// Unreserved words and quoted names.
-pub const NAME_KINDS: [Kind; 10] = [
-    Kind::Word,
-    Kind::Count,
-    Kind::Sum,
-    Kind::Avg,
-    Kind::Min,
-    Kind::Max,
-    Kind::Key,
-    Kind::View,
-    Kind::Index,
-    Kind::Quoted,
-];
-
-/// Unreserved words that name no aggregate.
-pub const CALLED_KINDS: [Kind; 4] = [Kind::Word, Kind::Key, Kind::View, Kind::Index];
-
-/// Aggregates but for COUNT.
-pub const OTHER_AGGREGATES: [Kind; 4] = [Kind::Sum, Kind::Avg, Kind::Min, Kind::Max];
 
 /// What stands at the head of an item that begins with a name.
 #[derive(Drop)]
@@ -93,27 +73,10 @@ fn name_or_star(alloc: Global, tokens: &mut Tokens<'_>, levels: u8) -> Result<St
     ensures does { Does reading.name_or_star levels tokens.old result tokens.new }
     ensures extends { Extends tokens.old tokens.new }
 {
-    if let Some(word) = tokens.eat(Kind::Quoted) {
-        return column_or_star(alloc, tokens, &word);
+    match call_or_word(alloc, tokens, levels)? {
+        Named::Word(word) => column_or_star(alloc, tokens, &word),
+        Named::Call(call) => Ok(Starred::First(call)),
     }
-    if let Some(word) = tokens.eat_any(&CALLED_KINDS) {
-        if tokens.sees(Kind::Open) {
-            return Ok(Starred::First(arguments(alloc, tokens, levels, &word)?));
-        }
-        return column_or_star(alloc, tokens, &word);
-    }
-    if let Some(word) = tokens.eat(Kind::Count) {
-        if tokens.sees(Kind::Open) {
-            let call = count_arguments(alloc, tokens, levels, &word)?;
-            return Ok(Starred::First(call));
-        }
-        return column_or_star(alloc, tokens, &word);
-    }
-    let word = tokens.expect_any(alloc, &OTHER_AGGREGATES)?;
-    if tokens.sees(Kind::Open) {
-        return Ok(Starred::First(aggregate(alloc, tokens, levels, &word)?));
-    }
-    column_or_star(alloc, tokens, &word)
 }
 
 /// What may follow this name: a column, `.*`, or nothing.

@@ -3,6 +3,7 @@ ghost use Rattle.std.specs.Prelude.{IfOk, Result, ◌<◌, ◌^◌, ◌≡◌};
 ghost use Rattle.sql_lex.specs.Lexemes.{lexeme_of};
 ghost use Rattle.sql_grammar.specs.QueryTrees as trees;
 ghost use Rattle.sql_cursor.specs.Eating.{Extends};
+ghost use Rattle.sql_read.specs.Parts.{IfWord, named_of};
 ghost use Rattle.sql_read.specs.Reading as reading;
 ghost use Rattle.sql_read.specs.Reading.{Does};
 ghost use Rattle.sql_cursor.specs.Readers.{Gives};
@@ -11,11 +12,10 @@ use super::MOST_SEPARATORS;
 use super::deeper::{deeper_argument, deeper_exprs};
 use super::expr::expr;
 use super::inside::enclosed;
-use super::item::{CALLED_KINDS, NAME_KINDS, OTHER_AGGREGATES};
 use crate::trees::{bare_column, qualified_column};
 use plain_data::{Boxed, Kept, List};
 use sql_cursor::{ReadFault, Tokens, name_in, number_in, place, text_in};
-use sql_grammar::kinds::{Kind, kind_of};
+use sql_grammar::kinds::{Kind, NAME_KINDS, kind_of};
 use sql_lex::Token;
 use sql_model::{AggFun, Expr, NoMemory};
 use std::alloc::Global;
@@ -39,6 +39,20 @@ const EXPR_KINDS: [Kind; 16] = [
     Kind::Open,
     Kind::Minus,
 ];
+
+/// Unreserved words that name no aggregate.
+const CALLED_KINDS: [Kind; 4] = [Kind::Word, Kind::Key, Kind::View, Kind::Index];
+
+/// Aggregates but for COUNT.
+const OTHER_AGGREGATES: [Kind; 4] = [Kind::Sum, Kind::Avg, Kind::Min, Kind::Max];
+
+/// What begins with a name.
+#[derive(Drop)]
+pub enum Named<'a> {
+    /// The word that begins a column.
+    Word(Token<'a>),
+    Call(Expr),
+}
 
 /// A literal, a column, a call, or what stands in parentheses.
 #[tactic(auto, unfolding(crate::specs::Reading::primary))]
@@ -86,26 +100,44 @@ fn named_first(alloc: Global, tokens: &mut Tokens<'_>, levels: u8) -> Result<Exp
     ensures does { Does reading.named_first levels tokens.old result tokens.new }
     ensures extends { Extends tokens.old tokens.new }
 {
+    match call_or_word(alloc, tokens, levels)? {
+        Named::Word(word) => column(alloc, tokens, &word),
+        Named::Call(call) => Ok(call),
+    }
+}
+
+/// A call, or the word alone that begins a column.
+#[tactic(auto, unfolding(crate::specs::Reading::call_or_word))]
+#[cycle(read)]
+pub fn call_or_word<'a>(
+    alloc: Global,
+    tokens: &mut Tokens<'a>,
+    levels: u8,
+) -> Result<Named<'a>, ReadFault>
+    ensures does { Does reading.call_or_word levels tokens.old (named_of result) tokens.new }
+    ensures place { IfOk result (λ named. IfWord named (λ word. word.start < 2 ^ 32)) }
+    ensures extends { Extends tokens.old tokens.new }
+{
     if let Some(word) = tokens.eat(Kind::Quoted) {
-        return column(alloc, tokens, &word);
+        return Ok(Named::Word(word));
     }
     if let Some(word) = tokens.eat_any(&CALLED_KINDS) {
         if tokens.sees(Kind::Open) {
-            return arguments(alloc, tokens, levels, &word);
+            return Ok(Named::Call(arguments(alloc, tokens, levels, &word)?));
         }
-        return column(alloc, tokens, &word);
+        return Ok(Named::Word(word));
     }
     if let Some(word) = tokens.eat(Kind::Count) {
         if tokens.sees(Kind::Open) {
-            return count_arguments(alloc, tokens, levels, &word);
+            return Ok(Named::Call(count_arguments(alloc, tokens, levels, &word)?));
         }
-        return column(alloc, tokens, &word);
+        return Ok(Named::Word(word));
     }
     let word = tokens.expect_any(alloc, &OTHER_AGGREGATES)?;
     if tokens.sees(Kind::Open) {
-        return aggregate(alloc, tokens, levels, &word);
+        return Ok(Named::Call(aggregate(alloc, tokens, levels, &word)?));
     }
-    column(alloc, tokens, &word)
+    Ok(Named::Word(word))
 }
 
 /// A column with or without a qualifier.
@@ -135,7 +167,7 @@ fn column(alloc: Global, tokens: &mut Tokens<'_>, word: &Token<'_>) -> Result<Ex
 /// The arguments of a called name.
 #[tactic(auto, unfolding(crate::specs::Reading::arguments))]
 #[cycle(read)]
-pub fn arguments(
+fn arguments(
     alloc: Global,
     tokens: &mut Tokens<'_>,
     levels: u8,
@@ -179,7 +211,7 @@ pub fn exprs(alloc: Global, tokens: &mut Tokens<'_>, levels: u8) -> Result<List<
 /// The arguments of COUNT.
 #[tactic(auto, unfolding(crate::specs::Reading::count_arguments))]
 #[cycle(read)]
-pub fn count_arguments(
+fn count_arguments(
     alloc: Global,
     tokens: &mut Tokens<'_>,
     levels: u8,
@@ -207,7 +239,7 @@ pub fn count_arguments(
 /// The argument of another aggregate.
 #[tactic(auto, unfolding(crate::specs::Reading::aggregate))]
 #[cycle(read)]
-pub fn aggregate(
+fn aggregate(
     alloc: Global,
     tokens: &mut Tokens<'_>,
     levels: u8,

@@ -11,178 +11,181 @@ use Rattle.sql_cursor.specs.Readers.{◌>>=◌, done, repeated}
 use Rattle.sql_read.proofs.reading.+read.Given as goal
 
 abbrev pub decreases-deeper::deeper_query : goal.decreases-deeper::deeper_query
-decreases-deeper::deeper_query l = 32 * l.levels
+decreases-deeper::deeper_query l = 40 * l.levels
 
 abbrev pub decreases-deeper::deeper_neg : goal.decreases-deeper::deeper_neg
-decreases-deeper::deeper_neg l = 32 * l.levels
+decreases-deeper::deeper_neg l = 40 * l.levels
 
 abbrev pub decreases-deeper::deeper_unary : goal.decreases-deeper::deeper_unary
-decreases-deeper::deeper_unary l = 32 * l.levels
+decreases-deeper::deeper_unary l = 40 * l.levels
 
 abbrev pub decreases-deeper::deeper_exprs : goal.decreases-deeper::deeper_exprs
-decreases-deeper::deeper_exprs l = 32 * l.levels
+decreases-deeper::deeper_exprs l = 40 * l.levels
 
 abbrev pub decreases-deeper::deeper_argument : goal.decreases-deeper::deeper_argument
-decreases-deeper::deeper_argument l = 32 * l.levels
+decreases-deeper::deeper_argument l = 40 * l.levels
 
 abbrev pub decreases-deeper::deeper_inner : goal.decreases-deeper::deeper_inner
-decreases-deeper::deeper_inner l = 32 * l.levels
+decreases-deeper::deeper_inner l = 40 * l.levels
 
 abbrev pub decreases-deeper::deeper_in_inner : goal.decreases-deeper::deeper_in_inner
-decreases-deeper::deeper_in_inner l = 32 * l.levels
+decreases-deeper::deeper_in_inner l = 40 * l.levels
 
 abbrev pub decreases-entry::entry : goal.decreases-entry::entry
-decreases-entry::entry l = 32 * l.levels + 1
+decreases-entry::entry l = 40 * l.levels + 1
 
 abbrev pub decreases-expr::negative : goal.decreases-expr::negative
-decreases-expr::negative l = 32 * l.levels + 1
+decreases-expr::negative l = 40 * l.levels + 1
 
 abbrev pub decreases-inside::in_parentheses : goal.decreases-inside::in_parentheses
-decreases-inside::in_parentheses l = 32 * l.levels + 1
+decreases-inside::in_parentheses l = 40 * l.levels + 1
 
 abbrev pub decreases-primary::arguments : goal.decreases-primary::arguments
-decreases-primary::arguments l = 32 * l.levels + 1
+decreases-primary::arguments l = 40 * l.levels + 1
 
 abbrev pub decreases-primary::count_arguments : goal.decreases-primary::count_arguments
-decreases-primary::count_arguments l = 32 * l.levels + 1
+decreases-primary::count_arguments l = 40 * l.levels + 1
 
 abbrev pub decreases-primary::aggregate : goal.decreases-primary::aggregate
-decreases-primary::aggregate l = 32 * l.levels + 1
+decreases-primary::aggregate l = 40 * l.levels + 1
 
 abbrev pub decreases-inside::enclosed : goal.decreases-inside::enclosed
-decreases-inside::enclosed l = 32 * l.levels + 2
+decreases-inside::enclosed l = 40 * l.levels + 2
+
+abbrev pub decreases-primary::call_or_word : goal.decreases-primary::call_or_word
+decreases-primary::call_or_word l = 40 * l.levels + 2
 
 abbrev pub decreases-item::name_or_star : goal.decreases-item::name_or_star
-decreases-item::name_or_star l = 32 * l.levels + 2
+decreases-item::name_or_star l = 40 * l.levels + 3
 
 abbrev pub decreases-primary::named_first : goal.decreases-primary::named_first
-decreases-primary::named_first l = 32 * l.levels + 2
+decreases-primary::named_first l = 40 * l.levels + 3
 
 abbrev pub decreases-primary::primary : goal.decreases-primary::primary
-decreases-primary::primary l = 32 * l.levels + 3
+decreases-primary::primary l = 40 * l.levels + 4
 
 abbrev pub decreases-expr::unary : goal.decreases-expr::unary
-decreases-expr::unary l = 32 * l.levels + 4
+decreases-expr::unary l = 40 * l.levels + 5
 
 abbrev pub decreases-expr::products : goal.decreases-expr::products
-decreases-expr::products l = 32 * l.levels + 5
+decreases-expr::products l = 40 * l.levels + 6
 
 abbrev pub decreases-expr::term : goal.decreases-expr::term
-decreases-expr::term l = 32 * l.levels + 6
+decreases-expr::term l = 40 * l.levels + 7
 
 abbrev pub decreases-expr::sums : goal.decreases-expr::sums
-decreases-expr::sums l = 32 * l.levels + 7
+decreases-expr::sums l = 40 * l.levels + 8
 
 abbrev pub decreases-expr::value : goal.decreases-expr::value
-decreases-expr::value l = 32 * l.levels + 8
+decreases-expr::value l = 40 * l.levels + 9
 
 abbrev pub decreases-test::bounds : goal.decreases-test::bounds
-decreases-test::bounds l = 32 * l.levels + 9
+decreases-test::bounds l = 40 * l.levels + 10
 
 abbrev pub decreases-test::by_word : goal.decreases-test::by_word
-decreases-test::by_word l = 32 * l.levels + 10
+decreases-test::by_word l = 40 * l.levels + 11
 
 abbrev pub decreases-test::rest : goal.decreases-test::rest
-decreases-test::rest l = 32 * l.levels + 11
+decreases-test::rest l = 40 * l.levels + 12
 
 abbrev pub decreases-test::tested : goal.decreases-test::tested
-decreases-test::tested l = 32 * l.levels + 12
+decreases-test::tested l = 40 * l.levels + 13
 
 abbrev pub decreases-test::test : goal.decreases-test::test
-decreases-test::test l = 32 * l.levels + 13
+decreases-test::test l = 40 * l.levels + 14
 
 abbrev pub decreases-expr::neg : goal.decreases-expr::neg
-decreases-expr::neg l = 32 * l.levels + 14
+decreases-expr::neg l = 40 * l.levels + 15
 
 abbrev pub decreases-expr::ands : goal.decreases-expr::ands
-decreases-expr::ands l = 32 * l.levels + 15
+decreases-expr::ands l = 40 * l.levels + 16
 
 abbrev pub decreases-expr::conj : goal.decreases-expr::conj
-decreases-expr::conj l = 32 * l.levels + 16
+decreases-expr::conj l = 40 * l.levels + 17
 
 abbrev pub decreases-expr::ors : goal.decreases-expr::ors
-decreases-expr::ors l = 32 * l.levels + 17
+decreases-expr::ors l = 40 * l.levels + 18
 
 abbrev pub decreases-expr::expr : goal.decreases-expr::expr
-decreases-expr::expr l = 32 * l.levels + 18
+decreases-expr::expr l = 40 * l.levels + 19
 
 abbrev pub decreases-expr::expr_tail : goal.decreases-expr::expr_tail
-decreases-expr::expr_tail l = 32 * l.levels + 18
+decreases-expr::expr_tail l = 40 * l.levels + 19
 
 abbrev pub decreases-block::condition : goal.decreases-block::condition
-decreases-block::condition l = 32 * l.levels + 19
+decreases-block::condition l = 40 * l.levels + 20
 
 abbrev pub decreases-entry::joined_on : goal.decreases-entry::joined_on
-decreases-entry::joined_on l = 32 * l.levels + 19
+decreases-entry::joined_on l = 40 * l.levels + 20
 
 abbrev pub decreases-entry::joined_entry : goal.decreases-entry::joined_entry
-decreases-entry::joined_entry l = 32 * l.levels + 20
+decreases-entry::joined_entry l = 40 * l.levels + 21
 
 abbrev pub decreases-primary::exprs : goal.decreases-primary::exprs
-decreases-primary::exprs l = 32 * l.levels + 19
+decreases-primary::exprs l = 40 * l.levels + 20
 
 abbrev pub decreases-primary::argument : goal.decreases-primary::argument
-decreases-primary::argument l = 32 * l.levels + 19
+decreases-primary::argument l = 40 * l.levels + 20
 
 abbrev pub decreases-test::members : goal.decreases-test::members
-decreases-test::members l = 32 * l.levels + 19
+decreases-test::members l = 40 * l.levels + 20
 
 abbrev pub decreases-entry::from : goal.decreases-entry::from
-decreases-entry::from l = 32 * l.levels + 21
+decreases-entry::from l = 40 * l.levels + 22
 
 abbrev pub decreases-entry::entries : goal.decreases-entry::entries
-decreases-entry::entries l = 32 * l.levels + 22
+decreases-entry::entries l = 40 * l.levels + 23
 
 abbrev pub decreases-item::named_item : goal.decreases-item::named_item
-decreases-item::named_item l = 32 * l.levels + 20
+decreases-item::named_item l = 40 * l.levels + 21
 
 abbrev pub decreases-item::item : goal.decreases-item::item
-decreases-item::item l = 32 * l.levels + 21
+decreases-item::item l = 40 * l.levels + 22
 
 abbrev pub decreases-block::items : goal.decreases-block::items
-decreases-block::items l = 32 * l.levels + 22
+decreases-block::items l = 40 * l.levels + 23
 
 abbrev pub decreases-block::clauses : goal.decreases-block::clauses
-decreases-block::clauses l = 32 * l.levels + 20
+decreases-block::clauses l = 40 * l.levels + 21
 
 abbrev pub decreases-block::block : goal.decreases-block::block
-decreases-block::block l = 32 * l.levels + 23
+decreases-block::block l = 40 * l.levels + 24
 
 abbrev pub decreases-query::operand : goal.decreases-query::operand
-decreases-query::operand l = 32 * l.levels + 24
+decreases-query::operand l = 40 * l.levels + 25
 
 abbrev pub decreases-query::intersects : goal.decreases-query::intersects
-decreases-query::intersects l = 32 * l.levels + 25
+decreases-query::intersects l = 40 * l.levels + 26
 
 abbrev pub decreases-query::part : goal.decreases-query::part
-decreases-query::part l = 32 * l.levels + 26
+decreases-query::part l = 40 * l.levels + 27
 
 abbrev pub decreases-query::unions : goal.decreases-query::unions
-decreases-query::unions l = 32 * l.levels + 27
+decreases-query::unions l = 40 * l.levels + 28
 
 abbrev pub decreases-query::query : goal.decreases-query::query
-decreases-query::query l = 32 * l.levels + 28
+decreases-query::query l = 40 * l.levels + 29
 
 abbrev pub decreases-query::set_tail : goal.decreases-query::set_tail
-decreases-query::set_tail l = 32 * l.levels + 28
+decreases-query::set_tail l = 40 * l.levels + 29
 
 abbrev pub decreases-inside::after_query : goal.decreases-inside::after_query
-decreases-inside::after_query l = 32 * l.levels + 29
+decreases-inside::after_query l = 40 * l.levels + 30
 
 abbrev pub decreases-inside::in_after_query : goal.decreases-inside::in_after_query
-decreases-inside::in_after_query l = 32 * l.levels + 29
+decreases-inside::in_after_query l = 40 * l.levels + 30
 
 abbrev pub decreases-inside::after_group : goal.decreases-inside::after_group
-decreases-inside::after_group l = 32 * l.levels + 30
+decreases-inside::after_group l = 40 * l.levels + 31
 
 abbrev pub decreases-inside::in_after_group : goal.decreases-inside::in_after_group
-decreases-inside::in_after_group l = 32 * l.levels + 30
+decreases-inside::in_after_group l = 40 * l.levels + 31
 
 abbrev pub decreases-inside::inner : goal.decreases-inside::inner
-decreases-inside::inner l = 32 * l.levels + 31
+decreases-inside::inner l = 40 * l.levels + 32
 
 abbrev pub decreases-inside::in_inner : goal.decreases-inside::in_inner
-decreases-inside::in_inner l = 32 * l.levels + 31
+decreases-inside::in_inner l = 40 * l.levels + 32
 
 abbrev pub decreases-query::intersects-more : goal.decreases-query::intersects-more
 decreases-query::intersects-more l = l.room

@@ -1,6 +1,6 @@
 use Rattle.std.proofs.Common.{sym, ◌∙◌, arith}
 use Rattle.sql_grammar.proofs.lists.KindRows.{row_found, row_passed, no_row}
-use Rattle.sql_grammar.proofs.kinds.find_kind.Goals as goal
+use Rattle.sql_grammar.proofs.words.find_kind.Goals as goal
 
 pub returns-then-is_same_word-clause-some : goal.returns-then-is_same_word-clause-some
 returns-then-is_same_word-clause-some c = λ other.

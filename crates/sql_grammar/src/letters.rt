@@ -1,9 +1,9 @@
 //! Tables by the first letters of words.
 ghost use Rattle.std.specs.Prelude.{◌≡◌, map};
 ghost use Rattle.sql_lex.specs.Bytes.{folded_byte};
-ghost use Rattle.sql_lex.specs.Letters.{entries_for};
+ghost use Rattle.sql_grammar.specs.Letters.{entries_for};
 
-use crate::bytes::folded;
+use sql_lex::bytes::folded;
 
 /// Entries for each letter, from `a` to `z`.
 pub type ByLetter<'t, E> = [&'t [E]; 26];

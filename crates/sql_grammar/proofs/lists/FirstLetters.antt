@@ -8,7 +8,7 @@ use Rattle.std.proofs.Math.ListN.{get_or-map}
 use Rattle.std.proofs.lemmas.Map.Views.{any-filter_same}
 use Rattle.std.proofs.lemmas.Slice.Eq.{bytes_eq-Decides}
 use Rattle.sql_lex.specs.Bytes.{is_within}
-use Rattle.sql_lex.specs.Letters.{IsByLetter, begins_with, begins_with_letter, entries_for}
+use Rattle.sql_grammar.specs.Letters.{IsByLetter, begins_with, begins_with_letter, entries_for}
 
 -- those whose words begin as this one
 abbrev pub begin_alike : {E : Type 0} → (E → List ℕ) → List E → List ℕ → List E
