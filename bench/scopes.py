@@ -71,6 +71,12 @@ def conjunction(conditions):
     return conjunction([f"({' AND '.join(chain)})" for chain in chains])
 
 
+def as_many(condition, bytes_before=0):
+    """An AND of this condition as often as fits, with so many bytes before it."""
+    count = (MOST_BYTES - bytes_before - 4_000) // len(f"{condition} AND ")
+    return conjunction([condition] * count)
+
+
 def case(schema, query):
     return f"{TABLE}{schema}{query};\n{ONE_MORE}"
 
@@ -101,11 +107,47 @@ def sought_outwards(uses=1_000):
     return case(wide_view("w"), f"SELECT a FROM r WHERE {inner}")
 
 
+def sought_often():
+    """The same with half a megabyte of uses."""
+    return sought_outwards(uses=100_000)
+
+
 def stars():
     """Stars over a wide view, as many as fit."""
     star = "EXISTS (SELECT * FROM w)"
-    count = (MOST_BYTES - 64_000) // len(f"{star} AND ")
-    return case(wide_view("w"), "SELECT a FROM r WHERE " + conjunction([star] * count))
+    return case(wide_view("w"), "SELECT a FROM r WHERE " + as_many(star, bytes_before=60_000))
+
+
+def narrow_stars(stars=64):
+    """Stars over entries of one column each, as many as a block may have."""
+    entries = ", ".join(f"t e{number}" for number in range(MOST_ENTRIES))
+    exists = f"EXISTS (SELECT {','.join('*' * stars)} FROM {entries})"
+    return case("CREATE TABLE t (a INT);\n", "SELECT a FROM r WHERE " + as_many(exists))
+
+
+def joined_sources():
+    """Derived tables of all columns of a wide view and of a table, so that each has a list of its own, in nested blocks."""
+    entries = ", ".join(f"(SELECT * FROM w, r) e{number}" for number in range(MOST_ENTRIES))
+    nested = f"EXISTS (SELECT e0.c0 FROM {entries} WHERE " * DEEPEST + "1 = 1" + ")" * DEEPEST
+    return case(wide_view("w", parts=7), f"SELECT a FROM r WHERE {nested}")
+
+
+def widened_views(views=245):
+    """As many views as there may be of all columns of a wide one and one more."""
+    widened = (f"CREATE VIEW v{number} AS SELECT *, 1 FROM w;\n" for number in range(views))
+    return case(wide_view("w", parts=7) + "".join(widened), "SELECT a FROM r")
+
+
+def long_named_sources(blocks=300, length=100_000):
+    """Derived tables that have a column with a long name."""
+    entries = ", ".join(f"(SELECT * FROM r, s) e{number}" for number in range(MOST_ENTRIES))
+    exists = conjunction([f"EXISTS (SELECT 1 FROM {entries})"] * blocks)
+    return f"CREATE TABLE r (a INT, {'n' * length} INT);\nCREATE TABLE s (b INT);\nSELECT a FROM r WHERE {exists};\n{ONE_MORE}"
+
+
+def long_named_keys(rules=20_000, length=100_000):
+    """A column with a long name that is UNIQUE so many times."""
+    return f"CREATE TABLE r (a INT, {'n' * length} INT{' UNIQUE' * rules});\nSELECT a FROM r;\n{ONE_MORE}"
 
 
 def nested_sources(chains=500):
@@ -155,6 +197,26 @@ def copied_names(listed=60, length=4_000):
     return f"CREATE TABLE r (a INT, {name} INT);\nSELECT a FROM r WHERE {value} IN ({ones});\n{ONE_MORE}"
 
 
+def operands():
+    """The longest chains of one column, as many as fit."""
+    return case("", "SELECT a FROM r WHERE " + as_many("+".join(["a"] * MOST_OPERANDS) + "=1"))
+
+
+def bounded_operands():
+    """The same between two bounds, so that each chain is copied."""
+    return case("", "SELECT a FROM r WHERE " + as_many("+".join(["a"] * MOST_OPERANDS) + " BETWEEN 1 AND 2"))
+
+
+def listed_columns(listed=MOST_LISTED):
+    """Lists of IN of one column, as long as there may be."""
+    return case("", "SELECT a FROM r WHERE " + as_many(f"a IN ({','.join(['a'] * listed)})"))
+
+
+def grown_lists():
+    """Such lists of one member more than half as many, where room has just been taken for all."""
+    return listed_columns(MOST_LISTED // 2 + 1)
+
+
 def operators(first, most=MOST_OPERANDS):
     """The longest chains of both kinds of operators around a value."""
     return first + "*1" * (most - 1) + "+1" * (most - 1)
@@ -198,6 +260,24 @@ def deepest_sources(levels):
 def deep_sources():
     """As many derived tables in one another as there may be."""
     return case("", deepest_sources(MOST_LEVELS))
+
+
+def deepest_conditions(levels, test):
+    """Queries under this test within queries, each in an AND under an OR and in the longest chains of set operators."""
+    query = "SELECT a FROM r"
+    for _ in range(levels):
+        query = sets(f"SELECT a FROM r WHERE a = 1 OR a = 2 AND {test} ({query})")
+    return query
+
+
+def deep_exists():
+    """As many EXISTS in one another as there may be."""
+    return case("", deepest_conditions(MOST_LEVELS, "EXISTS"))
+
+
+def deep_in():
+    """As many queries behind IN in one another as there may be."""
+    return case("", deepest_conditions(MOST_LEVELS, "a IN"))
 
 
 def deep_query():
@@ -251,8 +331,10 @@ def copied_subqueries(deep=14):
     return case("", f"SELECT a FROM r WHERE {value} BETWEEN 1 AND 2")
 
 
-CASES = [start, ordinary_queries, sought_outwards, stars, nested_sources, set_chains, derived_from_sets, named_views, named_view, copied_names, copied_operands, copied_subqueries]
-DEEP_CASES = [deep_values, deep_sources, deep_query, deep_view, deep_operand, deep_compared_value, deep_compared_sources, deep_bounded_value, deep_bounded_operators]
+WIDE_CASES = [sought_outwards, sought_often, stars, narrow_stars, joined_sources, widened_views, nested_sources, set_chains, derived_from_sets, named_views, named_view]
+LONG_CASES = [long_named_sources, long_named_keys, copied_names, operands, bounded_operands, listed_columns, grown_lists, copied_operands, copied_subqueries]
+CASES = [start, ordinary_queries] + WIDE_CASES + LONG_CASES
+DEEP_CASES = [deep_values, deep_sources, deep_exists, deep_in, deep_query, deep_view, deep_operand, deep_compared_value, deep_compared_sources, deep_bounded_value, deep_bounded_operators]
 
 
 def write_all(folder):

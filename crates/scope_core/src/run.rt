@@ -71,6 +71,7 @@ impl Runs {
     {
         match self.kept.try_borrow_mut() {
             Ok(mut kept) => keep_columns(&mut *kept, alloc, run),
+            // No borrow outlives a call.
             Err(_) => written_columns(alloc, run),
         }
     }

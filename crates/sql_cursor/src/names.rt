@@ -9,15 +9,18 @@ ghost use Rattle.sql_cursor.specs.Unquoting.{quoted_name, some_name, unquoted};
 use sql_grammar::words::{is_left_out, is_reserved};
 use sql_lex::bytes::folded;
 use sql_lex::{Token, TokenKind};
-use sql_model::{Name, NoMemory};
+use sql_model::{Name, NameBuilder, NoMemory};
 use std::alloc::Global;
 
 /// The name with these bytes in lower case.
 pub fn folded_name(alloc: Global, text: &[u8]) -> Result<Name, NoMemory>
     ensures { IfOk result (λ name. name ≡ map folded_byte text.now) }
 {
-    let folded: Vec<u8> = text.iter().map(|byte| folded(*byte)).collect(alloc)?;
-    Name::new(alloc, folded.as_slice())
+    let mut name = NameBuilder::with_capacity(alloc, text.len())?;
+    for byte in text {
+        name.push(folded(*byte))?;
+    }
+    name.into_name(alloc)
 }
 
 /// What stands before the mark that ends the bytes, with doubled marks made single; `None` where another mark is not doubled.

@@ -6,6 +6,7 @@ ghost use Rattle.sql_cursor.specs.Refusals.{IsLeftOut, refusal_at};
 
 use crate::fault::ReadFault;
 use crate::names::{folded_name, is_left_out_word};
+use naming::KnownNames;
 use sql_grammar::kinds::{Kind, kind_of};
 use sql_lex::{LexFault, Lexer, Token};
 use sql_model::{NoMemory, Symbols};
@@ -14,12 +15,13 @@ use std::marker::Model;
 
 mod counting;
 mod eating;
+mod naming;
 
 pub use counting::Mark;
 pub use eating::place;
 
 /// The tokens of a text that are still to come, the numbers of its symbols and literals, the weight of the values that were
-/// copied, and how many tokens were passed.
+/// copied, how many tokens were passed, and the names that were read.
 #[derive(Drop)]
 pub struct Tokens<'a> {
     lexer: Lexer<'a>,
@@ -31,6 +33,7 @@ pub struct Tokens<'a> {
     symbols: Symbols,
     copies: u32,
     passed: u32,
+    names: KnownNames,
 }
 
 impl<'a> Model for Tokens<'a> {
@@ -79,6 +82,7 @@ impl<'a> Tokens<'a> {
             symbols,
             copies: 0,
             passed: 0,
+            names: KnownNames::new(alloc),
         })
     }
 
@@ -143,7 +147,8 @@ impl<'a> Tokens<'a> {
         ensures numbers { numbers_of result ≡ self.entry.numbers }
         ensures within { self.entry.copies ≤ most_copies }
     {
-        self.symbols
+        let Tokens { symbols, .. } = self;
+        symbols
     }
 
     /// The refusal of what stands next.

@@ -6,14 +6,14 @@ ghost use Rattle.sql_grammar.specs.TokenValues.{after_point, before_point, insid
 
 use crate::names::folded_name;
 use sql_lex::{Token, TokenKind};
-use sql_model::{Lit, LitKind, Name, NoMemory};
+use sql_model::{Lit, LitKind, Name, NameBuilder, NoMemory};
 use std::alloc::Global;
 
 /// The bytes before the last one, with each doubled mark once.
-fn undoubled(alloc: Global, mark: u8, text: &[u8]) -> Result<Vec<u8>, NoMemory>
-    ensures { IfOk result (λ found. found.items ≡ undoubled mark text.now) }
+fn undoubled(alloc: Global, mark: u8, text: &[u8]) -> Result<NameBuilder, NoMemory>
+    ensures { IfOk result (λ found. found ≡ undoubled mark text.now) }
 {
-    let mut found = Vec::new(alloc);
+    let mut found = NameBuilder::with_capacity(alloc, text.len().saturating_sub(1))?;
     let mut rest = text;
     'bytes: while let [byte, after @ ..] = rest {
         match after {
@@ -35,7 +35,7 @@ fn inside(alloc: Global, text: &[u8]) -> Result<Name, NoMemory>
         [] => Name::new(alloc, text),
         [mark, rest @ ..] => {
             let found = undoubled(alloc, *mark, rest)?;
-            Name::new(alloc, found.as_slice())
+            found.into_name(alloc)
         }
     }
 }
@@ -113,7 +113,7 @@ fn normalised(alloc: Global, text: &[u8]) -> Result<Name, NoMemory>
 {
     let whole = without_leading_zeros(before_point(text));
     let fraction = without_trailing_zeros(after_point(text));
-    let mut digits = Vec::new(alloc);
+    let mut digits = NameBuilder::with_capacity(alloc, text.len())?;
     match whole {
         [] => digits.push(b'0')?,
         [_, ..] => digits.extend_from_slice(whole)?,
@@ -122,7 +122,7 @@ fn normalised(alloc: Global, text: &[u8]) -> Result<Name, NoMemory>
         digits.push(b'.')?;
         digits.extend_from_slice(fraction)?;
     }
-    Name::new(alloc, digits.as_slice())
+    digits.into_name(alloc)
 }
 
 /// The number that a token of digits stands for.

@@ -244,7 +244,7 @@ block_with froms =
     (seq (optional (skip_then (a k.Where) (ref expr))) (seq group_by (optional (skip_then (a k.Having) (ref expr)))))))))
 
 -- With these items of FROM in each block. What the further names spell is given: no production has need of it.
-abbrev pub rules_with : Rules Lexeme Kind Production Read → The Froms → Rules Lexeme Kind Production Read
+abbrev pub rules_with : ((tail : Tail) → The (ReadTail tail)) → The Froms → Rules Lexeme Kind Production Read
 rules_with tails froms query = map (λ p. t.sets p.0 p.1) (seq (ref part) unions)
 rules_with tails froms part = map (λ p. t.sets p.0 p.1) (seq (ref operand) intersects)
 rules_with tails froms operand = alt (ref block) (parens (ref query))
@@ -279,4 +279,4 @@ rules_with tails froms primary =
 rules_with tails froms agg =
     alt (map (λ p. t.count_rows p.0) (seq (a k.Count) (parens (a k.Star))))
     (map (λ p. t.aggregated p.0 p.1.0 p.1.1) (seq aggregate_word (parens (seq (optional (a k.Distinct)) (ref expr)))))
-rules_with tails froms other = tails other
+rules_with tails froms (further tail) = tails tail

@@ -2,18 +2,16 @@
 -- has no need of them.
 use Rattle.std.specs.Prelude.{List, Some}
 use Rattle.std.proofs.Common.{inl, inr}
-use Rattle.grammar.specs.Form.{Rules, empty, seq, alt, star, map, only, nonempty, counted, ref}
+use Rattle.grammar.specs.Form.{empty, seq, alt, star, map, only, nonempty, counted, ref}
 use Rattle.grammar.specs.Productions.{skip_then, optional}
 use Rattle.sql_model.specs.declared.tree.Expr.{Expr}
 use Rattle.sql_model.specs.declared.tree.Query.{Query}
-use Rattle.sql_lex.specs.Lexemes.{Lexeme}
 use Rattle.sql_grammar.specs.Kinds as k
-use Rattle.sql_grammar.specs.Kinds.{Kind}
 use Rattle.sql_grammar.specs.Numbering.{Built}
 use Rattle.sql_grammar.specs.QueryTrees.{not_sub}
 use Rattle.sql_grammar.specs.QueryTailTrees as t
-use Rattle.sql_grammar.specs.QueryTailTrees.{Inside}
-use Rattle.sql_grammar.specs.QueryGrammar.{Production, Read, The, a, most_separators, in_parentheses, parens, intersects, unions, products, sums, ands, ors, query, block, expr, rest, further}
+use Rattle.sql_grammar.specs.QueryTailTrees.{Inside, ReadTail, Tail}
+use Rattle.sql_grammar.specs.QueryGrammar.{Production, The, a, most_separators, in_parentheses, parens, intersects, unions, products, sums, ands, ors, query, block, expr, rest, further}
 
 -- INTERSECT, UNION and EXCEPT behind an operand
 pattern abbrev pub set_tail : Production
@@ -54,13 +52,11 @@ insides more =
     (alt (map (λ p. inr (inl p)) (seq (in_parentheses (ref query)) more))
     (map (λ p. inr (inr p)) (seq (only not_sub (ref expr)) more)))
 
--- the other names stand for themselves
-abbrev pub tail_rules : Rules Lexeme Kind Production Read
-tail_rules set_tail = map (λ p. t.combined p.0 p.1) (seq intersects unions)
-tail_rules and_tail = map (λ p. t.joined p.0 p.1) (seq ands ors)
-tail_rules expr_tail =
+abbrev pub tail_rules : (tail : Tail) → The (ReadTail tail)
+tail_rules t.set_tail = map (λ p. t.combined p.0 p.1) (seq intersects unions)
+tail_rules t.and_tail = map (λ p. t.joined p.0 p.1) (seq ands ors)
+tail_rules t.expr_tail =
     map (λ p. t.continued p.0 p.1.0 p.1.1.0 p.1.1.1)
     (seq (counted (seq products sums)) (seq (optional (ref rest)) (seq ands ors)))
-tail_rules inner = insides empty
-tail_rules in_inner = insides commas
-tail_rules other = ref other
+tail_rules t.inner = insides empty
+tail_rules t.in_inner = insides commas

@@ -12,7 +12,7 @@ pub mod statement;
 pub mod symbols;
 pub mod tree;
 
-pub use name::Name;
+pub use name::{Name, NameBuilder};
 pub use plain_data::{Boxed, List, Shared, SharedList};
 pub use schema::{Fkey, Relation, Schema, Table};
 pub use statement::{NameAt, Statement, TableRule};

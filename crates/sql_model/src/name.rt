@@ -1,4 +1,4 @@
-ghost use Rattle.std.specs.Prelude.{◌≡◌, ◌==◌, IfOk};
+ghost use Rattle.std.specs.Prelude.{◌≡◌, ◌==◌, [], ◌∷◌, ◌++◌, IfOk, OnOk};
 ghost use Rattle.std.specs.Cmp.Lexicographic.{pointwise};
 ghost use Rattle.std.proofs.Common.{rules};
 ghost use Rattle.std.specs.Hash as fed;
@@ -52,6 +52,55 @@ impl Name {
         ensures { result.now ≡ self.now }
     {
         self.text.as_slice()
+    }
+}
+
+/// The bytes of a name that is being made.
+#[derive(Drop)]
+pub struct NameBuilder {
+    text: SmallVec<u8, MOST_INLINE>,
+}
+
+impl Model for NameBuilder {
+    ghost use Rattle.std.specs.Prelude.{List, ℕ};
+
+    ghost Value = { List ℕ };
+
+    ghost view = { λ builder. builder.text.items };
+}
+
+impl NameBuilder {
+    /// No bytes yet, with room for so many.
+    pub fn with_capacity(alloc: Global, count: usize) -> Result<NameBuilder, NoMemory>
+        ensures { IfOk result (λ builder. builder ≡ []) }
+    {
+        let text = SmallVec::with_capacity(alloc, count)?;
+        Ok(NameBuilder { text })
+    }
+
+    /// Appends a byte.
+    pub fn push(&mut self, byte: u8) -> Result<(), NoMemory>
+        ensures { OnOk result (self.new ≡ self.old ++ byte ∷ []) }
+    {
+        self.text.push(byte)?;
+        Ok(())
+    }
+
+    /// Appends bytes.
+    pub fn extend_from_slice(&mut self, bytes: &[u8]) -> Result<(), NoMemory>
+        ensures { OnOk result (self.new ≡ self.old ++ bytes.now) }
+    {
+        self.text.extend_from_slice(bytes)?;
+        Ok(())
+    }
+
+    /// The name with these bytes. What more room was taken stays with it.
+    pub fn into_name(self, alloc: Global) -> Result<Name, NoMemory>
+        ensures { IfOk result (λ name. name ≡ self) }
+    {
+        let NameBuilder { text } = self;
+        let text = Rc::new(alloc, text)?;
+        Ok(Name { text })
     }
 }
 

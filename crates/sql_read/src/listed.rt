@@ -4,7 +4,7 @@ ghost use Rattle.sql_lex.specs.Lexemes.{lexeme_of};
 ghost use Rattle.sql_grammar.specs.QueryTrees.{entry_of, listed_query, listed_table};
 
 use plain_data::Boxed;
-use sql_cursor::{name_in, place};
+use sql_cursor::{Tokens, place};
 use sql_grammar::Listed;
 use sql_lex::Token;
 use sql_model::{Entry, Expr, Name, NoMemory, Query, Source};
@@ -24,23 +24,54 @@ pub fn entry_of(listed: Listed, joined: bool, on: Option<Expr>) -> Entry
 }
 
 /// A table under this name.
-pub fn listed_table(alloc: Global, table: &Token<'_>, alias: &Token<'_>) -> Result<Listed, NoMemory>
+pub fn listed_table(
+    alloc: Global,
+    tokens: &Tokens<'_>,
+    table: &Token<'_>,
+    alias: &Token<'_>,
+) -> Result<Listed, NoMemory>
     requires table { table.now.start < 2 ^ 32 }
     requires alias { alias.now.start < 2 ^ 32 }
     ensures { IfOk result (λ listed. listed ≡ listed_table (lexeme_of table.now) (lexeme_of alias.now)) }
 {
     Ok(Listed {
         source: Source::Named {
-            name: name_in(alloc, table)?,
+            name: tokens.name(alloc, table)?,
             at: place(table),
         },
-        alias: name_in(alloc, alias)?,
+        alias: tokens.name(alloc, alias)?,
         at: place(alias),
     })
 }
 
+/// A table without an alias, which stands under its own name.
+pub fn unaliased_table(
+    alloc: Global,
+    tokens: &Tokens<'_>,
+    table: &Token<'_>,
+) -> Result<Listed, NoMemory>
+    requires { table.now.start < 2 ^ 32 }
+    ensures { IfOk result (λ listed. listed ≡ listed_table (lexeme_of table.now) (lexeme_of table.now)) }
+{
+    let name = tokens.name(alloc, table)?;
+    let alias = name.copy()?;
+    Ok(Listed {
+        source: Source::Named {
+            name,
+            at: place(table),
+        },
+        alias,
+        at: place(table),
+    })
+}
+
 /// A query under this name.
-pub fn listed_query(alloc: Global, query: Query, alias: &Token<'_>) -> Result<Listed, NoMemory>
+pub fn listed_query(
+    alloc: Global,
+    tokens: &Tokens<'_>,
+    query: Query,
+    alias: &Token<'_>,
+) -> Result<Listed, NoMemory>
     requires { alias.now.start < 2 ^ 32 }
     ensures { IfOk result (λ listed. listed ≡ listed_query (lexeme_of alias.now) query) }
 {
@@ -48,7 +79,7 @@ pub fn listed_query(alloc: Global, query: Query, alias: &Token<'_>) -> Result<Li
         source: Source::Query {
             query: Boxed::new(alloc, query)?,
         },
-        alias: name_in(alloc, alias)?,
+        alias: tokens.name(alloc, alias)?,
         at: place(alias),
     })
 }

@@ -6,7 +6,7 @@ ghost use Rattle.sql_model.specs.declared.tree.Expr.TheVariants as an_expr;
 ghost use Rattle.sql_grammar.specs.QueryTrees.{bounds, column, compared, operator, place_of};
 
 use plain_data::{Boxed, Kept, List, Shared, SharedList};
-use sql_cursor::{name_in, place};
+use sql_cursor::{Tokens, place};
 use sql_grammar::Kind;
 use sql_lex::Token;
 use sql_model::{Expr, NoMemory, Query, SetOp};
@@ -237,28 +237,33 @@ pub fn in_query(
 }
 
 /// A column without a qualifier.
-pub fn bare_column(alloc: Global, word: &Token<'_>) -> Result<Expr, NoMemory>
+pub fn bare_column(alloc: Global, tokens: &Tokens<'_>, word: &Token<'_>) -> Result<Expr, NoMemory>
     requires { word.now.start < 2 ^ 32 }
     ensures { IfOk result (λ expr. expr ≡ column (None, lexeme_of word.now)) }
 {
     Ok(Expr::Col {
         qual: None,
         qual_at: 0,
-        name: name_in(alloc, word)?,
+        name: tokens.name(alloc, word)?,
         at: place(word),
     })
 }
 
 /// A column with a qualifier.
-pub fn qualified_column(alloc: Global, qual: &Token<'_>, word: &Token<'_>) -> Result<Expr, NoMemory>
+pub fn qualified_column(
+    alloc: Global,
+    tokens: &Tokens<'_>,
+    qual: &Token<'_>,
+    word: &Token<'_>,
+) -> Result<Expr, NoMemory>
     requires qual { qual.now.start < 2 ^ 32 }
     requires word { word.now.start < 2 ^ 32 }
     ensures { IfOk result (λ expr. expr ≡ column (Some (lexeme_of qual.now), lexeme_of word.now)) }
 {
     Ok(Expr::Col {
-        qual: Some(name_in(alloc, qual)?),
+        qual: Some(tokens.name(alloc, qual)?),
         qual_at: place(qual),
-        name: name_in(alloc, word)?,
+        name: tokens.name(alloc, word)?,
         at: place(word),
     })
 }

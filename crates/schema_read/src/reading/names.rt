@@ -7,7 +7,7 @@ ghost use Rattle.schema_read.specs.StatementReaders as reader;
 ghost use Rattle.schema_read.specs.StatementTrees as t;
 
 use plain_data::List;
-use sql_cursor::{ReadFault, Tokens, name_in, place};
+use sql_cursor::{ReadFault, Tokens, place};
 use sql_grammar::kinds::{Kind, NAME_KINDS};
 use sql_lex::Token;
 use sql_model::{NameAt, NoMemory};
@@ -28,12 +28,12 @@ const WORD_KINDS: [Kind; 9] = [
 ];
 
 /// The name that a token spells, with its place.
-fn named(alloc: Global, token: &Token<'_>) -> Result<NameAt, NoMemory>
+fn named(alloc: Global, tokens: &Tokens<'_>, token: &Token<'_>) -> Result<NameAt, NoMemory>
     requires { token.now.start < 2 ^ 32 }
     ensures { IfOk result (λ name. name ≡ t.named (lexeme_of token.now)) }
 {
     Ok(NameAt {
-        name: name_in(alloc, token)?,
+        name: tokens.name(alloc, token)?,
         at: place(token),
     })
 }
@@ -45,7 +45,7 @@ pub fn name(alloc: Global, tokens: &mut Tokens<'_>) -> Result<NameAt, ReadFault>
     ensures extends { Extends tokens.old tokens.new }
 {
     let token = tokens.expect_any(alloc, &NAME_KINDS)?;
-    Ok(named(alloc, &token)?)
+    Ok(named(alloc, tokens, &token)?)
 }
 
 /// `( name {, name} )`

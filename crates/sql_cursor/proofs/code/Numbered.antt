@@ -1,10 +1,10 @@
 -- The set of the members that have numbers is the list of the grammar.
-use Rattle.std.proofs.Common.{◌≡◌, ℕ, ◌==◌, Bool, true, false, List, [], ◌∷◌, ◌++◌, Result, Ok, Err, IfOk, refl, sym, ap, ◌∙◌, subst, arith, if◌then◌else◌, inl, inr, bytes_eq}
+use Rattle.std.proofs.Common.{◌≡◌, ℕ, ◌==◌, Bool, true, false, List, [], ◌∷◌, ◌++◌, Result, Ok, Err, IfOk, refl, sym, ap, ◌∙◌, subst, arith, if◌then◌else◌, inl, inr, bytes_eq, Some, slice_get, unwrap_or}
 use Rattle.std.proofs.lemmas.Bool.{cases_Bool}
 use Rattle.std.proofs.lemmas.List.{append-nil}
 use Rattle.std.specs.List.{list_any, position_or_len}
 use Rattle.std.specs.declared.alloc.AllocError.{AllocError}
-use Rattle.std.specs.Cmp.Lexicographic.{pointwise}
+use Rattle.std.specs.Cmp.Lexicographic.{bytes_decides, pointwise}
 use Rattle.sql_model.specs.declared.symbols.Lit.{Lit}
 use Rattle.sql_model.specs.declared.symbols.LitKind.{LitKind}
 use Rattle.sql_model.specs.declared.symbols.LitKind.TheVariants as literal
@@ -49,6 +49,16 @@ of_parts literal.Text literal.Text a b = refl
 
 same_literals : (a b : Lit) → eq-value.it a b ≡ is_same_literal a b
 same_literals a b = of_parts a.kind b.kind a.text b.text
+
+-- ---- names that share their bytes
+-- what a set of names has in the place of one that it was given is equal to that
+pub stored_name : (name known : Name) (keys : List Name) (place : ℕ) (result : Result Name AllocError)
+    → ((stored : Name) × (slice_get keys place ≡ Some stored) × (pointwise ◌==◌ name stored ≡ true)) → Some known ≡ slice_get keys place
+    → IfOk result (λ copy. copy ≡ known) → IfOk result (λ copy. copy ≡ name)
+stored_name name known keys place result (stored, here, same) found copied =
+    let one : name ≡ stored = (bytes_decides name stored).0 same in
+    let other : known ≡ stored = ap (λ o. unwrap_or o known) (found ∙ here) in
+    subst (λ n. IfOk result (λ copy. copy ≡ n)) (other ∙ sym one) copied
 
 -- ---- the cursor
 numbered : (b : Built ℕ) (before after : Cursor) (result : Result ℕ AllocError) (place : ℕ) → IfOk result (λ number. number ≡ place) → place ≡ (b.build before.numbers).0

@@ -1,5 +1,5 @@
 -- The readers of items and of the names behind them agree with the left-factored grammar.
-use Rattle.std.proofs.Common.{◌≡◌, ℕ, Bool, ◌||◌, ◌∷◌, codes, Option, Some, None, refl, arith, inl, inr, [], subst}
+use Rattle.std.proofs.Common.{◌≡◌, ℕ, Bool, ◌||◌, ◌∷◌, codes, Option, Some, None, refl, arith, inl, inr, []}
 use Rattle.grammar.specs.Form.{seq}
 use Rattle.grammar.specs.Productions.{optional}
 use Rattle.sql_lex.specs.Lexemes.{Lexeme}
@@ -29,7 +29,7 @@ use Rattle.sql_read.proofs.steps.ReadPassing.{◌then◌, alike_passes, built_fr
 use Rattle.sql_read.proofs.steps.ReadSteps as steps
 use Rattle.sql_read.proofs.steps.ReadSteps.{before, built_map, built_plain, none_taken, plain_here, some_left, starts, took_token}
 use Rattle.sql_read.proofs.steps.AgreeDeeper.{DeeperAgrees}
-use Rattle.sql_read.proofs.agree.AgreePrimaries.{by_named, made_call, words_agree}
+use Rattle.sql_read.proofs.agree.AgreePrimaries.{words_agree}
 
 abbrev names : Kind → Bool
 names = among name_kinds
@@ -109,7 +109,6 @@ module _ (levels : ℕ) where
 module _ (levels : ℕ) (deeper : Deeper) (d : DeeperAgrees levels deeper) where
   pub name_or_star_agrees : (c : Cursor) → Agrees factored.starred levels built_starred built_starred c c (name_or_star levels deeper c)
   unfolding name_or_star
-  name_or_star_agrees c = subst (Agrees factored.starred levels built_starred built_starred c c) (by_named levels deeper column_or_star (λ x. starred.First x) c)
-      (words_agree levels deeper d dot_star_or_name star_or_column (λ x. inr x) built_starred column_or_star (made_call levels deeper column_or_star (λ x. starred.First x)) c (column_or_star_agrees levels)
-      (λ args r word mid alike l t. makes (r mid) (λ x. starred.First x) l (λ v. omega (arith, alike.copies)) (λ v y end b. built_map (λ x. starred.First x) (built_from alike b)) t) (fill_absent _)
-      refl refl refl refl refl refl refl refl refl refl refl)
+  name_or_star_agrees c = words_agree levels deeper d dot_star_or_name star_or_column (λ x. inr x) built_starred column_or_star (λ x. starred.First x) c (column_or_star_agrees levels)
+      (λ args r word mid alike l t. makes r (λ x. starred.First x) l (λ v. omega (arith, alike.copies)) (λ v y end b. built_map (λ x. starred.First x) (built_from alike b)) t) (fill_absent _)
+      refl refl refl refl refl refl refl refl refl refl refl

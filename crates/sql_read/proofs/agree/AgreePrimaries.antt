@@ -1,6 +1,5 @@
 -- The readers of first parts of expressions, and of values, agree with the left-factored grammar.
-use Rattle.std.specs.Prelude.{if◌then◌else◌}
-use Rattle.std.proofs.Common.{◌≡◌, ◌⊎◌, ℕ, ◌+◌, Bool, true, false, ◌∷◌, codes, Option, None, Ok, Err, refl, ap, inl, inr, arith, [], Some, subst}
+use Rattle.std.proofs.Common.{◌≡◌, ◌⊎◌, ℕ, ◌+◌, true, ◌∷◌, codes, None, Ok, Err, refl, ap, inl, inr, arith, [], Some, subst}
 use Rattle.grammar.specs.Form.{alt, map, ref, seq}
 use Rattle.grammar.specs.Productions.{skip_then}
 use Rattle.grammar.proofs.readers.Predictions.{ok, ahead}
@@ -10,7 +9,7 @@ use Rattle.sql_model.specs.declared.tree.Expr.TheVariants as an_expr
 use Rattle.sql_cursor.specs.Cursor.{Cursor}
 use Rattle.sql_read.specs.Parts.{built_grouped, grouped_of}
 use Rattle.sql_read.specs.Reading.{Deeper, aggregate, arguments, call_behind, call_or_word, column, count_arguments, enclosed, enclosed_of, in_parentheses, named_first, negative, primary, unary, products, sums, term, value, with_named}
-use Rattle.sql_cursor.specs.Readers.{Reader, Reading, ◌>>=◌, done, eaten, expected, on, seen}
+use Rattle.sql_cursor.specs.Readers.{Reader, Reading, ◌>>=◌, done, expected}
 use Rattle.sql_grammar.specs.declared.kinds.Kind.TheVariants as k
 use Rattle.sql_grammar.specs.Kinds.{among, called_kinds, other_aggregates, same}
 use Rattle.sql_grammar.specs.Numbering.{Built, symbol_number}
@@ -33,7 +32,7 @@ use Rattle.sql_read.proofs.parts.ReadInsides.{built_enclosed, enclosed_cost}
 use Rattle.sql_read.proofs.steps.ReadLoops.{Begins, takes}
 use Rattle.sql_read.proofs.steps.ReadSteps as steps
 use Rattle.sql_read.proofs.steps.ReadSteps.{built_both, begins_with, built_map, plain_here, starts, took_token}
-use Rattle.sql_cursor.specs.Eating.{Passes, is_next}
+use Rattle.sql_cursor.specs.Eating.{Passes}
 use Rattle.sql_grammar.specs.QueryTrees.{count_rows, operated}
 use Rattle.sql_read.specs.Reads.{Takes, Builds}
 use Rattle.sql_read.proofs.steps.AgreeChains.{operators_agree}
@@ -46,49 +45,10 @@ star_taken : {d : ℕ} {m n : Cursor} {star : Lexeme} → Passes (same k.Star) m
     → Takes (alt (map (λ sign word. t.count_rows word) (a k.Star)) one_argument) d m.tokens (λ word. t.count_rows word) n.tokens
 star_taken {d = d} q = steps.takes (steps.mapped (steps.by_token steps.whole refl q (starts q))) (took_token d q)
 
-module _ (levels : ℕ) (deeper : Deeper) where
-  -- a name and what follows it, or a call
-  abbrev pub words : {A : Type 0} → (Lexeme → Reader A) → (Reader Expr → Reader A) → Reader A
-  words dotted call c =
-      eaten (same k.Quoted) c >>= on dotted
-      (λ c. eaten (among called_kinds) c >>= on (λ word. seen (same k.Open) (call (arguments levels deeper word)) (dotted word))
-      (λ c. eaten (same k.Count) c >>= on (λ word. seen (same k.Open) (call (count_arguments levels deeper word)) (dotted word))
-      (λ c. expected (among other_aggregates) c >>= λ word. seen (same k.Open) (call (aggregate levels deeper word)) (dotted word))))
-
-  -- what is read behind the name, or made of the call, is so read and made at once
-  module _ {A : Type 0} (dotted : Lexeme → Reader A) (called : Expr → A) where
-    abbrev pub made_call : Reader Expr → Reader A
-    made_call f c = f c >>= λ x. done (called x)
-
-    through : (r : Reading (Option Lexeme)) (f : Lexeme → Reader (Lexeme ⊎ Expr)) (g : Reader (Lexeme ⊎ Expr)) (f' : Lexeme → Reader A) (g' : Reader A) → ((word : Lexeme) (mid : Cursor) → f' word mid ≡ (f word mid >>= with_named dotted called))
-        → ((mid : Cursor) → g' mid ≡ (g mid >>= with_named dotted called)) → (r >>= on f' g') ≡ ((r >>= on f g) >>= with_named dotted called)
-    through (Ok (Some word), mid) f g f' g' e i = e word mid
-    through (Ok None, mid) f g f' g' e i = i mid
-    through (Err fault, mid) f g f' g' e i = refl
-
-    through_last : (r : Reading Lexeme) (f : Lexeme → Reader (Lexeme ⊎ Expr)) (f' : Lexeme → Reader A) → ((word : Lexeme) (mid : Cursor) → f' word mid ≡ (f word mid >>= with_named dotted called))
-        → (r >>= f') ≡ ((r >>= f) >>= with_named dotted called)
-    through_last (Ok word, mid) f f' e = e word mid
-    through_last (Err fault, mid) f f' e = refl
-
-    of_call : (r : Reading Expr) → (r >>= λ x. done (called x)) ≡ ((r >>= λ x. done (inr x)) >>= with_named dotted called)
-    of_call (Ok x, mid) = refl
-    of_call (Err fault, mid) = refl
-
-    of_word : (call : Lexeme → Reader Expr) (word : Lexeme) (mid : Cursor) → seen (same k.Open) (made_call (call word)) (dotted word) mid ≡ (call_behind call word mid >>= with_named dotted called)
-    of_word call word mid = go (is_next (same k.Open) mid.tokens)
-      where
-        go : (b : Bool) → (if b then made_call (call word) mid else dotted word mid) ≡ ((if b then (call word mid >>= λ x. done (inr x)) else done (inl word) mid) >>= with_named dotted called)
-        go true = of_call (call word mid)
-        go false = refl
-
-    pub by_named : (c : Cursor) → words dotted made_call c ≡ (call_or_word levels deeper c >>= with_named dotted called)
-    unfolding call_or_word
-    by_named c =
-        through (eaten (same k.Quoted) c) _ _ _ _ (λ word mid. refl)
-        (λ c. through (eaten (among called_kinds) c) _ _ _ _ (of_word (arguments levels deeper))
-        (λ c. through (eaten (same k.Count) c) _ _ _ _ (of_word (count_arguments levels deeper))
-        (λ c. through_last (expected (among other_aggregates) c) _ _ (of_word (aggregate levels deeper)))))
+-- one bind after another is one
+bind_bind : {A B C : Type 0} (r : Reading A) (f : A → Reader B) (g : B → Reader C) → (r >>= λ x mid. f x mid >>= g) ≡ ((r >>= f) >>= g)
+bind_bind (Ok x, mid) f g = refl
+bind_bind (Err fault, mid) f g = refl
 
 module _ (levels : ℕ) (deeper : Deeper) (d : DeeperAgrees levels deeper) where
   -- ---- calls
@@ -121,11 +81,18 @@ module _ (levels : ℕ) (deeper : Deeper) (d : DeeperAgrees levels deeper) where
 
   -- ---- what begins with a name
 
-  -- a name and what follows it, of which this is made, or a call
-  module _ {D X Y : Type 0} (dot : The D) (named : Lexeme → D → X) (called : Built Expr → X) (made : X → Built Y) (dotted : Lexeme → Reader Y) (call : Reader Expr → Reader Y) (c : Cursor)
+  -- what is read behind a word, or made of a call
+  module _ {D X Y : Type 0} (dot : The D) (named : Lexeme → D → X) (called : Built Expr → X) (made : X → Built Y) (dotted : Lexeme → Reader Y) (of_call : Expr → Y) (c : Cursor)
       (dotted_agrees : (word : Lexeme) (mid : Cursor) → Agrees dot levels (λ v. made (named word v)) (λ v. made (named word v)) mid mid (dotted word mid)) where
     abbrev Words : Reading Y → Type 0
     Words r = Agrees (factored.words dot named called) levels made made c c r
+
+    abbrev AsNamed : Reading (Lexeme ⊎ Expr) → Type 0
+    AsNamed r = Words (r >>= with_named dotted of_call)
+
+    call_named : (r : Reading Expr) → Words (r >>= λ x. done (of_call x)) → AsNamed (r >>= λ x. done (inr x))
+    call_named (Ok x, mid) w = w
+    call_named (Err fault, mid) w = w
 
     abbrev after_word : The (Lexeme → Built Expr) → The (Lexeme → X)
     after_word args = alt (map (λ d w. named w d) dot) (map (λ f w. called (f w)) args)
@@ -133,14 +100,14 @@ module _ (levels : ℕ) (deeper : Deeper) (d : DeeperAgrees levels deeper) where
     abbrev exchanged : The (Lexeme → Built Expr) → The (Lexeme → X)
     exchanged args = alt (map (λ f w. called (f w)) args) (map (λ d w. named w d) dot)
 
-    module _ (calls : (args : The (Lexeme → Built Expr)) (r : Reader Expr) (word : Lexeme) (mid : Cursor) → Alike c mid → Residual args levels mid (factored.words dot named called) levels c (λ f. called (f word))
-        → Agrees args levels (λ read. read word) (λ read. read word) mid mid (r mid) → Words (call r mid)) where
+    module _ (calls : (args : The (Lexeme → Built Expr)) (r : Reading Expr) (word : Lexeme) (mid : Cursor) → Alike c mid → Residual args levels mid (factored.words dot named called) levels c (λ f. called (f word))
+        → Agrees args levels (λ read. read word) (λ read. read word) mid mid r → Words (r >>= λ x. done (of_call x))) where
       word_agrees : (args : The (Lexeme → Built Expr)) (reader : Lexeme → Reader Expr)
           → ((word : Lexeme) (mid : Cursor) → Agrees args levels (λ read. read word) (λ read. read word) mid mid (reader word mid)) → ok left_factored args ≡ true
           → ok left_factored (exchanged args) ≡ true → begins_with (same k.Open) (ahead left_factored args) ≡ true → Begins (same k.Open) args → (word : Lexeme) (mid : Cursor) → Alike c mid
-          → Residual (after_word args) levels mid (factored.words dot named called) levels c (λ f. f word) → Words (seen (same k.Open) (call (reader word)) (dotted word) mid)
-      word_agrees args reader agrees o both w begins word mid alike l = by_next Words (same k.Open) mid
-          (λ n. calls args (reader word) word mid alike (mapped (other_next (same k.Open) l both begins n)) (agrees word mid))
+          → Residual (after_word args) levels mid (factored.words dot named called) levels c (λ f. f word) → AsNamed (call_behind reader word mid)
+      word_agrees args reader agrees o both w begins word mid alike l = by_next AsNamed (same k.Open) mid
+          (λ n. call_named (reader word mid) (calls args (reader word mid) word mid alike (mapped (other_next (same k.Open) l both begins n)) (agrees word mid)))
           (λ n. ends_alike (dotted word mid) (mapped (first_unless (same k.Open) l o w n)) alike (dotted_agrees word mid))
 
       pub words_agree : {none : D} → Filled dot none → (made (named (spelled (codes "sum")) none)).copies ≡ 0 → ok left_factored (factored.words dot named called) ≡ true → ok left_factored (seq (a k.Quoted) dot) ≡ true
@@ -149,26 +116,27 @@ module _ (levels : ℕ) (deeper : Deeper) (d : DeeperAgrees levels deeper) where
           → ok left_factored (alt (factored.word_with (a k.Count) factored.count_arguments dot named called) (factored.word_with factored.other_aggregate (parens one_argument) dot named called)) ≡ true
           → ok left_factored (seq grammar.called_word (after_word factored.arguments)) ≡ true → ok left_factored (seq (a k.Count) (after_word factored.count_arguments)) ≡ true
           → ok left_factored (seq factored.other_aggregate (after_word (parens one_argument))) ≡ true
-          → ok left_factored (exchanged factored.arguments) ≡ true → ok left_factored (exchanged factored.count_arguments) ≡ true → ok left_factored (exchanged (parens one_argument)) ≡ true → Words (words levels deeper dotted call c)
+          → ok left_factored (exchanged factored.arguments) ≡ true → ok left_factored (exchanged factored.count_arguments) ≡ true → ok left_factored (exchanged (parens one_argument)) ≡ true → AsNamed (call_or_word levels deeper c)
+      unfolding call_or_word
       words_agree filled free all_ok quoted_ok words_ok two_ok called_ok count_ok other_ok by_arguments by_count by_one =
-          by_eaten Words (same k.Quoted) c _
+          by_eaten AsNamed (same k.Quoted) c _
           (λ word mid i. ends_alike (dotted word mid) (behind (mapped (by_token (whole {start = c}) all_ok i (inl (starts i)))) quoted_ok i) (alike_passes i) (dotted_agrees word mid))
-          (λ n. let l = other_unless (same k.Quoted) (whole {start = c}) quoted_ok refl n in by_eaten Words (among called_kinds) c _
+          (λ n. let l = other_unless (same k.Quoted) (whole {start = c}) quoted_ok refl n in by_eaten AsNamed (among called_kinds) c _
           (λ word mid i. word_agrees factored.arguments (arguments levels deeper) arguments_agrees refl by_arguments refl (λ t j. inl (inr (t, refl, j))) word mid (alike_passes i)
           (behind (mapped (by_token l words_ok i (inl (starts i)))) called_ok i))
-          (λ n. let l = other_unless (among called_kinds) l called_ok refl n in by_eaten Words (same k.Count) c _
+          (λ n. let l = other_unless (among called_kinds) l called_ok refl n in by_eaten AsNamed (same k.Count) c _
           (λ word mid i. word_agrees factored.count_arguments (count_arguments levels deeper) count_arguments_agrees refl by_count refl (λ t j. inl (inr (t, refl, j))) word mid (alike_passes i)
           (behind (mapped (by_token l two_ok i (inl (starts i)))) count_ok i))
           (λ n. let l = mapped (other_unless (same k.Count) l count_ok refl n) in
-          needs l other_ok (fill_seq (fill_token_of other_aggregates (spelled (codes "sum")) refl refl) (fill_one _ (fill_map (λ d w. named w d) filled))) (omega (arith, free))
-          (λ word mid i. word_agrees (parens one_argument) (aggregate levels deeper) aggregate_agrees refl by_one refl (λ t j. inl (inr (t, refl, j))) word mid (alike_passes i) (behind l other_ok i)))))
+          subst Words (bind_bind (expected (among other_aggregates) c) (call_behind (aggregate levels deeper)) (with_named dotted of_call))
+          (needs l other_ok (fill_seq (fill_token_of other_aggregates (spelled (codes "sum")) refl refl) (fill_one _ (fill_map (λ d w. named w d) filled))) (omega (arith, free))
+          (λ word mid i. word_agrees (parens one_argument) (aggregate levels deeper) aggregate_agrees refl by_one refl (λ t j. inl (inr (t, refl, j))) word mid (alike_passes i) (behind l other_ok i))))))
 
   pub named_first_agrees : (c : Cursor) → Agrees factored.named_first levels (λ read. read) (λ read. read) c c (named_first levels deeper c)
   unfolding named_first
-  named_first_agrees c = subst (Agrees factored.named_first levels (λ read. read) (λ read. read) c c) (by_named levels deeper column (λ x. x) c)
-      (words_agree dot_name column_of (λ x. x) (λ read. read) column (made_call levels deeper column (λ x. x)) c (column_agrees levels)
-      (λ args r word mid alike l t. makes (r mid) (λ x. x) l (λ v. omega (arith, alike.copies)) (λ v y end b. built_from alike b) t) (fill_absent (skip_then (a k.Dot) grammar.name))
-      refl refl refl refl refl refl refl refl refl refl refl)
+  named_first_agrees c = words_agree dot_name column_of (λ x. x) (λ read. read) column (λ x. x) c (column_agrees levels)
+      (λ args r word mid alike l t. makes r (λ x. x) l (λ v. omega (arith, alike.copies)) (λ v y end b. built_from alike b) t) (fill_absent (skip_then (a k.Dot) grammar.name))
+      refl refl refl refl refl refl refl refl refl refl refl
 
   -- ---- what stands in parentheses
 

@@ -109,7 +109,7 @@ fn group_by(alloc: Global, tokens: &mut Tokens<'_>) -> Result<Option<List<Expr>>
     tokens.expect(alloc, Kind::By)?;
     let mut columns = List::new(alloc);
     let first = reference(alloc, tokens)?;
-    columns.push(first)?;
+    push(&mut columns, alloc, first)?;
     let mut room = MOST_SEPARATORS;
     'more: while let Some(_) = tokens.eat_within(&[Kind::Comma], room)? {
         room -= 1;

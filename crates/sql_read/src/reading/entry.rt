@@ -12,7 +12,7 @@ use super::deeper::deeper_query;
 use super::expr::expr;
 use super::item::{alias, optional_alias};
 use crate::growing::push;
-use crate::listed::{entry_of, listed_query, listed_table};
+use crate::listed::{entry_of, listed_query, listed_table, unaliased_table};
 use plain_data::{Kept, List};
 use sql_cursor::{LimitKind, ReadFault, Tokens};
 use sql_grammar::Listed;
@@ -127,7 +127,7 @@ fn entry(
     let inside = Kept::new(deeper_query(alloc, tokens, levels)?);
     tokens.expect(alloc, Kind::Close)?;
     let alias = alias(alloc, tokens)?;
-    Ok(listed_query(alloc, inside.into_inner(), &alias)?)
+    Ok(listed_query(alloc, tokens, inside.into_inner(), &alias)?)
 }
 
 /// A table, and its alias where one is written.
@@ -138,8 +138,8 @@ fn table_entry(alloc: Global, tokens: &mut Tokens<'_>) -> Result<Listed, ReadFau
 {
     let table = tokens.expect_any(alloc, &NAME_KINDS)?;
     match optional_alias(alloc, tokens)? {
-        Some(alias) => Ok(listed_table(alloc, &table, &alias)?),
-        None => Ok(listed_table(alloc, &table, &table)?),
+        Some(alias) => Ok(listed_table(alloc, tokens, &table, &alias)?),
+        None => Ok(unaliased_table(alloc, tokens, &table)?),
     }
 }
 

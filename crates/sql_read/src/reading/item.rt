@@ -10,7 +10,7 @@ use super::expr::{expr, expr_tail};
 use super::primary::{Named, call_or_word};
 use crate::trees::{bare_column, qualified_column};
 use plain_data::Kept;
-use sql_cursor::{ReadFault, Tokens, name_in, place};
+use sql_cursor::{ReadFault, Tokens, place};
 use sql_grammar::kinds::{Kind, NAME_KINDS};
 use sql_lex::Token;
 use sql_model::{Expr, Item, Name};
@@ -91,16 +91,16 @@ fn column_or_star(
     ensures extends { Extends tokens.old tokens.new }
 {
     let Some(_) = tokens.eat(Kind::Dot) else {
-        return Ok(Starred::First(bare_column(alloc, word)?));
+        return Ok(Starred::First(bare_column(alloc, tokens, word)?));
     };
     if let Some(_) = tokens.eat(Kind::Star) {
         return Ok(Starred::All(Item::AliasStar {
-            alias: name_in(alloc, word)?,
+            alias: tokens.name(alloc, word)?,
             at: place(word),
         }));
     }
     let name = tokens.expect_any(alloc, &NAME_KINDS)?;
-    Ok(Starred::First(qualified_column(alloc, word, &name)?))
+    Ok(Starred::First(qualified_column(alloc, tokens, word, &name)?))
 }
 
 /// The name of an item, where one is written.
@@ -110,7 +110,7 @@ fn item_name(alloc: Global, tokens: &mut Tokens<'_>) -> Result<Option<Name>, Rea
     ensures extends { Extends tokens.old tokens.new }
 {
     match optional_alias(alloc, tokens)? {
-        Some(alias) => Ok(Some(name_in(alloc, &alias)?)),
+        Some(alias) => Ok(Some(tokens.name(alloc, &alias)?)),
         None => Ok(None),
     }
 }

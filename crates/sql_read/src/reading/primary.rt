@@ -12,6 +12,7 @@ use super::MOST_SEPARATORS;
 use super::deeper::{deeper_argument, deeper_exprs};
 use super::expr::expr;
 use super::inside::enclosed;
+use crate::growing::push;
 use crate::trees::{bare_column, qualified_column};
 use plain_data::{Boxed, Kept, List};
 use sql_cursor::{ReadFault, Tokens, name_in, number_in, place, text_in};
@@ -158,10 +159,10 @@ fn column(alloc: Global, tokens: &mut Tokens<'_>, word: &Token<'_>) -> Result<Ex
     ensures extends { Extends tokens.old tokens.new }
 {
     let Some(_) = tokens.eat(Kind::Dot) else {
-        return Ok(bare_column(alloc, word)?);
+        return Ok(bare_column(alloc, tokens, word)?);
     };
     let name = tokens.expect_any(alloc, &NAME_KINDS)?;
-    Ok(qualified_column(alloc, word, &name)?)
+    Ok(qualified_column(alloc, tokens, word, &name)?)
 }
 
 /// The arguments of a called name.
@@ -199,11 +200,13 @@ pub fn exprs(alloc: Global, tokens: &mut Tokens<'_>, levels: u8) -> Result<List<
     if !tokens.sees_any(&EXPR_KINDS) {
         return Ok(exprs);
     }
-    exprs.push(expr(alloc, tokens, levels)?)?;
+    let first = expr(alloc, tokens, levels)?;
+    push(&mut exprs, alloc, first)?;
     let mut room = MOST_SEPARATORS;
     'more: while let Some(_) = tokens.eat_within(&[Kind::Comma], room)? {
         room -= 1;
-        exprs.push(expr(alloc, tokens, levels)?)?;
+        let next = expr(alloc, tokens, levels)?;
+        exprs.push(next)?;
     }
     Ok(exprs)
 }

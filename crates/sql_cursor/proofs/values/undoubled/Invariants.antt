@@ -3,7 +3,7 @@ use Rattle.sql_grammar.specs.TokenValues.{undoubled}
 use Rattle.sql_cursor.proofs.values.undoubled.Given as goal
 
 abbrev pub invariant-bytes : goal.invariant-bytes
-invariant-bytes l = l.found.items ++ undoubled l.mark l.rest ≡ undoubled l.mark l.text
+invariant-bytes l = l.found ++ undoubled l.mark l.rest ≡ undoubled l.mark l.text
 
 abbrev pub decreases-bytes : goal.decreases-bytes
 decreases-bytes l = length l.rest

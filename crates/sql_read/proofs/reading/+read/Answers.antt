@@ -206,20 +206,20 @@ unfolding reading.exprs
 primary::exprs-returns-in_err-eat_within-clause-does t c =
     let e = word_stops _ _ _ _ _ _ c.more.invariant.same c.in_err-eat_within.field-0.0 c.eat_within.new.self c.in_err-eat_within.ensures.gives in search rules
 
-pub primary::exprs-returns-in_err-expr-2-clause-does : goal.primary::exprs-returns-in_err-expr-2-clause-does
+pub primary::exprs-returns-in_err-next-clause-does : goal.primary::exprs-returns-in_err-next-clause-does
 unfolding reading.exprs
-primary::exprs-returns-in_err-expr-2-clause-does t c =
+primary::exprs-returns-in_err-next-clause-does t c =
     let q = rw c.in-Some.is at c.in_ok-eat_within.ensures.eats in
-    let s = stops_first c.in_err-expr-2.field-0.0 c.expr-in-Some.new.tokens _ _ c.in_err-expr-2.ensures.does in
-    let e = part_stops _ _ _ _ _ _ c.more.invariant.same _ _ (eaten_some q) q.room_left c.in_err-expr-2.field-0.0 c.expr-in-Some.new.tokens s in search rules
+    let s = stops_first c.in_err-next.field-0.0 c.expr-in-Some.new.tokens _ _ c.in_err-next.ensures.does in
+    let e = part_stops _ _ _ _ _ _ c.more.invariant.same _ _ (eaten_some q) q.room_left c.in_err-next.field-0.0 c.expr-in-Some.new.tokens s in search rules
 
 pub primary::exprs-more-preserved : goal.primary::exprs-more-preserved
 unfolding reading.exprs
 primary::exprs-more-preserved t c =
     let q = rw c.in-Some.is at c.in_ok-eat_within.ensures.eats in
     record {
-      same = rw c.in_ok-push-2.ensures.ok (part_read _ _ _ _ _ _ c.more.invariant.same _ _ (eaten_some q) q.room_left _ _ (rw c.in_ok-expr-2.ensures.does refl));
-      extends = c.more.invariant.extends ⨟ extends_within q ⨟ c.in_ok-expr-2.ensures.extends;
+      same = rw c.in_ok-push-2.ensures.ok (part_read _ _ _ _ _ _ c.more.invariant.same _ _ (eaten_some q) q.room_left _ _ (rw c.in_ok-next.ensures.does refl));
+      extends = c.more.invariant.extends ⨟ extends_within q ⨟ c.in_ok-next.ensures.extends;
     }
 
 pub primary::exprs-returns-clause-does : goal.primary::exprs-returns-clause-does
