@@ -1,5 +1,9 @@
 pub mod Booleans
 pub mod Lists
 pub mod Occurring
+pub mod Ropes
 pub mod Each
+pub mod RelationSets
+pub mod Catalogs
+pub mod Filters
 pub mod Written

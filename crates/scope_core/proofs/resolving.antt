@@ -1,5 +1,6 @@
 pub mod Columns
 pub mod Outputs
+pub mod Filters
 pub mod Walks
 pub mod Groups
 pub mod Values

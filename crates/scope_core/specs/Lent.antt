@@ -1,7 +1,7 @@
 -- What the code lends on its way through a query, as the definitions have it.
 use Rattle.std.specs.Prelude.{nat_lt, Bool, false, not, List, [], ◌∷◌, map, Option, Some, None}
 use Rattle.std.specs.List.{flat_map, list_any}
-use Rattle.scope_core.specs.declared.heading.Known.{Known as LentKnown}
+use Rattle.scope_core.specs.declared.catalog.Known.{Known as LentKnown}
 use Rattle.scope_core.specs.declared.heading.Stored.{Stored}
 use Rattle.scope_core.specs.declared.heading.Stored.TheVariants as stored
 use Rattle.scope_core.specs.declared.level.Sight.{Sight as LentSight}
@@ -17,6 +17,7 @@ use Rattle.sql_model.specs.Columns.{is_called}
 use Rattle.sql_model.specs.Headings.{Heading, columns_of, headings, items_columns}
 use Rattle.sql_model.specs.Grouping.{items_have_aggregate, some_has_aggregate}
 use Rattle.scope_core.specs.Syntax.{RSource}
+use Rattle.scope_core.specs.Catalogs.{Catalog}
 use Rattle.scope_core.specs.Scope.{Known, heading, Sight, AsRows, AsGroup, AsMember, Levels, Place, place_at}
 use Rattle.scope_core.specs.Faults.{count_called}
 use Rattle.scope_core.specs.declared.tree.RSource.TheVariants as s
@@ -29,11 +30,11 @@ abbrev pub relation_of : LentKnown → Known
 relation_of k = record { name = k.name.now; columns = k.columns; source = source_of k.stored }
 
 -- the relations that a query can name
-abbrev pub relations_of : List LentKnown → List Known
-relations_of known = map relation_of known
+abbrev pub relations_of : Catalog → List Known
+relations_of catalog = map relation_of catalog.relations
 
-abbrev pub headings_of : List LentKnown → List Heading
-headings_of known = map heading (relations_of known)
+abbrev pub headings_of : Catalog → List Heading
+headings_of catalog = map heading (relations_of catalog)
 
 abbrev pub sight_of : LentSight → Sight
 sight_of lent.Rows = AsRows

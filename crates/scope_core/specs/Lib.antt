@@ -14,7 +14,10 @@ pub mod Sites
 pub mod Faults
 pub mod Runs
 pub mod Names
-pub mod Held
+pub mod Ropes
+pub mod RelationSets
+pub mod NameFilters
+pub mod Catalogs
 pub mod WellFormed
 pub mod FirstFault
 pub mod Plain

@@ -14,8 +14,9 @@ ghost use Rattle.scope_core.specs.Resolving.{source_named};
 ghost use Rattle.scope_core.specs.Scope.{sight_here};
 ghost use Rattle.scope_core.specs.Sites.{ASource, AnAlias, Outputs, TwoWidths};
 
+use crate::catalog::Catalog;
 use crate::fault::{ScopeCode, ScopeFault, number, refused};
-use crate::heading::{Heading, Known, Stored};
+use crate::heading::{Heading, Stored};
 use crate::level::Levels;
 use crate::tree::RSource;
 use sql_model::{Block, Expr, Item, Name, Query};
@@ -25,17 +26,15 @@ pub const MOST_OUTPUTS: usize = 2048;
 
 /// The relation that an entry names.
 #[tactic(auto, using(crate::proofs::resolving::Columns::names))]
-pub fn resolve_name(name: &Name, at: u32, known: &[Known]) -> Result<RSource, ScopeFault>
+pub fn resolve_name(name: &Name, at: u32, known: &Catalog) -> Result<RSource, ScopeFault>
     ensures fine { IfOk result (λ source. fault_at (ASource name.now (relations_of known.now) at) ≡ None) }
     ensures value { IfOk result (λ source. source ≡ source_named name.now (relations_of known.now)) }
     ensures err { IfErr result (λ f. IsCause f (fault_at (ASource name.now (relations_of known.now) at))) }
 {
-    for relation in known {
-        if name == relation.name {
-            return Ok(source_of(relation.stored));
-        }
+    match known.relation(name) {
+        Some(relation) => Ok(source_of(relation.stored)),
+        None => Err(refused(ScopeCode::UnknownTable, at)),
     }
-    Err(refused(ScopeCode::UnknownTable, at))
 }
 
 fn source_of(stored: Stored) -> RSource

@@ -9,9 +9,9 @@ ghost use Rattle.scope_core.specs.Names.{occurrences};
 ghost use Rattle.scope_core.specs.Lent.{is_lacking_in, is_twice_in, levels_of};
 ghost use Rattle.scope_core.specs.Scope.{bare_place, headings_here, member_levels, place_in, sight_here};
 
+use crate::columns::Columns;
 use crate::fault::ScopeFault;
 use crate::heading::Heading;
-use crate::names::Columns;
 use crate::run::Runs;
 use sql_model::Name;
 
@@ -122,11 +122,9 @@ pub struct Found {
 
 /// Whether a column of these entries has this name.
 fn is_offered(name: &Name, headings: &[Heading]) -> bool
-    ensures { result ≡ list_any (λ h. is_some (occurrences name.now h.columns)) headings.now }
+    ensures { result ≡ list_any (λ h. list_any (is_called name.now) h.columns) headings.now }
 {
-    headings
-        .iter()
-        .any(|heading| heading.columns().find(name).is_some())
+    headings.iter().any(|heading| heading.has(name))
 }
 
 /// A bare name. Each entry is asked once for it, at most: those after the first that has it tell whether it stands twice.
@@ -137,7 +135,7 @@ fn find_bare(name: &Name, first: u32, headings: &[Heading]) -> Option<Found>
     ensures lacks { IfSome result (λ f. f.lacks ≡ false) }
 {
     for (index, heading) in headings.iter().enumerate() {
-        if let Some(seen) = heading.columns().find(name) {
+        if let Some(seen) = heading.find(name) {
             return Some(Found {
                 entry: first as usize + index,
                 column: seen.first,

@@ -7,6 +7,7 @@
 mod catalog;
 mod checks;
 mod column;
+mod columns;
 mod copying;
 pub mod fault;
 mod grouping;
@@ -14,8 +15,10 @@ mod heading;
 pub mod items;
 pub mod laws;
 mod level;
+mod name_filter;
 mod names;
 mod output;
+mod relation_set;
 mod resolution;
 mod resolved;
 mod run;

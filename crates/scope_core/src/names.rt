@@ -3,7 +3,7 @@ ghost use Rattle.std.specs.Prelude.{◌≡◌, ◌++◌, ◌∷◌, [], cond, is
 ghost use Rattle.sql_model.specs.Columns.{same_name};
 ghost use Rattle.sql_model.specs.Syntax.{Name as TheName};
 ghost use Rattle.scope_core.specs.Faults.{name_twice};
-ghost use Rattle.scope_core.specs.Names.{indexed, noted, occurrences};
+ghost use Rattle.scope_core.specs.Names.{indexed, names_of, noted, occurrences};
 
 use crate::NoMemory;
 use indexmap::IndexMap;
@@ -18,24 +18,6 @@ pub struct Occurrences {
     pub twice: bool,
 }
 
-impl Occurrences {
-    /// After one column more of the name, at this place.
-    fn noted(before: Option<Occurrences>, place: usize) -> Occurrences
-        ensures { result ≡ noted place before }
-    {
-        match before {
-            Some(seen) => Occurrences {
-                first: seen.first,
-                twice: true,
-            },
-            None => Occurrences {
-                first: place,
-                twice: false,
-            },
-        }
-    }
-}
-
 /// Notes that one column more, at this place, has the name. Answers whether one before it has.
 fn note<'a>(
     index: &mut IndexMap<&'a Name, Occurrences>,
@@ -47,20 +29,32 @@ fn note<'a>(
         ≡ cond (same_name name.entry.now other) (Some (noted place (indexed name.entry.now index.old.entries))) (indexed other index.old.entries)) }
     ensures err { OnErr result (index.new.entries ≡ index.old.entries) }
 {
-    let before = index.get(&name).copied();
-    index.insert(name, Occurrences::noted(before, place))?;
-    Ok(before.is_some())
+    let once = Occurrences {
+        first: place,
+        twice: false,
+    };
+    match index.insert(name, once)? {
+        Some(before) => {
+            let again = Occurrences {
+                first: before.first,
+                twice: true,
+            };
+            index.insert(name, again)?;
+            Ok(true)
+        }
+        None => Ok(false),
+    }
 }
 
-/// The columns of a relation or of an entry of FROM, by name where they have one.
+/// Columns that are written one by one, by name where they have one.
 #[derive(Drop)]
-pub struct Columns<'a> {
+pub struct Names<'a> {
     names: Vec<Option<&'a Name>>,
     index: IndexMap<&'a Name, Occurrences>,
     repeats: bool,
 }
 
-impl<'a> Model for Columns<'a> {
+impl<'a> Model for Names<'a> {
     ghost use Rattle.std.specs.Prelude.{◌≡◌, List};
     ghost use Rattle.sql_model.specs.Frames.{ColumnName};
     ghost use Rattle.scope_core.specs.Faults.{name_twice};
@@ -68,19 +62,19 @@ impl<'a> Model for Columns<'a> {
 
     ghost Value = { List ColumnName };
 
-    ghost view = { λ columns. names_of columns.names.items };
+    ghost view = { λ names. names_of names.names.items };
 
-    ghost invariant = { λ columns.
-        IsIndexOf columns.index.entries (names_of columns.names.items)
-        × (columns.repeats ≡ name_twice (names_of columns.names.items)) };
+    ghost invariant = { λ names.
+        IsIndexOf names.index.entries (names_of names.names.items)
+        × (names.repeats ≡ name_twice (names_of names.names.items)) };
 }
 
-impl<'a> Columns<'a> {
+impl<'a> Names<'a> {
     /// No columns, which take no memory.
-    pub fn new(alloc: Global) -> Columns<'a>
+    pub fn new(alloc: Global) -> Names<'a>
         ensures { result ≡ [] }
     {
-        Columns {
+        Names {
             names: Vec::new(alloc),
             index: IndexMap::new(alloc),
             repeats: false,
@@ -88,23 +82,14 @@ impl<'a> Columns<'a> {
     }
 
     /// The columns of a table.
-    pub fn of_table(alloc: Global, names: &'a [Name]) -> Result<Columns<'a>, NoMemory>
-        ensures { IfOk result (λ columns. columns ≡ map (λ name. Some name) names.now) }
+    pub fn of_table(alloc: Global, columns: &'a [Name]) -> Result<Names<'a>, NoMemory>
+        ensures { IfOk result (λ names. names ≡ map (λ name. Some name) columns.now) }
     {
-        let mut columns = Columns::new(alloc);
-        for name in names {
-            columns.push(Some(name))?;
+        let mut names = Names::new(alloc);
+        for name in columns {
+            names.push(Some(name))?;
         }
-        Ok(columns)
-    }
-
-    /// The same columns once more.
-    pub fn copy(&self, alloc: Global) -> Result<Columns<'a>, NoMemory>
-        ensures { IfOk result (λ columns. columns ≡ self.now) }
-    {
-        let mut columns = Columns::new(alloc);
-        columns.append(self)?;
-        Ok(columns)
+        Ok(names)
     }
 
     /// How many columns there are.
@@ -112,6 +97,13 @@ impl<'a> Columns<'a> {
         ensures { result ≡ length self.now }
     {
         self.names.len()
+    }
+
+    /// The names, one for each column.
+    pub fn names(&self) -> &[Option<&'a Name>]
+        ensures { names_of result.now ≡ self.now }
+    {
+        self.names.as_slice()
     }
 
     /// Where this name stands among them, found without a walk.
@@ -156,7 +148,7 @@ impl<'a> Columns<'a> {
     }
 
     /// Appends the columns of another.
-    pub fn append(&mut self, others: &Columns<'a>) -> Result<(), NoMemory>
+    pub fn append(&mut self, others: &Names<'a>) -> Result<(), NoMemory>
         ensures { OnOk result (self.new ≡ self.old ++ others.now) }
     {
         for name in others.names.iter() {

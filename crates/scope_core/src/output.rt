@@ -4,15 +4,17 @@ ghost use Rattle.std.specs.List.{flat_map};
 ghost use Rattle.std.specs.Option.{option_or};
 ghost use Rattle.sql_model.specs.Columns.{same_name};
 ghost use Rattle.sql_model.specs.Headings.{block_columns, columns_of, item_columns, output_columns, own_name, source_columns};
-ghost use Rattle.scope_core.specs.Held.{columns_held};
 ghost use Rattle.scope_core.specs.Lent.{entries_headings, headings_of, list_columns, relation_of, relations_of};
 
 use crate::NoMemory;
-use crate::heading::{Heading, Held, Known};
-use crate::names::Columns;
+use crate::catalog::Catalog;
+use crate::columns::Columns;
+use crate::heading::Heading;
+use crate::names::Names;
 use sql_model::{Block, Entry, Expr, Item, Name, Query, Source};
 use std::alloc::Global;
 use std::marker::Model;
+use std::mem;
 
 /// What the columns of a query's answer are made of: the items of the block that names them, over what stands behind the names of its FROM.
 /// They are made where they are wanted, once.
@@ -60,8 +62,8 @@ impl<'k, 'a> Projection<'k, 'a> {
     }
 
     /// The columns.
-    pub fn into_columns(self, alloc: Global) -> Result<Held<'k, 'a>, NoMemory>
-        ensures { IfOk result (λ c. columns_held c ≡ self.entry) }
+    pub fn into_columns(self, alloc: Global) -> Result<Columns<'a>, NoMemory>
+        ensures { IfOk result (λ c. c ≡ self.entry) }
     {
         let Projection {
             items,
@@ -78,9 +80,9 @@ impl<'k, 'a> Projection<'k, 'a> {
 pub fn output_columns<'k, 'a>(
     alloc: Global,
     query: &'a Query,
-    known: &'k [Known<'a>],
-) -> Result<Held<'k, 'a>, NoMemory>
-    ensures { IfOk result (λ c. columns_held c ≡ output_columns query.now (headings_of known.now)) }
+    known: &'k Catalog<'a>,
+) -> Result<Columns<'a>, NoMemory>
+    ensures { IfOk result (λ c. c ≡ output_columns query.now (headings_of known.now)) }
 {
     match query {
         Query::Block { block } => block_columns(alloc, block.get(), known),
@@ -94,9 +96,9 @@ pub fn output_columns<'k, 'a>(
 fn block_columns<'k, 'a>(
     alloc: Global,
     block: &'a Block,
-    known: &'k [Known<'a>],
-) -> Result<Held<'k, 'a>, NoMemory>
-    ensures { IfOk result (λ c. columns_held c ≡ block_columns block.now (headings_of known.now)) }
+    known: &'k Catalog<'a>,
+) -> Result<Columns<'a>, NoMemory>
+    ensures { IfOk result (λ c. c ≡ block_columns block.now (headings_of known.now)) }
 {
     let headings = entries_headings(alloc, block.entries.as_slice(), known)?;
     columns_of_items(alloc, block.items.as_slice(), headings)
@@ -108,7 +110,7 @@ fn block_columns<'k, 'a>(
 fn entries_headings<'k, 'a>(
     alloc: Global,
     entries: &'a [Entry],
-    known: &'k [Known<'a>],
+    known: &'k Catalog<'a>,
 ) -> Result<Vec<Heading<'k, 'a>>, NoMemory>
     ensures { IfOk result (λ hs. hs.items ≡ entries_headings entries.now (headings_of known.now)) }
 {
@@ -127,29 +129,23 @@ fn entries_headings<'k, 'a>(
 fn source_columns<'k, 'a>(
     alloc: Global,
     source: &'a Source,
-    known: &'k [Known<'a>],
-) -> Result<Held<'k, 'a>, NoMemory>
-    ensures { IfOk result (λ c. columns_held c ≡ source_columns source.now (headings_of known.now)) }
+    known: &'k Catalog<'a>,
+) -> Result<Columns<'a>, NoMemory>
+    ensures { IfOk result (λ c. c ≡ source_columns source.now (headings_of known.now)) }
 {
     match source {
-        Source::Named { name, .. } => Ok(named_columns(alloc, name, known)),
+        Source::Named { name, .. } => named_columns(name, known),
         Source::Query { query } => output_columns(alloc, query.get(), known),
     }
 }
 
 /// The columns of the relation of this name, or none.
-pub fn named_columns<'k, 'a>(alloc: Global, name: &Name, known: &'k [Known<'a>]) -> Held<'k, 'a>
-    ensures { columns_held result ≡ columns_of name.now (headings_of known.entry.now) }
+pub fn named_columns<'a>(name: &Name, known: &Catalog<'a>) -> Result<Columns<'a>, NoMemory>
+    ensures { IfOk result (λ c. c ≡ columns_of name.now (headings_of known.now)) }
 {
-    for relation in known {
-        if name == relation.name {
-            return Held::Lent {
-                columns: &relation.columns,
-            };
-        }
-    }
-    Held::Own {
-        columns: Columns::new(alloc),
+    match known.relation(name) {
+        Some(relation) => relation.columns.share(),
+        None => Ok(Columns::new()),
     }
 }
 
@@ -159,17 +155,15 @@ fn columns_of_items<'k, 'a>(
     alloc: Global,
     items: &'a [Item],
     mut headings: Vec<Heading<'k, 'a>>,
-) -> Result<Held<'k, 'a>, NoMemory>
-    ensures { IfOk result (λ c. columns_held c ≡ list_columns items.entry.now headings.entry.items) }
+) -> Result<Columns<'a>, NoMemory>
+    ensures { IfOk result (λ c. c ≡ list_columns items.entry.now headings.entry.items) }
 {
     if are_all_of_one(items, headings.as_slice()) {
         if let Some(heading) = headings.pop() {
             return Ok(heading.into_columns());
         }
     }
-    Ok(Held::Own {
-        columns: written_columns(alloc, items, headings.as_slice())?,
-    })
+    joined_columns(alloc, items, headings.as_slice())
 }
 
 /// Whether items are all columns of a block's only source.
@@ -196,62 +190,107 @@ fn is_all(item: &Item, source: &Heading) -> bool
     }
 }
 
-/// The columns of items over headings, one after the other.
-fn written_columns<'a>(
+/// The columns of items over headings, in parts: stars share those of their sources, and values that stand side by side are one part.
+fn joined_columns<'a>(
     alloc: Global,
     items: &'a [Item],
     headings: &[Heading<'_, 'a>],
 ) -> Result<Columns<'a>, NoMemory>
     ensures { IfOk result (λ c. c ≡ list_columns items.now headings.now) }
 {
-    let mut columns = Columns::new(alloc);
+    let all = all_columns(alloc, headings)?;
+    let mut columns = Columns::new();
+    let mut values = Names::new(alloc);
     for item in items {
-        add_item(&mut columns, item, headings)?;
+        columns = with_item(alloc, columns, &mut values, &all, item, headings)?;
+    }
+    with_values(alloc, columns, &mut values)
+}
+
+/// The columns of all entries.
+fn all_columns<'a>(alloc: Global, headings: &[Heading<'_, 'a>]) -> Result<Columns<'a>, NoMemory>
+    ensures { IfOk result (λ all. all ≡ flat_map (λ h. h.columns) headings.now) }
+{
+    let mut all = Columns::new();
+    for heading in headings {
+        all = all.joined(alloc, heading.columns())?;
+    }
+    Ok(all)
+}
+
+/// Columns with those of an item behind them and behind those of values, which are taken where a star stands. `all` are those of all entries.
+fn with_item<'a>(
+    alloc: Global,
+    columns: Columns<'a>,
+    values: &mut Names<'a>,
+    all: &Columns<'a>,
+    item: &'a Item,
+    headings: &[Heading<'_, 'a>],
+) -> Result<Columns<'a>, NoMemory>
+    requires { all.now ≡ flat_map (λ h. h.columns) headings.now }
+    ensures { IfOk result (λ whole. whole ++ values.new ≡ (columns.entry ++ values.old) ++ item_columns item.now headings.now) }
+{
+    match item {
+        Item::Star { .. } => {
+            let columns = with_values(alloc, columns, values)?;
+            columns.joined(alloc, all)
+        }
+        Item::AliasStar { alias, .. } => {
+            let columns = with_values(alloc, columns, values)?;
+            with_called(alloc, columns, alias, headings)
+        }
+        Item::Value { expr, name } => {
+            values.push(item_name(expr, name))?;
+            Ok(columns)
+        }
+    }
+}
+
+/// Columns with those of values behind them, which are taken.
+fn with_values<'a>(
+    alloc: Global,
+    columns: Columns<'a>,
+    values: &mut Names<'a>,
+) -> Result<Columns<'a>, NoMemory>
+    ensures whole { IfOk result (λ whole. whole ≡ columns.entry ++ values.old) }
+    ensures taken { IfOk result (λ whole. values.new ≡ []) }
+{
+    if values.len() == 0 {
+        return Ok(columns);
+    }
+    let values = mem::replace(values, Names::new(alloc));
+    columns.joined(alloc, &columns_of_values(alloc, values)?)
+}
+
+/// The columns of values that stand side by side.
+fn columns_of_values<'a>(alloc: Global, values: Names<'a>) -> Result<Columns<'a>, NoMemory>
+    ensures { IfOk result (λ columns. columns ≡ values.entry) }
+{
+    match values.names() {
+        [name] => Columns::of_one(alloc, *name),
+        _ => Columns::of_names(alloc, values),
+    }
+}
+
+/// Columns with those of the first entry of this alias behind them.
+fn with_called<'a>(
+    alloc: Global,
+    columns: Columns<'a>,
+    alias: &Name,
+    headings: &[Heading<'_, 'a>],
+) -> Result<Columns<'a>, NoMemory>
+    ensures { IfOk result (λ c. c ≡ columns.entry ++ columns_of alias.now headings.now) }
+{
+    for heading in headings {
+        if heading.is_alias(alias) {
+            return columns.joined(alloc, heading.columns());
+        }
     }
     Ok(columns)
 }
 
-/// Appends the columns of an item, over the headings of FROM.
-fn add_item<'a>(
-    columns: &mut Columns<'a>,
-    item: &'a Item,
-    headings: &[Heading<'_, 'a>],
-) -> Result<(), NoMemory>
-    ensures { OnOk result (columns.new ≡ columns.old ++ item_columns item.now headings.now) }
-{
-    match item {
-        Item::Star { .. } => add_all(columns, headings),
-        Item::AliasStar { alias, .. } => add_called(columns, alias, headings),
-        Item::Value { expr, name } => columns.push(item_name(expr, name)),
-    }
-}
-
-fn add_all<'a>(columns: &mut Columns<'a>, headings: &[Heading<'_, 'a>]) -> Result<(), NoMemory>
-    ensures { OnOk result (columns.new ≡ columns.old ++ flat_map (λ h. h.columns) headings.now) }
-{
-    for heading in headings {
-        columns.append(heading.columns())?;
-    }
-    Ok(())
-}
-
-fn add_called<'a>(
-    columns: &mut Columns<'a>,
-    alias: &Name,
-    headings: &[Heading<'_, 'a>],
-) -> Result<(), NoMemory>
-    ensures { OnOk result (columns.new ≡ columns.old ++ columns_of alias.now headings.now) }
-{
-    for heading in headings {
-        if heading.is_alias(alias) {
-            return columns.append(heading.columns());
-        }
-    }
-    Ok(())
-}
-
 /// The alias of an item, or else the name of the column that it is.
-fn item_name<'a>(expr: &'a Expr, name: &'a Option<Name>) -> Option<&'a Name>
+pub fn item_name<'a>(expr: &'a Expr, name: &'a Option<Name>) -> Option<&'a Name>
     ensures { option_map (λ n. n.now) result ≡ option_or name.now (own_name expr.now) }
 {
     match (name, expr) {

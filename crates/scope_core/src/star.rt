@@ -10,11 +10,11 @@ ghost use Rattle.scope_core.specs.Resolving.{alias_star, entry_columns, star};
 ghost use Rattle.scope_core.specs.Scope.{headings_here};
 ghost use Rattle.scope_core.specs.Sites.{AStar, AnAliasStar};
 
+use crate::columns::Columns;
 use crate::fault::{ScopeCode, ScopeFault, number, refused};
 use crate::heading::Heading;
 use crate::items::Items;
 use crate::level::Levels;
-use crate::names::Columns;
 use crate::run::{Run, Runs};
 use crate::tree::RVal;
 use sql_model::Name;

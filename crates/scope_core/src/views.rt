@@ -19,11 +19,11 @@ ghost use Rattle.scope_core.specs.Scope.{heading};
 ghost use Rattle.scope_core.specs.WellFormed.{SchemaWellFormed, SchemaWithinWidth, WellFormed, WithinWidth};
 ghost use Rattle.scope_core.specs.Width.{width};
 
-use crate::catalog::{known_relations, known_table, known_view};
-use crate::fault::{ScopeCode, ScopeFault, refused};
-use crate::heading::Known;
+use crate::catalog::{Catalog, known_relations};
+use crate::columns::Columns;
+use crate::fault::{ScopeCode, ScopeFault, number, refused};
 use crate::level::Levels;
-use crate::names::Columns;
+use crate::output::output_columns;
 use crate::resolution::resolve_query;
 use crate::resolved::{Resolved, Views};
 use crate::run::Runs;
@@ -40,7 +40,7 @@ pub fn resolve_views(alloc: Global, schema: &Schema) -> Result<Views, ScopeFault
     ensures symbols { IfOk result (λ views. (count : ℕ) → SchemaFits count schema.now → Each (TreeFits count) views) }
     ensures err { IfErr result (λ f. IsCause f (schema_fault schema.now)) }
 {
-    let mut known = Vec::with_capacity(alloc, schema.relations.len())?;
+    let mut known = Catalog::new(alloc);
     let mut trees = Vec::new(alloc);
     let runs = Runs::new(alloc);
     for (name, relation) in schema.relations.iter() {
@@ -69,7 +69,7 @@ pub fn resolve<'a>(
     ensures err { IfErr result (λ f. IsCause f (query_fault schema.now query.now)) }
 {
     let known = known_relations(alloc, schema)?;
-    resolve_over(alloc, query, known.as_slice(), &Runs::new(alloc))
+    resolve_over(alloc, query, &known, &Runs::new(alloc))
 }
 
 /// A query that stands by itself, over these relations.
@@ -77,7 +77,7 @@ pub fn resolve<'a>(
 fn resolve_over<'k, 'a>(
     alloc: Global,
     query: &'a Query,
-    known: &'k [Known<'a>],
+    known: &'k Catalog<'a>,
     runs: &Runs,
 ) -> Result<Resolved, ScopeFault>
     ensures fine { IfOk result (λ tree. fault_within (relations_of known.now) [] query.now ≡ None) }
@@ -92,42 +92,39 @@ fn resolve_over<'k, 'a>(
 /// Appends a relation to those that are known, and its tree where it is a view.
 #[tactic(auto, using(crate::proofs::schema::Schemas::steps))]
 fn add_relation<'a>(
-    known: &mut Vec<Known<'a>>,
+    known: &mut Catalog<'a>,
     trees: &mut Vec<Resolved>,
     alloc: Global,
     runs: &Runs,
     name: &'a Name,
     relation: &'a Relation,
 ) -> Result<(), ScopeFault>
-    ensures fine { OnOk result (relation_fault (relations_of known.old.items) relation.now ≡ None) }
-    ensures known { OnOk result (relations_of known.new.items ≡ known_with (relations_of known.old.items) (length trees.old.items) name.now relation.now) }
-    ensures trees { OnOk result (trees.new.items ≡ trees_with (relations_of known.old.items) trees.old.items relation.now) }
-    ensures err { IfErr result (λ f. IsCause f (relation_fault (relations_of known.old.items) relation.now)) }
+    ensures fine { OnOk result (relation_fault (relations_of known.old) relation.now ≡ None) }
+    ensures known { OnOk result (relations_of known.new ≡ known_with (relations_of known.old) (length trees.old.items) name.now relation.now) }
+    ensures trees { OnOk result (trees.new.items ≡ trees_with (relations_of known.old) trees.old.items relation.now) }
+    ensures err { IfErr result (λ f. IsCause f (relation_fault (relations_of known.old) relation.now)) }
 {
     match relation {
-        Relation::Table { table } => {
-            let table = known_table(alloc, name, table)?;
-            known.push(table)?;
-        }
+        Relation::Table { table } => known.add_table(alloc, name, table)?,
         Relation::View { query, at } => {
-            let place = trees.len();
-            let tree = resolve_over(alloc, query, known.as_slice(), runs)?;
+            let place = number(trees.len())?;
+            let tree = resolve_over(alloc, query, &*known, runs)?;
             trees.push(tree)?;
-            let view = known_view(alloc, name, query, known.as_slice(), place)?;
-            check_names(&view.columns, *at)?;
-            known.push(view)?;
+            let columns = output_columns(alloc, query, &*known)?;
+            check_names(alloc, &columns, *at)?;
+            known.add_view(alloc, name, query, columns, place)?;
         }
     }
     Ok(())
 }
 
 /// That no two columns of a view have one name.
-#[tactic(auto, using(crate::proofs::schema::Schemas::names))]
-fn check_names(columns: &Columns, at: u32) -> Result<(), ScopeFault>
+#[tactic(auto, using(crate::proofs::schema::Schemas::names, crate::proofs::resolving::Columns::causes))]
+fn check_names(alloc: Global, columns: &Columns, at: u32) -> Result<(), ScopeFault>
     ensures fine { OnOk result (name_twice_fault columns.now at ≡ None) }
     ensures err { IfErr result (λ f. IsCause f (name_twice_fault columns.now at)) }
 {
-    if columns.has_name_twice() {
+    if columns.has_name_twice(alloc)? {
         return Err(refused(ScopeCode::NameTwice, at));
     }
     Ok(())

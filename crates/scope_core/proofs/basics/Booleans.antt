@@ -1,5 +1,5 @@
 -- Truths that are made of others.
-use Rattle.std.proofs.Common.{◌≡◌, Bool, true, false, not, refl, arith}
+use Rattle.std.proofs.Common.{◌≡◌, Bool, true, false, not, refl, sym, arith, ◌∙◌}
 use Rattle.std.specs.Prelude.{◌&&◌, ◌||◌}
 
 pub no : true ≡ false → ⊥
@@ -9,6 +9,10 @@ pub not-false : (b : Bool) → not b ≡ false → b ≡ true
 not-false true e = refl
 not-false false e = grind (arith, e)
 
+pub contraposed : (a b : Bool) → (a ≡ true → b ≡ true) → b ≡ false → a ≡ false
+contraposed true b h e = absurd (no (sym (h refl) ∙ e))
+contraposed false b h e = refl
+
 pub or-left : (a b : Bool) → (a || b) ≡ false → a ≡ false
 or-left true b e = e
 or-left false b e = refl
@@ -16,6 +20,13 @@ or-left false b e = refl
 pub or-right : (a b : Bool) → (a || b) ≡ false → b ≡ false
 or-right true b e = grind (arith, e)
 or-right false b e = e
+
+pub or-of-left : (a b : Bool) → a ≡ true → (a || b) ≡ true
+or-of-left a b e = rw e refl
+
+pub or-of-right : (a b : Bool) → b ≡ true → (a || b) ≡ true
+or-of-right true b e = refl
+or-of-right false b e = e
 
 pub and-first : (a b : Bool) → (a && b) ≡ true → a ≡ true
 and-first true b e = refl

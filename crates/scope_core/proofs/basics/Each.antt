@@ -1,5 +1,5 @@
 -- What holds of each member of a list.
-use Rattle.std.proofs.Common.{Bool, true, false, not, List, [], ◌∷◌, ◌++◌, map, filter, cond}
+use Rattle.std.proofs.Common.{◌≡◌, ℕ, zero, suc, ◌<◌, Bool, true, false, not, List, [], ◌∷◌, ◌++◌, map, filter, cond, length, get_or, subst, sym, arith}
 use Rattle.std.specs.List.{flat_map}
 use Rattle.data_model.specs.Lists.{Each}
 use Rattle.data_model.specs.Rows.{Row, same_row, distinct, is_among}
@@ -25,6 +25,11 @@ Each-in P Q h (x ∷ xs) hs = (h x hs.0, Each-in P Q h xs hs.1)
 
 pub Each-end : {X : Type 0} (P : X → Type 0) (xs : List X) (x : X) → Each P xs → P x → Each P (xs ++ x ∷ [])
 Each-end P xs x hs h = Each-append P xs (x ∷ []) hs (h, tt)
+
+pub Each-at : {X : Type 0} (P : X → Type 0) (xs : List X) (i : ℕ) (x : X) → Each P xs → i < length xs → x ≡ get_or xs i x → P x
+Each-at P [] i x hs h is = absurd (omega (arith, h))
+Each-at P (y ∷ xs) zero x hs h is = subst P (sym is) hs.0
+Each-at P (y ∷ xs) (suc i) x hs h is = Each-at P xs i x hs.1 (omega (arith, h)) is
 
 pub Each-map : {X Y : Type 0} (P : X → Type 0) (Q : Y → Type 0) (f : X → Y) → ((x : X) → P x → Q (f x)) → (xs : List X) → Each P xs → Each Q (map f xs)
 Each-map P Q f h [] hs = tt

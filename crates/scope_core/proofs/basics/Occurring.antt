@@ -1,5 +1,5 @@
 -- Where a name stands among columns that grow at their end.
-use Rattle.std.proofs.Common.{◌≡◌, ℕ, zero, suc, ◌+◌, ◌≤◌, Bool, true, false, cond, not, ◌||◌, List, [], ◌∷◌, ◌++◌, length, filter, Option, Some, None, refl, ap, sym, subst, ◌∙◌, arith}
+use Rattle.std.proofs.Common.{◌≡◌, ℕ, zero, suc, ◌+◌, ◌<◌, ◌≤◌, Bool, true, false, cond, not, ◌||◌, List, [], ◌∷◌, ◌++◌, length, filter, Option, Some, None, refl, ap, sym, subst, ◌∙◌, arith}
 use Rattle.std.specs.Prelude.{nat_lt, is_some, position, option_map, unwrap_or}
 use Rattle.std.specs.List.{flat_map, list_any, position_or_len}
 use Rattle.std.specs.Option.{option_or}
@@ -18,7 +18,9 @@ use Rattle.sql_model.specs.Headings.{Heading}
 use Rattle.scope_core.specs.declared.names.Occurrences.{Occurrences}
 use Rattle.scope_core.specs.Faults.{count_called, is_repeated, name_twice}
 use Rattle.scope_core.specs.Names.{occurrences, indexed, noted, IsIndexOf}
+use Rattle.scope_core.specs.Ropes.{behind, with_later}
 use Rattle.scope_core.specs.Scope.{bare_place}
+use Rattle.scope_core.proofs.basics.Booleans.{no}
 use Rattle.scope_core.proofs.basics.Lists.{count_called-append}
 
 -- ---- first places
@@ -44,6 +46,33 @@ module _ {X : Type 0} (p : X → Bool) where
           ≡ cond b (Some 0) (option_map (λ i. suc i) (position p xs))
       by true = ap (λ b. cond b (Some 0) None) (first (length xs))
       by false = later (position_or_len p xs) (length xs)
+
+  pub position-append : (xs ys : List X) → position p (xs ++ ys) ≡ option_or (position p xs) (option_map (λ i. length xs + i) (position p ys))
+  position-append [] ys = by (position p ys)
+    where
+      by : (o : Option ℕ) → o ≡ option_map (λ i. 0 + i) o
+      by None = refl
+      by (Some i) = let e : i ≡ 0 + i = omega arith in ap (λ n. Some n) e
+  position-append (x ∷ xs) ys =
+      position-cons x (xs ++ ys)
+      ∙ (ap (λ o. cond (p x) (Some 0) (option_map (λ i. suc i) o)) (position-append xs ys)
+      ∙ (by (p x) (position p xs) (position p ys) ∙ sym (ap (λ o. option_or o (option_map (λ i. suc (length xs) + i) (position p ys))) (position-cons x xs))))
+    where
+      by : (b : Bool) (o o' : Option ℕ) → cond b (Some 0) (option_map (λ i. suc i) (option_or o (option_map (λ i. length xs + i) o')))
+          ≡ option_or (cond b (Some 0) (option_map (λ i. suc i) o)) (option_map (λ i. suc (length xs) + i) o')
+      by true o o' = refl
+      by false (Some i) o' = refl
+      by false None None = refl
+      by false None (Some i) = let e : suc (length xs + i) ≡ suc (length xs) + i = omega arith in ap (λ n. Some n) e
+
+  pub position-within : (xs : List X) (i : ℕ) → position p xs ≡ Some i → i < length xs
+  position-within [] i e = absurd (none-some i e)
+  position-within (x ∷ xs) i e = by (p x) (position p xs) (sym (position-cons x xs) ∙ e) (position-within xs)
+    where
+      by : (b : Bool) (o : Option ℕ) → cond b (Some 0) (option_map (λ i. suc i) o) ≡ Some i → ((j : ℕ) → o ≡ Some j → j < length xs) → i < suc (length xs)
+      by true o e w = let z : 0 ≡ i = ap (λ s. unwrap_or s 0) e in omega (arith, z)
+      by false None e w = absurd (none-some i e)
+      by false (Some j) e w = let n : suc j ≡ i = ap (λ s. unwrap_or s 0) e in omega (arith, n, w j refl)
 
   pub position-push : (xs : List X) (x : X) → position p (xs ++ x ∷ []) ≡ option_or (position p xs) (cond (p x) (Some (length xs)) None)
   position-push [] x = position-cons x []
@@ -119,6 +148,13 @@ occurrences-some name columns = by (position (is_called name) columns) (some-any
     by None e = e
     by (Some i) e = e
 
+pub occurrences-none : (name : Name) (columns : List ColumnName) → list_any (is_called name) columns ≡ false → occurrences name columns ≡ None
+occurrences-none name columns e = by (occurrences name columns) (occurrences-some name columns ∙ e)
+  where
+    by : (o : Option Occurrences) → is_some o ≡ false → o ≡ None
+    by None e = refl
+    by (Some seen) e = absurd (no e)
+
 -- ---- names that stand twice
 pub name_twice-push : (columns : List ColumnName) (c : ColumnName) → name_twice (columns ++ c ∷ []) ≡ (name_twice columns || is_repeated c columns)
 name_twice-push [] None = refl
@@ -170,6 +206,37 @@ module _ (entries : List (Bor Name × Occurrences)) (columns : List ColumnName) 
       → (repeats || seen) ≡ name_twice (columns ++ Some name ∷ [])
   index-repeats name repeats seen r s =
       (λ i. r i || (s ∙ (ap (λ o. is_some o) (is name) ∙ occurrences-some name columns)) i) ∙ sym (name_twice-push columns (Some name))
+
+-- ---- a name that is noted in an index
+module _ (name : Name) (before after : List (Bor Name × Occurrences)) where
+  -- one that no column had
+  pub noted-once : (first place : ℕ) → first ≡ place → indexed name before ≡ None
+      → ((other : Name) → indexed other after ≡ cond (same_name name other) (Some (noted first None)) (indexed other before))
+      → (other : Name) → indexed other after ≡ cond (same_name name other) (Some (noted place (indexed name before))) (indexed other before)
+  noted-once first place same none step = λ other.
+      step other
+      ∙ (ap (λ n. cond (same_name name other) (Some (noted n None)) (indexed other before)) same
+      ∙ ap (λ o. cond (same_name name other) (Some (noted place o)) (indexed other before)) (sym none))
+
+  -- one that a column had: it was put there as if no column had it, and then with what stood there before
+  pub noted-again : (between : List (Bor Name × Occurrences)) (once seen : Occurrences) (place : ℕ) → indexed name before ≡ Some seen
+      → ((other : Name) → indexed other between ≡ cond (same_name name other) (Some once) (indexed other before))
+      → ((other : Name) → indexed other after ≡ cond (same_name name other) (Some (noted place (Some seen))) (indexed other between))
+      → (other : Name) → indexed other after ≡ cond (same_name name other) (Some (noted place (indexed name before))) (indexed other before)
+  noted-again between once seen place known first second = λ other.
+      by (same_name name other) (indexed other before) (indexed other between) (indexed other after) (first other) (second other)
+      ∙ ap (λ o. cond (same_name name other) (Some (noted place o)) (indexed other before)) (sym known)
+    where
+      by : (b : Bool) (x y z : Option Occurrences) → y ≡ cond b (Some once) x → z ≡ cond b (Some (noted place (Some seen))) y
+          → z ≡ cond b (Some (noted place (Some seen))) x
+      by true x y z f s = s
+      by false x y z f s = s ∙ f
+
+  -- what was put there is there
+  pub not-absent : (once : Occurrences) → indexed name after ≡ cond (same_name name name) (Some once) (indexed name before)
+      → indexed name after ≡ None → ⊥
+  not-absent once step none =
+      none-some once (sym none ∙ (step ∙ ap (λ b. cond b (Some once) (indexed name before)) ((bytes_decides name name).1 refl)))
 
 pub unnamed-repeats : (columns : List ColumnName) → name_twice (columns ++ None ∷ []) ≡ name_twice columns
 unnamed-repeats columns = name_twice-push columns None ∙ by (name_twice columns)
@@ -232,6 +299,55 @@ module _ (name : Name) (columns : List ColumnName) where
 
 pub ruleset entry = (entry-first, entry-twice, entry-nowhere, entry-has, entry-lacks, entry-once)
 
+-- ---- a name among columns, and among others behind them
+module _ (name : Name) (columns rest : List ColumnName) where
+  pub counts-behind : (seen : Occurrences) → occurrences name columns ≡ Some seen
+      → nat_lt 1 (count_called name (columns ++ rest)) ≡ (seen.twice || list_any (is_called name) rest)
+  counts-behind seen e =
+      ap (λ n. nat_lt 1 n) (count_called-append name columns rest)
+      ∙ (by (count_called name columns) (count_called name rest) (entry-count name columns seen e)
+      ∙ (λ i. sym (entry-twice name columns seen e) i || sym (any-count name rest) i))
+    where
+      by : (m n : ℕ) → 1 ≤ m → nat_lt 1 (m + n) ≡ (nat_lt 1 m || nat_lt 0 n)
+      by m zero e = let z : m + 0 ≡ m = omega arith in rw z (right (nat_lt 1 m))
+        where
+          right : (b : Bool) → b ≡ (b || false)
+          right true = refl
+          right false = refl
+      by m (suc n) e = let more : nat_lt 1 (m + suc n) ≡ true = grind (arith, nat_tests, e) in more ∙ sym (right (nat_lt 1 m))
+        where
+          right : (b : Bool) → (b || nat_lt 0 (suc n)) ≡ true
+          right true = refl
+          right false = grind (arith, nat_tests)
+
+  pub occurrences-before : (seen : Occurrences) → occurrences name columns ≡ Some seen
+      → occurrences name (columns ++ rest) ≡ Some (with_later seen (list_any (is_called name) rest))
+  occurrences-before seen e =
+      ap (λ o. found name (columns ++ rest) o (count_called name (columns ++ rest))) (position-append (is_called name) columns rest)
+      ∙ (ap (λ o. found name (columns ++ rest) (option_or o (option_map (λ i. length columns + i) (position (is_called name) rest))) (count_called name (columns ++ rest)))
+      (entry-first name columns seen e)
+      ∙ ap (λ t. Some (record { first = seen.first; twice = t })) (counts-behind seen e))
+
+  pub occurrences-behind : occurrences name columns ≡ None → occurrences name (columns ++ rest) ≡ behind (length columns) (occurrences name rest)
+  occurrences-behind e =
+      ap (λ o. found name (columns ++ rest) o (count_called name (columns ++ rest))) (position-append (is_called name) columns rest)
+      ∙ (ap (λ o. found name (columns ++ rest) (option_or o (option_map (λ i. length columns + i) (position (is_called name) rest))) (count_called name (columns ++ rest)))
+      (entry-nowhere name columns e)
+      ∙ (ap (λ n. found name rest (option_map (λ i. length columns + i) (position (is_called name) rest)) n) counts
+      ∙ by (position (is_called name) rest)))
+    where
+      counts : count_called name (columns ++ rest) ≡ count_called name rest
+      counts = count_called-append name columns rest ∙ (let none : count_called name columns ≡ 0 = entry-none name columns e in rw none (omega arith))
+
+      by : (o : Option ℕ) → found name rest (option_map (λ i. length columns + i) o) (count_called name rest)
+          ≡ behind (length columns) (found name rest o (count_called name rest))
+      by None = refl
+      by (Some i) = refl
+
+  -- what a name that stands there needs of numbers
+  pub first-within : (seen : Occurrences) → occurrences name columns ≡ Some seen → seen.first < length columns
+  first-within seen e = position-within (is_called name) columns seen.first (entry-first name columns seen e)
+
 -- ---- a name in several entries
 abbrev all_columns : List Heading → List ColumnName
 all_columns headings = flat_map (λ h. h.columns) headings
@@ -252,27 +368,13 @@ module _ (name : Name) (h : Heading) (rest : List Heading) where
   pub counts-here : (seen : Occurrences) → occurrences name h.columns ≡ Some seen
       → nat_lt 1 (count_called name (all_columns (h ∷ rest))) ≡ (seen.twice || list_any (is_called name) (all_columns rest))
   counts-here seen e =
-      ap (λ n. nat_lt 1 n) counts-split
-      ∙ (by (count_called name h.columns) (count_called name (all_columns rest)) (entry-count name h.columns seen e)
-      ∙ (λ i. sym (entry-twice name h.columns seen e) i || sym (any-count name (all_columns rest)) i))
-    where
-      by : (m n : ℕ) → 1 ≤ m → nat_lt 1 (m + n) ≡ (nat_lt 1 m || nat_lt 0 n)
-      by m zero e = let z : m + 0 ≡ m = omega arith in rw z (right (nat_lt 1 m))
-        where
-          right : (b : Bool) → b ≡ (b || false)
-          right true = refl
-          right false = refl
-      by m (suc n) e = let more : nat_lt 1 (m + suc n) ≡ true = grind (arith, nat_tests, e) in more ∙ sym (right (nat_lt 1 m))
-        where
-          right : (b : Bool) → (b || nat_lt 0 (suc n)) ≡ true
-          right true = refl
-          right false = grind (arith, nat_tests)
+      ap (λ cs. nat_lt 1 (count_called name cs)) (flat_map-cons (λ h. h.columns) h rest) ∙ counts-behind name h.columns (all_columns rest) seen e
 
 -- whether some entry has it
 pub offered-by : (name : Name) (headings : List Heading)
-    → list_any (λ h. is_some (occurrences name h.columns)) headings ≡ list_any (is_called name) (all_columns headings)
+    → list_any (λ h. list_any (is_called name) h.columns) headings ≡ list_any (is_called name) (all_columns headings)
 offered-by name [] = refl
 offered-by name (h ∷ rest) =
-    (λ i. occurrences-some name h.columns i || offered-by name rest i)
+    (λ i. list_any (is_called name) h.columns || offered-by name rest i)
     ∙ (sym (list_any-append (is_called name) h.columns (all_columns rest))
     ∙ ap (λ cs. list_any (is_called name) cs) (sym (flat_map-cons (λ h. h.columns) h rest)))

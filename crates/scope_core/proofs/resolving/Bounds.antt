@@ -6,8 +6,8 @@ use Rattle.sql_model.specs.declared.tree.Expr.TheVariants as expr
 use Rattle.scope_core.specs.declared.fault.ScopeFault.{ScopeFault}
 use Rattle.scope_core.specs.declared.tree.RCond.TheVariants as c
 use Rattle.scope_core.specs.Answer.{IsCause}
-use Rattle.scope_core.specs.Parts.{AreBounds, AreBoundsOfOne, conjuncts_listed, truth_fault, truths_fault, value_fault, values_fault, values_listed}
-use Rattle.scope_core.specs.Resolving.{conjuncts, resolved_value}
+use Rattle.scope_core.specs.Parts.{AreBounds, AreBoundsOfOne, conjuncts_listed, truths_fault, value_fault, values_fault, values_listed}
+use Rattle.scope_core.specs.Resolving.{resolved_value}
 use Rattle.scope_core.specs.Scope.{Known, Levels}
 use Rattle.scope_core.specs.Syntax.{RVal}
 use Rattle.scope_core.proofs.resolving.Conditions.{conjuncts-Pred, conjuncts-cons, conjuncts-nil, truth-Pred, truths-cons, truths-nil}

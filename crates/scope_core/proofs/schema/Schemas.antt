@@ -1,28 +1,27 @@
 -- The relations of a schema as code knows them, and the two calls.
-use Rattle.std.proofs.Common.{◌≡◌, ℕ, ◌+◌, ◌≤◌, true, false, List, [], ◌∷◌, map, length, Option, Some, None, Result, Ok, Err, refl, ap, sym, subst, ◌∙◌, arith}
+use Rattle.std.proofs.Common.{◌≡◌, ℕ, true, false, List, [], ◌∷◌, map, length, Option, Some, None, Result, Ok, Err, refl, ap, sym, subst, ◌∙◌}
 use Rattle.std.specs.Prelude.{IfErr, IfOk}
 use Rattle.sql_model.specs.declared.schema.Schema.{Schema}
 use Rattle.sql_model.specs.declared.schema.Relation.TheVariants as relation
-use Rattle.sql_model.specs.Syntax.{Name, Query}
+use Rattle.sql_model.specs.Syntax.{Query}
 use Rattle.sql_model.specs.Frames.{ColumnName}
 use Rattle.sql_model.specs.Headings.{output_columns}
-use Rattle.sql_model.specs.Relations.{Relation}
 use Rattle.scope_core.specs.declared.fault.ScopeFault.{ScopeFault}
 use Rattle.scope_core.specs.declared.fault.ScopeFault.TheVariants as fault
 use Rattle.scope_core.specs.declared.fault.ScopeCode.TheVariants as code
-use Rattle.scope_core.specs.declared.heading.Known.{Known as LentKnown}
+use Rattle.scope_core.specs.declared.catalog.Known.{Known as LentKnown}
 use Rattle.scope_core.specs.declared.heading.Stored.{Stored}
 use Rattle.scope_core.specs.declared.heading.Stored.TheVariants as stored
-use Rattle.scope_core.specs.declared.tree.RSource.TheVariants as s
 use Rattle.scope_core.specs.Answer.{IsCause}
+use Rattle.scope_core.specs.Catalogs.{Catalog}
 use Rattle.scope_core.specs.Faults.{name_twice}
 use Rattle.scope_core.specs.FirstFault.{first_fault, query_fault, relation_fault}
 use Rattle.scope_core.specs.Fitting.{IsSoundOver}
-use Rattle.scope_core.specs.Lent.{relations_of, source_of}
+use Rattle.scope_core.specs.Lent.{relation_of, relations_of, source_of}
 use Rattle.scope_core.specs.Literals.{QueryFits, TreeFits}
 use Rattle.scope_core.specs.Parts.{fault_within, name_twice_fault}
 use Rattle.scope_core.specs.Plain.{is_plain, is_plain_tree}
-use Rattle.scope_core.specs.Relations.{count_views, known_of, known_relation}
+use Rattle.scope_core.specs.Relations.{known_of}
 use Rattle.scope_core.specs.ViewTrees.{views_of, Resolves, tree_of}
 use Rattle.scope_core.specs.Resolving.{resolved}
 use Rattle.scope_core.specs.Scope.{Known, heading}
@@ -40,34 +39,23 @@ use Rattle.scope_core.proofs.schema.SoundTrees.{tree-sound, tree-width}
 use Rattle.scope_core.proofs.trees.SymbolLaws.{tree-fits}
 use Rattle.scope_core.proofs.resolving.Walks.{cause-first, cause-same, cause-second, no-fault-both}
 
--- ---- relations
-pub view-known : (known : List Known) (views : ℕ) (name : Name) (query : Query) (at : ℕ) (k : Known) → k.name ≡ name
-    → k.columns ≡ output_columns query (map heading known) → k.source ≡ s.View views → k ≡ known_relation known views name (relation.View query at)
-view-known known views name query at k n c w = λ i. record { name = n i; columns = c i; source = w i }
-
-pub one-view-at-most : (r : Relation) → count_views r ≤ 1
-one-view-at-most (relation.Table table) = omega arith
-one-view-at-most (relation.View query at) = omega arith
-
-pub ruleset relations = (view-known)
-
 -- ---- a query that stands by itself
 stored-sound : (stored : Stored) (wide : ℕ) (shape : SeenBlocks) → IsSoundSource (λ number wide. Unit {0}) (λ place wide. Unit {0}) shape (source_of stored) wide
 unfolding IsSound
 stored-sound (stored.Table number) wide shape = tt
 stored-sound (stored.View place) wide shape = tt
 
-lent-sound : (known : List LentKnown) → OkSources (λ number wide. Unit {0}) (λ place wide. Unit {0}) (relations_of known)
+lent-sound : (known : List LentKnown) → OkSources (λ number wide. Unit {0}) (λ place wide. Unit {0}) (map relation_of known)
 lent-sound [] = tt
 lent-sound (k ∷ known) = (λ shape. stored-sound k.stored (length k.columns) shape, lent-sound known)
 
-pub sound-alone : (known : List LentKnown) (query : Query) (tree : RQuery) → fault_within (relations_of known) [] query ≡ None
+pub sound-alone : (known : Catalog) (query : Query) (tree : RQuery) → fault_within (relations_of known) [] query ≡ None
     → tree ≡ resolved query (relations_of known) [] → IsSoundAlone tree
 unfolding fault_within
 sound-alone known query tree fine is =
     let K = relations_of known in
     subst IsSoundAlone (sym is)
-    (query-sound (λ number wide. Unit {0}) (λ place wide. Unit {0}) K (lent-sound known) query [] []
+    (query-sound (λ number wide. Unit {0}) (λ place wide. Unit {0}) K (lent-sound known.relations) query [] []
     (well_formed-resolvable query K (no-first (sites query K []) fine).0) tt)
 
 pub memory-alone : {X : Type 0} (r : Result X ScopeFault) (found : Option ScopeFault) → IfErr r (λ f. f ≡ fault.NoMemory) → IfErr r (λ f. IsCause f found)

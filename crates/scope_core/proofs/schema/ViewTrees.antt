@@ -1,5 +1,5 @@
 -- There are as many trees as views.
-use Rattle.std.proofs.Common.{◌≡◌, ℕ, ◌+◌, List, [], ◌∷◌, length, arith}
+use Rattle.std.proofs.Common.{◌≡◌, ◌+◌, List, [], ◌∷◌, length, arith}
 use Rattle.std.proofs.lemmas.List.{length-append}
 use Rattle.sql_model.specs.declared.schema.Relation.TheVariants as relation
 use Rattle.sql_model.specs.Relations.{Relation}

@@ -3,7 +3,6 @@ ghost use Rattle.std.specs.Prelude.{◌≡◌, ◌++◌, [], OnOk, IfOk, IfErr, 
 ghost use Rattle.sql_model.specs.Headings.{block_columns, source_columns};
 ghost use Rattle.scope_core.specs.Answer.{IsCause};
 ghost use Rattle.scope_core.specs.FirstFault.{fault_at};
-ghost use Rattle.scope_core.specs.Held.{columns_held};
 ghost use Rattle.scope_core.specs.Lent.{entries_headings, headings_of, levels_of, relations_of};
 ghost use Rattle.scope_core.specs.Parts.{block_fault, entries_fault, entries_listed, filter_fault, filter_listed, from_headings, grouping_over, item_fault, items_fault, items_listed, on_fault, on_listed, output_fault, output_having, output_items, source_fault};
 ghost use Rattle.scope_core.specs.Resolving.{resolved_block, resolved_item, resolved_source};
@@ -14,12 +13,16 @@ use super::Projected;
 use super::conditions::{add_written, resolve_having};
 use super::queries::resolve_query;
 use super::values::resolve_value;
+use crate::NoMemory;
+use crate::catalog::Catalog;
 use crate::checks::{check_alias, check_outputs, is_one_group, resolve_name};
+use crate::columns::Columns;
 use crate::fault::{ScopeFault, number};
 use crate::grouping::{resolve_grouping, sight_by};
-use crate::heading::{Heading, Held, Known};
+use crate::heading::Heading;
 use crate::items::Items;
 use crate::level::{Levels, Sight};
+use crate::name_filter::filter_of_source;
 use crate::output::{Projection, named_columns};
 use crate::star::{add_alias_star, add_star};
 use crate::tree::{Grouping, RBlock, RCond, REntry, RSource, RVal};
@@ -34,7 +37,7 @@ use std::alloc::Global;
 pub fn resolve_block<'k, 'a>(
     alloc: Global,
     block: &'a Block,
-    known: &'k [Known<'a>],
+    known: &'k Catalog<'a>,
     levels: &Levels<'_, 'k, 'a>,
 ) -> Result<Projected<'k, 'a, RBlock>, ScopeFault>
     ensures fine { IfOk result (λ v. block_fault (relations_of known.now) (levels_of levels.now) block.now ≡ None) }
@@ -69,7 +72,7 @@ fn resolve_filter<'s, 'k, 'a>(
     alloc: Global,
     block: &'a Block,
     headings: &'s [Heading<'k, 'a>],
-    known: &'k [Known<'a>],
+    known: &'k Catalog<'a>,
     levels: &'s Levels<'s, 'k, 'a>,
 ) -> Result<List<RCond>, ScopeFault>
     requires { headings.now ≡ from_headings block.now (headings_of known.now) }
@@ -111,7 +114,7 @@ fn resolve_output<'s, 'k, 'a>(
     alloc: Global,
     block: &'a Block,
     headings: &'s [Heading<'k, 'a>],
-    known: &'k [Known<'a>],
+    known: &'k Catalog<'a>,
     levels: &'s Levels<'s, 'k, 'a>,
 ) -> Result<Output, ScopeFault>
     ensures fine { IfOk result (λ v. output_fault (relations_of known.now) (levels_of levels.now) block.now headings.now ≡ None) }
@@ -150,7 +153,7 @@ struct FromClause<'k, 'a> {
 fn resolve_entries<'k, 'a>(
     alloc: Global,
     entries: &'a [Entry],
-    known: &'k [Known<'a>],
+    known: &'k Catalog<'a>,
     levels: &Levels<'_, 'k, 'a>,
 ) -> Result<FromClause<'k, 'a>, ScopeFault>
     ensures fine { IfOk result (λ v. entries_fault (relations_of known.now) (levels_of levels.now) [] entries.now ≡ None) }
@@ -167,7 +170,8 @@ fn resolve_entries<'k, 'a>(
             source: source.tree.into_inner(),
             width,
         });
-        headings.push_reserved(Heading::new(&entry.alias, source.columns.into_inner()));
+        let columns = source.columns.into_inner();
+        headings.push_reserved(heading_of(alloc, entry, columns, known)?);
     }
     Ok(FromClause {
         entries: List::from_vec(resolved),
@@ -175,22 +179,39 @@ fn resolve_entries<'k, 'a>(
     })
 }
 
+/// What stands behind the name of an entry with these columns. Those of several parts have a filter.
+fn heading_of<'k, 'a>(
+    alloc: Global,
+    entry: &'a Entry,
+    columns: Columns<'a>,
+    known: &'k Catalog<'a>,
+) -> Result<Heading<'k, 'a>, NoMemory>
+    requires { columns ≡ source_columns entry.now.source (headings_of known.now) }
+    ensures { IfOk result (λ h. h ≡ record { alias = entry.entry.now.alias; columns = columns.entry }) }
+{
+    if columns.is_one_part() {
+        return Ok(Heading::new(&entry.alias, columns));
+    }
+    let filter = filter_of_source(alloc, &entry.source, known)?;
+    Heading::with_filter(alloc, &entry.alias, columns, known, filter)
+}
+
 /// What an entry takes its rows from, and its columns.
 #[derive(Drop)]
-struct FromSource<'k, 'a> {
+struct FromSource<'a> {
     tree: Kept<RSource>,
-    columns: Kept<Held<'k, 'a>>,
+    columns: Kept<Columns<'a>>,
 }
 
 /// How many columns an entry has, whose name no entry before it may have.
 #[tactic(auto, using(crate::proofs::resolving::Columns::causes))]
-fn width_of_new(entry: &Entry, columns: &Held, before: &[Heading]) -> Result<u32, ScopeFault>
+fn width_of_new(entry: &Entry, columns: &Columns, before: &[Heading]) -> Result<u32, ScopeFault>
     ensures fine { OnOk result (fault_at (AnAlias entry.now.alias (map (λ h. h.alias) before.now) entry.now.at) ≡ None) }
-    ensures value { IfOk result (λ width. width ≡ length (columns_held columns.now)) }
+    ensures value { IfOk result (λ width. width ≡ length columns.now) }
     ensures err { IfErr result (λ f. IsCause f (fault_at (AnAlias entry.now.alias (map (λ h. h.alias) before.now) entry.now.at))) }
 {
     check_alias(&entry.alias, entry.at, before)?;
-    number(columns.columns().len())
+    number(columns.len())
 }
 
 #[cycle(resolve)]
@@ -199,18 +220,18 @@ fn width_of_new(entry: &Entry, columns: &Held, before: &[Heading]) -> Result<u32
 fn resolve_source<'k, 'a>(
     alloc: Global,
     source: &'a Source,
-    known: &'k [Known<'a>],
+    known: &'k Catalog<'a>,
     levels: &Levels<'_, 'k, 'a>,
-) -> Result<FromSource<'k, 'a>, ScopeFault>
+) -> Result<FromSource<'a>, ScopeFault>
     ensures fine { IfOk result (λ v. source_fault (relations_of known.now) (levels_of levels.now) source.now ≡ None) }
     ensures value { IfOk result (λ v. v.tree ≡ resolved_source source.now (relations_of known.now) (levels_of levels.now)) }
-    ensures columns { IfOk result (λ v. columns_held v.columns ≡ source_columns source.now (headings_of known.now)) }
+    ensures columns { IfOk result (λ v. v.columns ≡ source_columns source.now (headings_of known.now)) }
     ensures err { IfErr result (λ f. IsCause f (source_fault (relations_of known.now) (levels_of levels.now) source.now)) }
 {
     match source {
         Source::Named { name, at } => Ok(FromSource {
             tree: Kept::new(resolve_name(name, *at, known)?),
-            columns: Kept::new(named_columns(alloc, name, known)),
+            columns: Kept::new(named_columns(name, known)?),
         }),
         Source::Query { query } => {
             let query = resolve_query(alloc, query.get(), known, levels)?;
@@ -231,7 +252,7 @@ fn add_on_conditions<'s, 'k, 'a>(
     alloc: Global,
     entries: &'a [Entry],
     headings: &'s [Heading<'k, 'a>],
-    known: &'k [Known<'a>],
+    known: &'k Catalog<'a>,
     levels: &'s Levels<'s, 'k, 'a>,
 ) -> Result<(), ScopeFault>
     requires { headings.now ≡ entries_headings entries.now (headings_of known.now) }
@@ -262,7 +283,7 @@ fn add_on_conditions<'s, 'k, 'a>(
 fn resolve_items<'k, 'a>(
     alloc: Global,
     items: &'a [Item],
-    known: &'k [Known<'a>],
+    known: &'k Catalog<'a>,
     levels: &Levels<'_, 'k, 'a>,
 ) -> Result<Items<RVal>, ScopeFault>
     ensures fine { IfOk result (λ v. items_fault (relations_of known.now) (levels_of levels.now) 0 items.now ≡ None) }
@@ -293,7 +314,7 @@ fn add_item<'k, 'a>(
     item: &'a Item,
     values: &mut Items<RVal>,
     alloc: Global,
-    known: &'k [Known<'a>],
+    known: &'k Catalog<'a>,
     levels: &Levels<'_, 'k, 'a>,
 ) -> Result<(), ScopeFault>
     ensures fine { OnOk result (item_fault (relations_of known.now) (levels_of levels.now) item.now ≡ None) }

@@ -11,10 +11,10 @@ use super::check_subquery;
 use super::queries::resolve_query;
 use super::values::{resolve_value, resolve_values};
 use crate::NoMemory;
+use crate::catalog::Catalog;
 use crate::checks::{check_widths, conjuncts_of};
 use crate::fault::{ScopeCode, ScopeFault, refused};
 use crate::grouping::conjunction;
-use crate::heading::Known;
 use crate::level::Levels;
 use crate::tree::{RCond, RVal};
 use plain_data::{Boxed, Kept, List, Shared};
@@ -80,7 +80,7 @@ fn bounds_in(parts: &[Expr]) -> Option<Bounds<'_>>
 fn resolve_condition<'k, 'a>(
     alloc: Global,
     expr: &'a Expr,
-    known: &'k [Known<'a>],
+    known: &'k Catalog<'a>,
     levels: &Levels<'_, 'k, 'a>,
 ) -> Result<RCond, ScopeFault>
     ensures fine { IfOk result (λ v. truth_fault (relations_of known.now) (levels_of levels.now) expr.now ≡ None) }
@@ -134,7 +134,7 @@ fn predicate<'k, 'a>(
     alloc: Global,
     sym: u32,
     args: &'a [Expr],
-    known: &'k [Known<'a>],
+    known: &'k Catalog<'a>,
     levels: &Levels<'_, 'k, 'a>,
 ) -> Result<RCond, ScopeFault>
     ensures fine { IfOk result (λ v. values_fault (relations_of known.now) (levels_of levels.now) args.now ≡ None) }
@@ -155,7 +155,7 @@ fn resolve_exists<'k, 'a>(
     alloc: Global,
     query: &'a Boxed<Query>,
     at: u32,
-    known: &'k [Known<'a>],
+    known: &'k Catalog<'a>,
     levels: &Levels<'_, 'k, 'a>,
 ) -> Result<RCond, ScopeFault>
     ensures fine { IfOk result (λ v. truth_fault (relations_of known.now) (levels_of levels.now) (expr.Exists query.now at) ≡ None) }
@@ -173,7 +173,7 @@ fn resolve_exists<'k, 'a>(
 fn resolve_and<'k, 'a>(
     alloc: Global,
     parts: &'a [Expr],
-    known: &'k [Known<'a>],
+    known: &'k Catalog<'a>,
     levels: &Levels<'_, 'k, 'a>,
 ) -> Result<RCond, ScopeFault>
     ensures fine { IfOk result (λ v. truths_fault (relations_of known.now) (levels_of levels.now) parts.now ≡ None) }
@@ -191,7 +191,7 @@ fn resolve_and<'k, 'a>(
 fn resolve_part<'k, 'a>(
     alloc: Global,
     part: &'a Boxed<Expr>,
-    known: &'k [Known<'a>],
+    known: &'k Catalog<'a>,
     levels: &Levels<'_, 'k, 'a>,
 ) -> Result<Boxed<RCond>, ScopeFault>
     ensures fine { IfOk result (λ v. truth_fault (relations_of known.now) (levels_of levels.now) part.now ≡ None) }
@@ -210,7 +210,7 @@ fn resolve_operand<'k, 'a>(
     alloc: Global,
     expr: &'a Shared<Expr>,
     before: &Option<Operand>,
-    known: &'k [Known<'a>],
+    known: &'k Catalog<'a>,
     levels: &Levels<'_, 'k, 'a>,
 ) -> Result<Operand, ScopeFault>
     requires fine { IfSome before.now (λ o. value_fault (relations_of known.now) (levels_of levels.now) o.expr ≡ None) }
@@ -240,7 +240,7 @@ fn resolve_disjunct<'k, 'a>(
     alloc: Global,
     part: &'a Expr,
     before: &mut Option<Operand>,
-    known: &'k [Known<'a>],
+    known: &'k Catalog<'a>,
     levels: &Levels<'_, 'k, 'a>,
 ) -> Result<RCond, ScopeFault>
     requires fine { IfSome before.old (λ o. value_fault (relations_of known.now) (levels_of levels.now) o.expr ≡ None) }
@@ -266,7 +266,7 @@ fn resolve_disjunct<'k, 'a>(
 fn resolve_conditions<'k, 'a>(
     alloc: Global,
     parts: &'a [Expr],
-    known: &'k [Known<'a>],
+    known: &'k Catalog<'a>,
     levels: &Levels<'_, 'k, 'a>,
 ) -> Result<List<RCond>, ScopeFault>
     ensures fine { IfOk result (λ v. truths_fault (relations_of known.now) (levels_of levels.now) parts.now ≡ None) }
@@ -289,7 +289,7 @@ fn add_conjuncts<'k, 'a>(
     conditions: &mut Vec<RCond>,
     alloc: Global,
     expr: &'a Expr,
-    known: &'k [Known<'a>],
+    known: &'k Catalog<'a>,
     levels: &Levels<'_, 'k, 'a>,
 ) -> Result<(), ScopeFault>
     ensures fine { OnOk result (truth_fault (relations_of known.now) (levels_of levels.now) expr.now ≡ None) }
@@ -314,7 +314,7 @@ fn add_parts<'k, 'a>(
     conditions: &mut Vec<RCond>,
     alloc: Global,
     parts: &'a [Expr],
-    known: &'k [Known<'a>],
+    known: &'k Catalog<'a>,
     levels: &Levels<'_, 'k, 'a>,
 ) -> Result<(), ScopeFault>
     ensures fine { OnOk result (truths_fault (relations_of known.now) (levels_of levels.now) parts.now ≡ None) }
@@ -347,7 +347,7 @@ fn resolve_behind<'k, 'a>(
     args: &'a [Expr],
     before: &'a [Expr],
     resolved: &[RVal],
-    known: &'k [Known<'a>],
+    known: &'k Catalog<'a>,
     levels: &Levels<'_, 'k, 'a>,
 ) -> Result<List<RVal>, ScopeFault>
     requires fine { values_fault (relations_of known.now) (levels_of levels.now) before.now ≡ None }
@@ -413,7 +413,7 @@ fn add_conjuncts_of_each<'k, 'a>(
     conditions: &mut Vec<RCond>,
     alloc: Global,
     parts: &'a [Expr],
-    known: &'k [Known<'a>],
+    known: &'k Catalog<'a>,
     levels: &Levels<'_, 'k, 'a>,
 ) -> Result<(), ScopeFault>
     ensures fine { OnOk result (truths_fault (relations_of known.now) (levels_of levels.now) parts.now ≡ None) }
@@ -434,7 +434,7 @@ pub fn add_written<'k, 'a>(
     conditions: &mut Vec<RCond>,
     alloc: Global,
     condition: &'a Option<Expr>,
-    known: &'k [Known<'a>],
+    known: &'k Catalog<'a>,
     levels: &Levels<'_, 'k, 'a>,
 ) -> Result<(), ScopeFault>
     ensures fine { OnOk result (written_fault (relations_of known.now) (levels_of levels.now) condition.now ≡ None) }
@@ -454,7 +454,7 @@ pub fn add_written<'k, 'a>(
 pub fn resolve_having<'k, 'a>(
     alloc: Global,
     condition: &'a Option<Expr>,
-    known: &'k [Known<'a>],
+    known: &'k Catalog<'a>,
     levels: &Levels<'_, 'k, 'a>,
 ) -> Result<Option<RCond>, ScopeFault>
     ensures fine { IfOk result (λ v. written_fault (relations_of known.now) (levels_of levels.now) condition.now ≡ None) }

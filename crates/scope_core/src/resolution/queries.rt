@@ -12,9 +12,9 @@ ghost use Rattle.scope_core.specs.Sites.{TwoWidths};
 
 use super::Projected;
 use super::blocks::resolve_block;
+use crate::catalog::Catalog;
 use crate::checks::check_widths;
 use crate::fault::ScopeFault;
-use crate::heading::Known;
 use crate::level::Levels;
 use crate::tree::{RBlock, RQuery};
 use plain_data::{Boxed, Shared};
@@ -28,7 +28,7 @@ use std::alloc::Global;
 pub fn resolve_shared_block<'k, 'a>(
     alloc: Global,
     block: &'a Boxed<Block>,
-    known: &'k [Known<'a>],
+    known: &'k Catalog<'a>,
     levels: &Levels<'_, 'k, 'a>,
 ) -> Result<Projected<'k, 'a, Shared<RBlock>>, ScopeFault>
     ensures fine { IfOk result (λ v. block_fault (relations_of known.now) (levels_of levels.now) block.now ≡ None) }
@@ -50,7 +50,7 @@ pub fn resolve_shared_block<'k, 'a>(
 pub fn resolve_query<'k, 'a>(
     alloc: Global,
     query: &'a Query,
-    known: &'k [Known<'a>],
+    known: &'k Catalog<'a>,
     levels: &Levels<'_, 'k, 'a>,
 ) -> Result<Projected<'k, 'a, Boxed<RQuery>>, ScopeFault>
     ensures fine { IfOk result (λ v. fault_within (relations_of known.now) (levels_of levels.now) query.now ≡ None) }
@@ -88,7 +88,7 @@ pub fn resolve_query<'k, 'a>(
 fn resolve_block_query<'k, 'a>(
     alloc: Global,
     block: &'a Boxed<Block>,
-    known: &'k [Known<'a>],
+    known: &'k Catalog<'a>,
     levels: &Levels<'_, 'k, 'a>,
 ) -> Result<Projected<'k, 'a, Boxed<RQuery>>, ScopeFault>
     ensures fine { IfOk result (λ v. block_fault (relations_of known.now) (levels_of levels.now) block.now ≡ None) }
@@ -115,7 +115,7 @@ fn resolve_right<'k, 'a>(
     left: Projected<'k, 'a, Boxed<RQuery>>,
     right: &'a Query,
     at: u32,
-    known: &'k [Known<'a>],
+    known: &'k Catalog<'a>,
     levels: &Levels<'_, 'k, 'a>,
 ) -> Result<Projected<'k, 'a, Boxed<RQuery>>, ScopeFault>
     ensures right { IfOk result (λ v. fault_within (relations_of known.now) (levels_of levels.now) right.now ≡ None) }

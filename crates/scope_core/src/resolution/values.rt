@@ -8,10 +8,10 @@ ghost use Rattle.scope_core.specs.Resolving.{resolved_value};
 
 use super::check_subquery;
 use super::queries::resolve_shared_block;
+use crate::catalog::Catalog;
 use crate::checks::is_scalar;
 use crate::column::resolve_column;
 use crate::fault::{ScopeCode, ScopeFault, refused};
-use crate::heading::Known;
 use crate::level::Levels;
 use crate::tree::RVal;
 use plain_data::{Boxed, List};
@@ -24,7 +24,7 @@ use std::alloc::Global;
 pub fn resolve_value<'k, 'a>(
     alloc: Global,
     expr: &'a Expr,
-    known: &'k [Known<'a>],
+    known: &'k Catalog<'a>,
     levels: &Levels<'_, 'k, 'a>,
 ) -> Result<RVal, ScopeFault>
     ensures fine { IfOk result (λ v. value_fault (relations_of known.now) (levels_of levels.now) expr.now ≡ None) }
@@ -70,7 +70,7 @@ pub fn resolve_value<'k, 'a>(
 pub fn resolve_values<'k, 'a>(
     alloc: Global,
     exprs: &'a [Expr],
-    known: &'k [Known<'a>],
+    known: &'k Catalog<'a>,
     levels: &Levels<'_, 'k, 'a>,
 ) -> Result<List<RVal>, ScopeFault>
     ensures fine { IfOk result (λ vs. values_fault (relations_of known.now) (levels_of levels.now) exprs.now ≡ None) }
@@ -103,7 +103,7 @@ fn resolve_aggregate<'k, 'a>(
     distinct: bool,
     arg: &'a Option<Boxed<Expr>>,
     at: u32,
-    known: &'k [Known<'a>],
+    known: &'k Catalog<'a>,
     levels: &Levels<'_, 'k, 'a>,
 ) -> Result<RVal, ScopeFault>
     ensures fine { IfOk result (λ v. value_fault (relations_of known.now) (levels_of levels.now) (expr.Agg fun distinct arg.now at) ≡ None) }
@@ -132,7 +132,7 @@ fn resolve_scalar<'k, 'a>(
     alloc: Global,
     query: &'a Boxed<Query>,
     at: u32,
-    known: &'k [Known<'a>],
+    known: &'k Catalog<'a>,
     levels: &Levels<'_, 'k, 'a>,
 ) -> Result<RVal, ScopeFault>
     ensures fine { IfOk result (λ v. value_fault (relations_of known.now) (levels_of levels.now) (expr.Sub query.now at) ≡ None) }

@@ -1,30 +1,35 @@
-use Rattle.std.proofs.Common.{◌≡◌, ◌∷◌, ◌++◌, [], ◌≤◌, ◌+◌, length, ap, sym, subst, ◌∙◌, arith}
-use Rattle.std.proofs.lemmas.List.{map-append}
-use Rattle.scope_core.specs.Lent.{relation_of, relations_of}
-use Rattle.scope_core.specs.Relations.{count_views, known_relation, known_relations, known_with}
-use Rattle.scope_core.proofs.schema.Schemas.{one-view-at-most}
+use Rattle.std.proofs.Common.{◌≡◌, ◌∷◌, ◌+◌, ap, sym, ◌∙◌, arith}
+use Rattle.sql_model.specs.declared.schema.Relation.TheVariants as relation
+use Rattle.scope_core.specs.Lent.{relations_of}
+use Rattle.scope_core.specs.Relations.{known_relations, known_with}
 use Rattle.scope_core.proofs.catalog.known_relations.Goals as goal
+
+pub loop-name-preserved-in_ok-add_table-in-Table : goal.loop-name-preserved-in_ok-add_table-in-Table
+loop-name-preserved-in_ok-add_table-in-Table c =
+    let K = relations_of c.loop-name.known in
+    let views = c.loop-name.views in
+    let name = c.in-Some.name.now in
+    let rest = c.next.new.self in
+    let r = relation.Table c.in-Table.table in
+    let step : c.loop-name.name-iterator ≡ (name, r) ∷ rest = c.in-Some.ensures.steps ∙ ap (λ r. (name, r) ∷ rest) c.in-Table.is in
+    let counted : views ≡ views + 0 = omega arith in (
+      tt,
+      tt,
+      ap (λ ks. known_relations ks views rest) (c.in_ok-add_table-in-Table.ensures views)
+          ∙ (ap (λ n. known_relations (known_with K views name r) n rest) counted ∙ (sym (ap (λ rs. known_relations K views rs) step) ∙ c.loop-name.invariant.2)),
+    )
 
 pub loop-name-preserved : goal.loop-name-preserved
 loop-name-preserved c =
-    let K = relations_of c.loop-name.known.items in
+    let K = relations_of c.loop-name.known in
     let views = c.loop-name.views in
     let name = c.in-Some.name.now in
-    let r = c.in-Some.relation.now in
     let rest = c.next.new.self in
-    let step : c.loop-name.name-iterator ≡ (name, r) ∷ rest = c.in-Some.ensures.steps in
-    let next : relation_of c.in_ok-next.next ≡ known_relation K views name r =
-    c.in_ok-next.ensures.value ∙ ap (λ ks. known_relation (relations_of ks) views name r) c.as_slice.ensures.value in
-    let known : relations_of c.push_reserved.new.self.items ≡ known_with K views name r =
-    ap (λ ks. relations_of ks) c.push_reserved.ensures.items ∙ (map-append relation_of c.loop-name.known.items _ ∙ ap (λ k. K ++ k ∷ []) next) in
-    let one : count_views r ≤ 1 = one-view-at-most r in
-    let counted : c.count_views-views.result ≡ count_views r = c.count_views-views.ensures in
-    let longer : length c.loop-name.name-iterator ≡ length rest + 1 = ap (λ xs. length xs) step ∙ omega arith in (
+    let at = c.in-View.at in
+    let r = relation.View c.in-View.query at in
+    let step : c.loop-name.name-iterator ≡ (name, r) ∷ rest = c.in-Some.ensures.steps ∙ ap (λ r. (name, r) ∷ rest) c.in-View.is in (
       tt,
       tt,
-      omega (arith, longer, one, c.loop-name.invariant.2, counted),
-      ap (λ ks. known_relations ks (views + c.count_views-views.result) rest) known ∙ (ap (λ n. known_relations (known_with K views name r) (views + n) rest) counted
-          ∙ (sym (ap (λ xs. known_relations K views xs) step) ∙ c.loop-name.invariant.3)),
-      omega (arith, longer, c.push_reserved.ensures.len, c.loop-name.invariant.4),
-      subst (λ room. length c.args.schema.now.relations.entries ≤ room) (sym c.push_reserved.ensures.capacity) c.loop-name.invariant.5,
+      ap (λ ks. known_relations ks (views + 1) rest) (c.in_ok-add_view-in-View.ensures at ∙ ap (λ n. known_with K n name r) c.in_ok-number-in-View.ensures.fits)
+          ∙ (sym (ap (λ rs. known_relations K views rs) step) ∙ c.loop-name.invariant.2),
     )

@@ -1,5 +1,5 @@
 use Rattle.std.proofs.Common.{◌≡◌, ◌+◌, ◌||◌, suc, None, Some, drop, ap, sym, ◌∙◌, arith}
-use Rattle.std.specs.Prelude.{is_some, nat_lt}
+use Rattle.std.specs.Prelude.{nat_lt}
 use Rattle.std.specs.List.{flat_map, list_any}
 use Rattle.std.proofs.lemmas.List.{take_rest}
 use Rattle.sql_model.specs.Columns.{is_called}
@@ -16,9 +16,8 @@ returns-else-seen-clause-twice c =
     let xs = c.args.headings.now in
     let i = c.loop-index.index in
     let h = c.index-headings-index.result in
-    let here : occurrences name h.columns ≡ Some c.in-Some.seen =
-    sym (c.find.ensures ∙ ap (λ columns. occurrences name columns) c.columns.ensures) ∙ c.in-Some.is in
-    let later = ap (λ hs. list_any (λ h. is_some (occurrences name h.columns)) hs) (take_rest xs (i + 1)) ∙ offered-by name (drop (i + 1) xs) in
+    let here : occurrences name h.columns ≡ Some c.in-Some.seen = sym c.find.ensures ∙ c.in-Some.is in
+    let later = ap (λ hs. list_any (λ h. list_any (is_called name) h.columns) hs) (take_rest xs (i + 1)) ∙ offered-by name (drop (i + 1) xs) in
     c.is_offered.ensures ∙ (later
     ∙ (sym (counts-here name h (drop (i + 1) xs) c.in-Some.seen here ∙ ap (λ b. b || list_any (is_called name) (flat_map (λ h. h.columns) (drop (i + 1) xs))) c.if-seen.false)
     ∙ ap (λ n. nat_lt 1 n)
@@ -32,8 +31,7 @@ loop-index-preserved c =
     let i = c.loop-index.index in
     let h = c.index-headings-index.result in
     let rest = drop (i + 1) xs in
-    let none : occurrences name h.columns ≡ None =
-    sym (c.find.ensures ∙ ap (λ columns. occurrences name columns) c.columns.ensures) ∙ c.in_default.is in
+    let none : occurrences name h.columns ≡ None = sym c.find.ensures ∙ c.in_default.is in
     let next : suc (first + i) ≡ first + (i + 1) = omega arith in (
       c.loop-index.invariant.0
           ∙ (at-head (λ hs. bare_place name (first + i) hs) xs i h c.loop-index-test.true c.index-headings-index.is

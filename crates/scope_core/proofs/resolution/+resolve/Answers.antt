@@ -5,7 +5,6 @@ use Rattle.sql_model.specs.Headings.{item_columns, source_columns}
 use Rattle.sql_model.specs.declared.tree.Block.{out-Block}
 use Rattle.sql_model.specs.Headings.{Heading as TheHeading}
 use Rattle.scope_core.specs.FirstFault.{fault_at}
-use Rattle.scope_core.specs.Held.{columns_held}
 use Rattle.scope_core.specs.Sites.{AnAlias, Outputs}
 use Rattle.scope_core.proofs.resolving.Fronts.{entries_fault-cons, entries_fault-nil, entries_listed-cons, entries_listed-nil, items_fault-cons, items_fault-nil, items_listed-cons, items_listed-nil, length-items_listed, length-resolved_item, on_fault-cons, on_fault-nil, on_listed-cons, on_listed-nil, seen-apart, seen-joined, seen_by}
 use Rattle.scope_core.specs.Scope.{AsRows, Level, headings_here, no_entry}
@@ -276,9 +275,9 @@ blocks::resolve_entries-loop-entry-preserved t c =
     let rest = entries_fault K L (before ++ e.alias ∷ []) (drop (i + 1) xs) in
     let P : List TheHeading → Type 0 = λ hs. fault_at (AnAlias e.alias (map (λ h. h.alias) hs) e.at) ≡ None in
     let alias_is_new = subst P c.as_slice.ensures.value c.in_ok-width.ensures.fine in
-    let aliases = ap (λ hs. map (λ h. h.alias) hs) (c.push_reserved-in-loop-entry.ensures.items ∙ ap (λ h. hs ++ h ∷ []) c.new.ensures) ∙ map-append (λ h. h.alias) hs _ in
+    let aliases = ap (λ hs. map (λ h. h.alias) hs) (c.push_reserved-in-loop-entry.ensures.items ∙ ap (λ h. hs ++ h ∷ []) c.in_ok-heading_of.ensures) ∙ map-append (λ h. h.alias) hs _ in
     let wide : c.in_ok-width.width ≡ length (source_columns e.source relations) =
-    c.in_ok-width.ensures.value ∙ ap (λ cs. length cs) (ap columns_held c.get.ensures ∙ c.in_ok-source.ensures.columns) in (
+    c.in_ok-width.ensures.value ∙ ap (λ cs. length cs) (c.get.ensures ∙ c.in_ok-source.ensures.columns) in (
       ap (λ names. entries_fault K L names (drop (i + 1) xs)) aliases
           ∙ (sym (eq ∙ (ap (λ o. option_or o (option_or (fault_at (AnAlias e.alias before e.at)) rest)) c.in_ok-source.ensures.fine ∙ ap (λ o. option_or o rest) alias_is_new))
           ∙ c.loop-entry.invariant.0),
@@ -290,7 +289,7 @@ blocks::resolve_entries-loop-entry-preserved t c =
       walk-step (λ es. entries_headings es relations) xs i e _ _ (record { alias = e.alias; columns = source_columns e.source relations } ∷ []) _
           c.loop-entry-test.true c.entry-item.is (entries_headings-cons e _ relations)
           (c.push_reserved-in-loop-entry.ensures.items
-          ∙ ap (λ h. hs ++ h ∷ []) (c.new.ensures ∙ ap (λ cs. record { alias = e.alias; columns = cs }) (ap columns_held c.into_inner-in-loop-entry.ensures ∙ c.in_ok-source.ensures.columns))) c.loop-entry.invariant.2,
+          ∙ ap (λ h. hs ++ h ∷ []) (c.in_ok-heading_of.ensures ∙ ap (λ cs. record { alias = e.alias; columns = cs }) (c.into_inner-columns.ensures ∙ c.in_ok-source.ensures.columns))) c.loop-entry.invariant.2,
       c.push_reserved.ensures.len ∙ ap (λ n. n + 1) c.loop-entry.invariant.3,
       c.push_reserved-in-loop-entry.ensures.len ∙ ap (λ n. n + 1) c.loop-entry.invariant.4,
       subst (λ room. length xs ≤ room) (sym c.push_reserved.ensures.capacity) c.loop-entry.invariant.5,

@@ -1,6 +1,0 @@
-use Rattle.std.proofs.Common.{◌≡◌, ◌++◌, take}
-use Rattle.scope_core.specs.Names.{names_of}
-use Rattle.scope_core.proofs.names.Columns.append.Given as goal
-
-abbrev pub invariant-loop-name : goal.invariant-loop-name
-invariant-loop-name l = l.self ≡ l.initial.self ++ names_of (take l.name-index l.name-items)
