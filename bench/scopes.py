@@ -63,6 +63,12 @@ def wide_view(name, parts=8):
     return "".join(listed) + f"CREATE VIEW {name} AS SELECT * FROM {', '.join(names)};\n"
 
 
+def view_of_tables(name, tables=MOST_LISTED // 8):
+    """A view of all columns of tables that have one each."""
+    declared = (f"CREATE TABLE t{number} (x{number} INT);\n" for number in range(tables))
+    return "".join(declared) + f"CREATE VIEW {name} AS SELECT * FROM {', '.join(f't{number}' for number in range(tables))};\n"
+
+
 def conjunction(conditions):
     """An AND of all of these, in parentheses where a chain would be too long."""
     if len(conditions) <= MOST_LISTED:
@@ -112,6 +118,22 @@ def sought_often():
     return sought_outwards(uses=100_000)
 
 
+def sought_in_parts(uses=100_000):
+    """A name of the outermost block, sought through derived tables each of which has 512 parts."""
+    sources = ", ".join(f"m s{number}" for number in range(16))
+    entries = ", ".join(f"(SELECT * FROM {sources}) e{number}" for number in range(MOST_ENTRIES))
+    equal = conjunction(["z = z"] * (uses // 2))
+    inner = f"EXISTS (SELECT 1 FROM {entries} WHERE " * DEEPEST + equal + ")" * DEEPEST
+    return case(view_of_tables("m"), f"SELECT a FROM r WHERE {inner}")
+
+
+def found_in_parts():
+    """Names of a derived table of 961 parts, as many as fit, which stand in the last one."""
+    sources = ", ".join(f"m s{number}" for number in range(MOST_ENTRIES - 1))
+    names = as_many("last = last", bytes_before=4_000)
+    return case(view_of_tables("m") + "CREATE TABLE t (last INT);\n", f"SELECT 1 FROM (SELECT * FROM {sources}, t) d WHERE {names}")
+
+
 def stars():
     """Stars over a wide view, as many as fit."""
     star = "EXISTS (SELECT * FROM w)"
@@ -126,8 +148,18 @@ def narrow_stars(stars=64):
 
 
 def joined_sources():
-    """Derived tables of all columns of a wide view and of a table, so that each has a list of its own, in nested blocks."""
-    entries = ", ".join(f"(SELECT * FROM w, r) e{number}" for number in range(MOST_ENTRIES))
+    """Derived tables of all columns of a wide view and of a table, in nested blocks."""
+    return nested_derived("w, r")
+
+
+def parted_sources():
+    """The same with five sources."""
+    return nested_derived("w, r, r b, r c, r d")
+
+
+def nested_derived(sources):
+    """Derived tables of all columns of these, as many as there may be around a place."""
+    entries = ", ".join(f"(SELECT * FROM {sources}) e{number}" for number in range(MOST_ENTRIES))
     nested = f"EXISTS (SELECT e0.c0 FROM {entries} WHERE " * DEEPEST + "1 = 1" + ")" * DEEPEST
     return case(wide_view("w", parts=7), f"SELECT a FROM r WHERE {nested}")
 
@@ -331,7 +363,22 @@ def copied_subqueries(deep=14):
     return case("", f"SELECT a FROM r WHERE {value} BETWEEN 1 AND 2")
 
 
-WIDE_CASES = [sought_outwards, sought_often, stars, narrow_stars, joined_sources, widened_views, nested_sources, set_chains, derived_from_sets, named_views, named_view]
+WIDE_CASES = [
+    sought_outwards,
+    sought_often,
+    sought_in_parts,
+    found_in_parts,
+    stars,
+    narrow_stars,
+    joined_sources,
+    parted_sources,
+    widened_views,
+    nested_sources,
+    set_chains,
+    derived_from_sets,
+    named_views,
+    named_view,
+]
 LONG_CASES = [long_named_sources, long_named_keys, copied_names, operands, bounded_operands, listed_columns, grown_lists, copied_operands, copied_subqueries]
 CASES = [start, ordinary_queries] + WIDE_CASES + LONG_CASES
 DEEP_CASES = [deep_values, deep_sources, deep_exists, deep_in, deep_query, deep_view, deep_operand, deep_compared_value, deep_compared_sources, deep_bounded_value, deep_bounded_operators]
