@@ -294,9 +294,8 @@ def deep_sources():
     return case("", deepest_sources(MOST_LEVELS))
 
 
-def deepest_conditions(levels, test):
+def deepest_conditions(levels, test, query="SELECT a FROM r"):
     """Queries under this test within queries, each in an AND under an OR and in the longest chains of set operators."""
-    query = "SELECT a FROM r"
     for _ in range(levels):
         query = sets(f"SELECT a FROM r WHERE a = 1 OR a = 2 AND {test} ({query})")
     return query
@@ -310,6 +309,20 @@ def deep_exists():
 def deep_in():
     """As many queries behind IN in one another as there may be."""
     return case("", deepest_conditions(MOST_LEVELS, "a IN"))
+
+
+def deepest_rope(name, views=8):
+    """Views of views, each with columns one by one behind those of the one before: as deep a rope as there may be."""
+    declared = f"CREATE VIEW u AS SELECT 1 FROM r;\nCREATE VIEW {name}0 AS SELECT z FROM r;\n"
+    more = ", ".join(["u.*"] * (MOST_LISTED - 2))
+    for number in range(views):
+        declared += f"CREATE VIEW {name}{number + 1} AS SELECT {name}{number}.*, {more} FROM {name}{number}, u;\n"
+    return declared
+
+
+def deep_rope():
+    """The deepest queries under EXISTS, in the innermost of which a name is sought in such a rope."""
+    return case(deepest_rope("x"), deepest_conditions(MOST_LEVELS, "EXISTS", "SELECT z FROM x8 WHERE z = z"))
 
 
 def deep_query():
@@ -381,7 +394,7 @@ WIDE_CASES = [
 ]
 LONG_CASES = [long_named_sources, long_named_keys, copied_names, operands, bounded_operands, listed_columns, grown_lists, copied_operands, copied_subqueries]
 CASES = [start, ordinary_queries] + WIDE_CASES + LONG_CASES
-DEEP_CASES = [deep_values, deep_sources, deep_exists, deep_in, deep_query, deep_view, deep_operand, deep_compared_value, deep_compared_sources, deep_bounded_value, deep_bounded_operators]
+DEEP_CASES = [deep_values, deep_sources, deep_exists, deep_in, deep_rope, deep_query, deep_view, deep_operand, deep_compared_value, deep_compared_sources, deep_bounded_value, deep_bounded_operators]
 
 
 def write_all(folder):
