@@ -130,7 +130,7 @@ impl<T: Drop> Items<T> {
     }
 }
 
-/// The parts with the last one behind them, where it holds any value.
+/// The parts with the last one behind them, where it holds any value, in no more room than it needs.
 fn closed<T: Drop>(
     alloc: Global,
     mut parts: Vec<Shared<List<T>>>,
@@ -141,6 +141,8 @@ fn closed<T: Drop>(
     if last.is_empty() {
         return Ok(parts);
     }
-    parts.push(Shared::new(alloc, last)?)?;
+    let mut values = last.into_vec();
+    values.shrink_to_fit();
+    parts.push(Shared::new(alloc, List::from_vec(values))?)?;
     Ok(parts)
 }

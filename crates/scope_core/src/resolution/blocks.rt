@@ -1,12 +1,12 @@
 //! Blocks: their entries, conditions, groups and items.
-ghost use Rattle.std.specs.Prelude.{◌≡◌, ◌++◌, [], OnOk, IfOk, IfErr, None, length, map};
+ghost use Rattle.std.specs.Prelude.{◌≡◌, ◌++◌, [], OnOk, IfOk, IfErr, IfSome, None, length, map};
 ghost use Rattle.sql_model.specs.Headings.{block_columns, source_columns};
 ghost use Rattle.scope_core.specs.Answer.{IsCause};
 ghost use Rattle.scope_core.specs.FirstFault.{fault_at};
 ghost use Rattle.scope_core.specs.Lent.{entries_headings, headings_of, levels_of, relations_of};
 ghost use Rattle.scope_core.specs.Parts.{block_fault, entries_fault, entries_listed, filter_fault, filter_listed, from_headings, grouping_over, item_fault, items_fault, items_listed, on_fault, on_listed, output_fault, output_having, output_items, source_fault};
-ghost use Rattle.scope_core.specs.Resolving.{resolved_block, resolved_item, resolved_source};
-ghost use Rattle.scope_core.specs.Scope.{no_entry};
+ghost use Rattle.scope_core.specs.Resolving.{resolved_block, resolved_item, resolved_source, star};
+ghost use Rattle.scope_core.specs.Scope.{headings_here, no_entry};
 ghost use Rattle.scope_core.specs.Sites.{AnAlias};
 
 use super::Projected;
@@ -24,7 +24,7 @@ use crate::items::Items;
 use crate::level::{Levels, Sight};
 use crate::name_filter::filter_of_source;
 use crate::output::{Projection, named_columns};
-use crate::star::{add_alias_star, add_star};
+use crate::star::{WrittenStar, add_alias_star, add_star, write_star};
 use crate::tree::{Grouping, RBlock, RCond, REntry, RSource, RVal};
 use plain_data::{Kept, List};
 use sql_model::{Block, Entry, Item, Query, Source};
@@ -291,8 +291,9 @@ fn resolve_items<'k, 'a>(
     ensures err { IfErr result (λ f. IsCause f (items_fault (relations_of known.now) (levels_of levels.now) 0 items.now)) }
 {
     let mut values = Items::with_capacity(alloc, count_values(items))?;
+    let written = write_star(alloc, items, levels)?;
     for item in items {
-        add_item(item, &mut values, alloc, known, levels)?;
+        add_item(item, &mut values, alloc, &written, known, levels)?;
         check_outputs(values.len())?;
     }
     Ok(values)
@@ -314,15 +315,17 @@ fn add_item<'k, 'a>(
     item: &'a Item,
     values: &mut Items<RVal>,
     alloc: Global,
+    written: &WrittenStar,
     known: &'k Catalog<'a>,
     levels: &Levels<'_, 'k, 'a>,
 ) -> Result<(), ScopeFault>
+    requires { IfSome written.now.columns (λ columns. columns ≡ star 0 (headings_here (levels_of levels.now))) }
     ensures fine { OnOk result (item_fault (relations_of known.now) (levels_of levels.now) item.now ≡ None) }
     ensures value { OnOk result (values.new ≡ values.old ++ resolved_item item.now (relations_of known.now) (levels_of levels.now)) }
     ensures err { IfErr result (λ f. IsCause f (item_fault (relations_of known.now) (levels_of levels.now) item.now)) }
 {
     match item {
-        Item::Star { at } => add_star(values, alloc, *at, levels),
+        Item::Star { at } => add_star(values, alloc, *at, written, levels),
         Item::AliasStar { alias, at } => add_alias_star(values, alloc, alias, *at, levels),
         Item::Value { expr, .. } => {
             let value = resolve_value(alloc, expr, known, levels)?;
