@@ -199,12 +199,18 @@ fn add_columns(
     Ok(())
 }
 
-/// The greatest power of two that is not above a count. Pieces of such lengths begin at multiples of them, so few differ.
+/// The most columns that are a piece whatever their number.
+const SHORT: u32 = 8;
+
+/// A count that is short, or else the greatest power of two that is not above it. Long pieces begin at multiples of their lengths, so few differ.
 fn piece(count: u32) -> u32
     requires { 0 < count }
     ensures some { 0 < result }
     ensures within { result ≤ count }
 {
+    if count <= SHORT {
+        return count;
+    }
     let mut length = 1;
     while length <= count - length {
         length += length;
