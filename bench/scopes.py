@@ -23,6 +23,7 @@ SQLITE = "/usr/bin/sqlite3"
 MOST_ENTRIES = 31
 MOST_BYTES = 1_048_576
 MOST_LISTED = 256
+MOST_OUTPUTS = 2_048
 MOST_OPERANDS = 64
 DEEPEST = 60
 MOST_LEVELS = 64
@@ -145,6 +146,23 @@ def narrow_stars(stars=64):
     entries = ", ".join(f"t e{number}" for number in range(MOST_ENTRIES))
     exists = f"EXISTS (SELECT {','.join('*' * stars)} FROM {entries})"
     return case("CREATE TABLE t (a INT);\n", "SELECT a FROM r WHERE " + as_many(exists))
+
+
+def short_stars(width=7):
+    """Stars over entries of seven columns each, as many as a block may have."""
+    entries = ", ".join(f"t e{number}" for number in range(MOST_ENTRIES))
+    stars = MOST_OUTPUTS // (MOST_ENTRIES * width)
+    columns = ", ".join(f"c{number} INT" for number in range(width))
+    return case(f"CREATE TABLE t ({columns});\n", "SELECT a FROM r WHERE " + as_many(f"EXISTS (SELECT {','.join('*' * stars)} FROM {entries})"))
+
+
+def values_between_stars(pairs=MOST_LISTED // 2):
+    """A value between each two stars over one column, in derived tables, as many as fit."""
+    derived = f"(SELECT {','.join(['*,a'] * pairs)} FROM t)"
+    entries = ",".join(f"{derived} e{number}" for number in range(MOST_ENTRIES))
+    block = f"EXISTS(SELECT 1 FROM {entries} WHERE "
+    blocks = (MOST_BYTES - 4_000) // len(f"{block})")
+    return case("CREATE TABLE t (a INT);\n", "SELECT a FROM r WHERE " + block * blocks + "1=1" + ")" * blocks)
 
 
 def joined_sources():
@@ -383,6 +401,8 @@ WIDE_CASES = [
     found_in_parts,
     stars,
     narrow_stars,
+    short_stars,
+    values_between_stars,
     joined_sources,
     parted_sources,
     widened_views,
