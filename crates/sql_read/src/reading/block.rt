@@ -9,7 +9,7 @@ use super::entry::entries;
 use super::expr::expr;
 use super::item::item;
 use super::primary::reference;
-use crate::growing::push;
+use crate::growing::{fitted, push};
 use plain_data::{Boxed, Kept, List};
 use sql_cursor::{ReadFault, Tokens};
 use sql_grammar::Kind;
@@ -77,7 +77,7 @@ fn items(alloc: Global, tokens: &mut Tokens<'_>, levels: u8) -> Result<List<Item
         let next = item(alloc, tokens, levels)?;
         items.push(next)?;
     }
-    Ok(items)
+    Ok(fitted(items))
 }
 
 /// The condition behind this word, if it stands next.
@@ -116,5 +116,5 @@ fn group_by(alloc: Global, tokens: &mut Tokens<'_>) -> Result<Option<List<Expr>>
         let next = reference(alloc, tokens)?;
         columns.push(next)?;
     }
-    Ok(Some(columns))
+    Ok(Some(fitted(columns)))
 }

@@ -11,7 +11,7 @@ use super::MOST_SEPARATORS;
 use super::deeper::deeper_query;
 use super::expr::expr;
 use super::item::{alias, optional_alias};
-use crate::growing::push;
+use crate::growing::{fitted, push};
 use crate::listed::{entry_of, listed_query, listed_table, unaliased_table};
 use plain_data::{Kept, List};
 use sql_cursor::{LimitKind, ReadFault, Tokens};
@@ -38,7 +38,7 @@ pub fn entries(alloc: Global, tokens: &mut Tokens<'_>, levels: u8) -> Result<Lis
         let more = from(alloc, tokens, levels, entries)?;
         entries = more;
     }
-    Ok(entries)
+    Ok(fitted(entries))
 }
 
 /// An item of FROM: its entries, behind those before them.

@@ -7,6 +7,7 @@ use super::deeper::{deeper_neg, deeper_unary};
 use super::primary::primary;
 use super::test::{test, tested};
 use super::{MOST_OPERATORS, MOST_SEPARATORS};
+use crate::growing::fitted;
 use crate::trees::{minus, not_at, operated, place_of};
 use plain_data::{Kept, List, SharedList};
 use sql_cursor::{Mark, ReadFault, Tokens, place};
@@ -139,7 +140,10 @@ fn ors(alloc: Global, tokens: &mut Tokens<'_>, levels: u8, first: Expr) -> Resul
         let part = conj(alloc, tokens, levels)?;
         parts.push(part)?;
     }
-    Ok(Expr::Or { parts, at })
+    Ok(Expr::Or {
+        parts: fitted(parts),
+        at,
+    })
 }
 
 /// The parts behind `AND`.
@@ -161,7 +165,7 @@ fn ands(alloc: Global, tokens: &mut Tokens<'_>, levels: u8, first: Expr) -> Resu
         let part = neg(alloc, tokens, levels)?;
         parts.push(part)?;
     }
-    let parts = SharedList::new(alloc, parts)?;
+    let parts = SharedList::new(alloc, fitted(parts))?;
     Ok(Expr::And { parts, at })
 }
 

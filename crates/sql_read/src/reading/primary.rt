@@ -12,7 +12,7 @@ use super::MOST_SEPARATORS;
 use super::deeper::{deeper_argument, deeper_exprs};
 use super::expr::expr;
 use super::inside::enclosed;
-use crate::growing::push;
+use crate::growing::{fitted, push};
 use crate::trees::{bare_column, qualified_column};
 use plain_data::{Boxed, Kept, List};
 use sql_cursor::{ReadFault, Tokens, name_in, number_in, place, text_in};
@@ -208,7 +208,7 @@ pub fn exprs(alloc: Global, tokens: &mut Tokens<'_>, levels: u8) -> Result<List<
         let next = expr(alloc, tokens, levels)?;
         exprs.push(next)?;
     }
-    Ok(exprs)
+    Ok(fitted(exprs))
 }
 
 /// The arguments of COUNT.

@@ -7,6 +7,7 @@ ghost use Rattle.sql_cursor.specs.Readers.{Gives};
 use super::MOST_SEPARATORS;
 use super::deeper::{deeper_in_inner, deeper_query};
 use super::expr::{expr, value};
+use crate::growing::fitted;
 use crate::trees::{between, compared, equal, like, negated, place_of};
 use plain_data::{Boxed, Kept, List, Shared};
 use sql_cursor::{Mark, ReadFault, Tokens, place};
@@ -207,5 +208,8 @@ pub fn members(
         return Ok(last);
     }
     parts.push(last)?;
-    Ok(Expr::Or { parts, at })
+    Ok(Expr::Or {
+        parts: fitted(parts),
+        at,
+    })
 }

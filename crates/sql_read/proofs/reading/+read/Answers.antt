@@ -111,7 +111,7 @@ block::items-more-preserved t c =
 
 pub block::items-returns-clause-does : goal.block::items-returns-clause-does
 block::items-returns-clause-does t c =
-    no_word _ _ _ _ _ _ c.more.invariant.same _ (rw c.in_default.is at c.in_ok-eat_within.ensures.gives)
+    rw c.fitted.ensures (no_word _ _ _ _ _ _ c.more.invariant.same _ (rw c.in_default.is at c.in_ok-eat_within.ensures.gives))
 
 pub expr::ors-returns-in_err-eat_within-clause-does : goal.expr::ors-returns-in_err-eat_within-clause-does
 expr::ors-returns-in_err-eat_within-clause-does t c =
@@ -133,7 +133,7 @@ expr::ors-more-preserved t c =
 
 pub expr::ors-returns-clause-does : goal.expr::ors-returns-clause-does
 expr::ors-returns-clause-does t c =
-    rw c.place_of-at.ensures (made_no_word _ _ _ _ _ _ _ c.more.invariant.same _ (rw c.in_default.is at c.in_ok-eat_within.ensures.gives))
+    rw (c.fitted.ensures, c.place_of-at.ensures) (made_no_word _ _ _ _ _ _ _ c.more.invariant.same _ (rw c.in_default.is at c.in_ok-eat_within.ensures.gives))
 
 pub expr::ands-returns-in_err-eat_within-clause-does : goal.expr::ands-returns-in_err-eat_within-clause-does
 expr::ands-returns-in_err-eat_within-clause-does t c =
@@ -155,7 +155,7 @@ expr::ands-more-preserved t c =
 
 pub expr::ands-returns-clause-does : goal.expr::ands-returns-clause-does
 expr::ands-returns-clause-does t c =
-    rw (c.in_ok-parts.ensures, c.place_of-at.ensures) (made_no_word _ _ _ _ _ _ _ c.more.invariant.same _ (rw c.in_default.is at c.in_ok-eat_within.ensures.gives))
+    rw (c.in_ok-parts.ensures, c.fitted.ensures, c.place_of-at.ensures) (made_no_word _ _ _ _ _ _ _ c.more.invariant.same _ (rw c.in_default.is at c.in_ok-eat_within.ensures.gives))
 
 pub expr::products-returns-in_err-sign-clause-does : goal.expr::products-returns-in_err-sign-clause-does
 expr::products-returns-in_err-sign-clause-does t c =
@@ -225,7 +225,7 @@ primary::exprs-more-preserved t c =
 pub primary::exprs-returns-clause-does : goal.primary::exprs-returns-clause-does
 unfolding reading.exprs
 primary::exprs-returns-clause-does t c =
-    rw (sym c.if-not-sees_any.ensures) (no_word _ _ _ _ _ _ c.more.invariant.same _ (rw c.in_default.is at c.in_ok-eat_within.ensures.gives))
+    rw (c.fitted.ensures, sym c.if-not-sees_any.ensures) (no_word _ _ _ _ _ _ c.more.invariant.same _ (rw c.in_default.is at c.in_ok-eat_within.ensures.gives))
 
 pub test::members-returns-in_err-eat_within-clause-does : goal.test::members-returns-in_err-eat_within-clause-does
 test::members-returns-in_err-eat_within-clause-does t c =
@@ -260,7 +260,7 @@ pub test::members-returns-clause-does : goal.test::members-returns-clause-does
 test::members-returns-clause-does t c =
     let e = made_no_word _ _ _ _ _ _ _ c.more.invariant.same _ (rw c.in_default.is at c.in_ok-eat_within.ensures.gives) in
     let s = several c.args.sought.now.value c.more.parts (an_expr.Eq c.args.sought.now.value c.more.last (place_of c.args.sought.now.value)) (λ none. let no : true ≡ false = sym (c.is_empty.ensures.1 none) ∙ c.if-is_empty.false in cc) in
-    rw (c.in_ok-push-2.ensures.ok, c.in_ok-last.ensures, c.into_inner.ensures, c.place_of-at.ensures, c.get.ensures, ← s) e
+    rw (c.fitted.ensures, c.in_ok-push-2.ensures.ok, c.in_ok-last.ensures, c.into_inner.ensures, c.place_of-at.ensures, c.get.ensures, ← s) e
 
 pub entry::entries-returns-in_err-eat_within-clause-does : goal.entry::entries-returns-in_err-eat_within-clause-does
 entry::entries-returns-in_err-eat_within-clause-does t c =
@@ -281,7 +281,7 @@ entry::entries-items-preserved t c =
 
 pub entry::entries-returns-clause-does : goal.entry::entries-returns-clause-does
 entry::entries-returns-clause-does t c =
-    no_word _ _ _ _ _ _ c.items.invariant.same _ (rw c.in_default.is at c.in_ok-eat_within.ensures.gives)
+    rw c.fitted.ensures (no_word _ _ _ _ _ _ c.items.invariant.same _ (rw c.in_default.is at c.in_ok-eat_within.ensures.gives))
 
 pub entry::from-returns-in_err-next-clause-does : goal.entry::from-returns-in_err-next-clause-does
 entry::from-returns-in_err-next-clause-does t c =

@@ -22,4 +22,5 @@ more-preserved c =
     }
 
 pub returns-clause-does : goal.returns-clause-does
-returns-clause-does c = made_no_word _ _ _ _ _ _ _ c.more.invariant.same _ (rw c.in_default-2.is at c.in_ok-eat_within.ensures.gives)
+returns-clause-does c =
+    rw c.fitted.ensures (made_no_word _ _ _ _ _ _ _ c.more.invariant.same _ (rw c.in_default-2.is at c.in_ok-eat_within.ensures.gives))
