@@ -1,9 +1,10 @@
 pub mod Booleans
 pub mod Lists
 pub mod Occurring
+pub mod NamedColumns
 pub mod Ropes
 pub mod Each
 pub mod RelationSets
+pub mod Directed
 pub mod Catalogs
-pub mod Filters
 pub mod Written

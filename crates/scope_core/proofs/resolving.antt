@@ -1,6 +1,5 @@
 pub mod Columns
 pub mod Outputs
-pub mod Filters
 pub mod Walks
 pub mod Groups
 pub mod Values

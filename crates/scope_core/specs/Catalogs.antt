@@ -1,15 +1,15 @@
--- The relations that a query can name, with the relations that declare each name. What a relation shows are names that relations declare.
-use Rattle.std.specs.Prelude.{◌≡◌, ◌%◌, ℕ, true, List, Option, Some, None}
-use Rattle.std.specs.List.{list_any}
+-- The relations that a query can name, with the relations that declare each name.
+use Rattle.std.specs.Prelude.{◌≡◌, ◌%◌, ℕ, true, false, List, Option, Some, None}
 use Rattle.std.specs.Borrow.{Bor}
 use Rattle.std.specs.Map.{lookup}
 use Rattle.data_model.specs.Lists.{Each}
 use Rattle.sql_model.specs.Syntax.{Name}
-use Rattle.sql_model.specs.Frames.{ColumnName}
-use Rattle.sql_model.specs.Columns.{is_called, same_name}
+use Rattle.sql_model.specs.Columns.{same_name}
 use Rattle.scope_core.specs.declared.catalog.Known.{Known as LentKnown}
 use Rattle.scope_core.specs.declared.relation_set.RelationSet.{RelationSet}
-use Rattle.scope_core.specs.RelationSets.{Has, Includes, Meet, is_low}
+use Rattle.scope_core.specs.Names.{is_one_of}
+use Rattle.scope_core.specs.RelationSets.{Has, Includes, is_low}
+use Rattle.scope_core.specs.Ropes.{IsDirected}
 
 pub record Catalog : Type 0 where
   pub relations : List LentKnown
@@ -30,13 +30,10 @@ declared_by catalog = declared_in catalog.declared
 abbrev pub Grows : (Name → RelationSet) → (Name → RelationSet) → Type 0
 Grows before after = (name : Name) → Includes (after name) (before name)
 
--- a relation of this number declares the names of these columns
-abbrev pub IsDeclaredAt : (Name → RelationSet) → List ColumnName → ℕ → Type 0
-IsDeclaredAt declared columns number = (name : Name) → list_any (is_called name) columns ≡ true → Has (declared name) (is_low number) (number % 128)
+-- a relation of this number declares these names
+abbrev pub IsDeclaredAt : (Name → RelationSet) → List (Bor Name) → ℕ → Type 0
+IsDeclaredAt declared names number = (name : Name) → is_one_of names name ≡ true → Has (declared name) (is_low number) (number % 128)
 
--- ---- what relations show
-abbrev pub Shows : (Name → RelationSet) → RelationSet → List ColumnName → Type 0
-Shows declared shown columns = (name : Name) → list_any (is_called name) columns ≡ true → Meet (declared name) shown
-
-abbrev pub AreShown : (Name → RelationSet) → List LentKnown → Type 0
-AreShown declared relations = Each (λ known. Shows declared known.shown known.columns) relations
+-- ---- where names stand among the columns of relations, which are all declared
+abbrev pub AreDirected : (Name → RelationSet) → List LentKnown → Type 0
+AreDirected declared relations = Each (λ known. IsDirected declared (λ name. false) known.columns) relations

@@ -20,6 +20,7 @@ use Rattle.scope_core.specs.Syntax.{RSource}
 use Rattle.scope_core.specs.Catalogs.{Catalog}
 use Rattle.scope_core.specs.Scope.{Known, heading, Sight, AsRows, AsGroup, AsMember, Levels, Place, place_at}
 use Rattle.scope_core.specs.Faults.{count_called}
+use Rattle.scope_core.specs.Ropes.{columns_within}
 use Rattle.scope_core.specs.declared.tree.RSource.TheVariants as s
 
 abbrev pub source_of : Stored → RSource
@@ -27,7 +28,7 @@ source_of (stored.Table number) = s.Table number
 source_of (stored.View place) = s.View place
 
 abbrev pub relation_of : LentKnown → Known
-relation_of k = record { name = k.name.now; columns = k.columns; source = source_of k.stored }
+relation_of k = record { name = k.name.now; columns = columns_within k.columns; source = source_of k.stored }
 
 -- the relations that a query can name
 abbrev pub relations_of : Catalog → List Known

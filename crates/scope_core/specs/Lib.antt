@@ -16,8 +16,8 @@ pub mod Runs
 pub mod Names
 pub mod Ropes
 pub mod RelationSets
-pub mod NameFilters
 pub mod Catalogs
+pub mod Directed
 pub mod WellFormed
 pub mod FirstFault
 pub mod Plain

@@ -1,6 +1,7 @@
 -- Where a name stands among columns, and what an index of names has for it.
-use Rattle.std.specs.Prelude.{◌≡◌, ℕ, nat_lt, true, false, List, Option, Some, None, map, position, option_map}
+use Rattle.std.specs.Prelude.{◌≡◌, ℕ, nat_lt, Bool, true, false, List, Option, Some, None, map, position, option_map}
 use Rattle.std.specs.Borrow.{Bor}
+use Rattle.std.specs.List.{list_any}
 use Rattle.std.specs.Map.{lookup}
 use Rattle.sql_model.specs.Syntax.{Name}
 use Rattle.sql_model.specs.Frames.{ColumnName}
@@ -11,6 +12,10 @@ use Rattle.scope_core.specs.Faults.{count_called}
 -- names as code lends them
 abbrev pub names_of : List (Option (Bor Name)) → List ColumnName
 names_of names = map (option_map (λ name. name.now)) names
+
+-- whether a name is one of those that code lends
+abbrev pub is_one_of : List (Bor Name) → Name → Bool
+is_one_of names name = list_any (λ own. same_name name own.now) names
 
 -- the place of the first column of this name, and whether another has it too
 abbrev pub occurrences : Name → List ColumnName → Option Occurrences

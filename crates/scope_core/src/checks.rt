@@ -1,25 +1,18 @@
 //! What may be wrong at a node before its parts are looked at.
-ghost use Rattle.std.specs.Prelude.{◌≡◌, ◌++◌, ◌||◌, ◌&&◌, ℕ, [], ◌∷◌, OnOk, IfOk, IfErr, IfSome, IfNone, not, map, true, false, find, option_map, Some, None, is_some, MatchOption, length};
-ghost use Rattle.std.specs.List.{list_any};
-ghost use Rattle.sql_model.specs.declared.tree.Item.{Item as TheItem};
-ghost use Rattle.sql_model.specs.Columns.{same_name};
-ghost use Rattle.sql_model.specs.Grouping.{has_aggregate, item_has_aggregate, is_one_group, some_has_aggregate};
-ghost use Rattle.scope_core.specs.declared.fault.ScopeFault.TheVariants as fault;
+ghost use Rattle.std.specs.Prelude.{◌≡◌, ◌||◌, OnOk, IfOk, IfErr, IfSome, IfNone, map, None, is_some};
+ghost use Rattle.sql_model.specs.Grouping.{has_aggregate, item_has_aggregate};
 ghost use Rattle.scope_core.specs.Answer.{IsCause};
 ghost use Rattle.scope_core.specs.Parts.{IsAndOf, IsSingle, is_aggregate_item, is_one_aggregate_listed, is_scalar_block};
-ghost use Rattle.scope_core.specs.Faults.{is_in_group, is_scalar};
 ghost use Rattle.scope_core.specs.FirstFault.{fault_at};
-ghost use Rattle.scope_core.specs.Lent.{levels_of, list_has_aggregate, items_have_aggregate_listed, relations_of, source_of};
+ghost use Rattle.scope_core.specs.Lent.{list_has_aggregate, items_have_aggregate_listed, relations_of, source_of};
 ghost use Rattle.scope_core.specs.Resolving.{source_named};
-ghost use Rattle.scope_core.specs.Scope.{sight_here};
 ghost use Rattle.scope_core.specs.Sites.{ASource, AnAlias, Outputs, TwoWidths};
 
 use crate::catalog::Catalog;
 use crate::fault::{ScopeCode, ScopeFault, number, refused};
 use crate::heading::{Heading, Stored};
-use crate::level::Levels;
 use crate::tree::RSource;
-use sql_model::{Block, Expr, Item, Name, Query};
+use sql_model::{Block, Expr, Item, Name};
 
 /// The most outputs of a block.
 pub const MOST_OUTPUTS: usize = 2048;

@@ -1,87 +1,50 @@
 //! What stands behind a name of FROM.
-ghost use Rattle.std.specs.Prelude.{◌≡◌, true, IfOk};
+ghost use Rattle.std.specs.Prelude.{◌≡◌, length};
 ghost use Rattle.std.specs.List.{list_any};
 ghost use Rattle.sql_model.specs.Columns.{is_called, same_name};
-ghost use Rattle.scope_core.specs.Catalogs.{declared_by};
-ghost use Rattle.scope_core.specs.NameFilters.{Admits};
 ghost use Rattle.scope_core.specs.Names.{occurrences};
 
-use crate::NoMemory;
-use crate::catalog::Catalog;
-use crate::columns::Columns;
-use crate::name_filter::{CatalogFilter, NameFilter};
+use crate::guide::Guide;
 use crate::names::Occurrences;
-use plain_data::Boxed;
 use sql_model::Name;
-use std::alloc::Global;
 use std::marker::Model;
 
-/// What stands behind a name of FROM: its alias and its columns. Columns of several parts may have a filter, so that a name that they do not
-/// have is not sought in each part.
+/// What stands behind a name of FROM: its alias and its columns.
 #[derive(Drop)]
 pub struct Heading<'k, 'a> {
     alias: &'a Name,
-    columns: Columns<'a>,
-    filter: Option<Boxed<CatalogFilter<'k, 'a>>>,
+    columns: Guide<'k, 'a>,
 }
 
 impl<'k, 'a> Model for Heading<'k, 'a> {
-    ghost use Rattle.std.specs.Prelude.{IfSome};
     ghost use Rattle.sql_model.specs.Headings.{Heading as TheHeading};
-    ghost use Rattle.scope_core.specs.Catalogs.{declared_by};
-    ghost use Rattle.scope_core.specs.NameFilters.{Admits};
 
     ghost Value = { TheHeading };
 
     ghost view = { λ h. record { alias = h.alias.now; columns = h.columns } };
-
-    ghost invariant = { λ h. IfSome h.filter (λ f. Admits (declared_by f.known.now) f.filter h.columns) };
 }
 
 impl<'k, 'a> Heading<'k, 'a> {
     /// An entry of this alias and these columns.
-    pub fn new(alias: &'a Name, columns: Columns<'a>) -> Heading<'k, 'a>
+    pub fn new(alias: &'a Name, columns: Guide<'k, 'a>) -> Heading<'k, 'a>
         ensures { result ≡ record { alias = alias.entry.now; columns = columns.entry } }
     {
-        Heading {
-            alias,
-            columns,
-            filter: None,
-        }
-    }
-
-    /// An entry of this alias and these columns, with a filter of their names.
-    pub fn with_filter(
-        alloc: Global,
-        alias: &'a Name,
-        columns: Columns<'a>,
-        known: &'k Catalog<'a>,
-        filter: NameFilter<'a>,
-    ) -> Result<Heading<'k, 'a>, NoMemory>
-        requires { Admits (declared_by known.now) filter columns }
-        ensures { IfOk result (λ h. h ≡ record { alias = alias.entry.now; columns = columns.entry }) }
-    {
-        let filter = Boxed::new(alloc, CatalogFilter { known, filter })?;
-        Ok(Heading {
-            alias,
-            columns,
-            filter: Some(filter),
-        })
-    }
-
-    /// Its columns, lent.
-    pub fn columns(&self) -> &Columns<'a>
-        ensures { result.now ≡ self.now.columns }
-    {
-        &self.columns
+        Heading { alias, columns }
     }
 
     /// Its columns, handed on.
-    pub fn into_columns(self) -> Columns<'a>
+    pub fn into_columns(self) -> Guide<'k, 'a>
         ensures { result ≡ self.entry.columns }
     {
         let Heading { columns, .. } = self;
         columns
+    }
+
+    /// How many columns it has.
+    pub fn len(&self) -> usize
+        ensures { result ≡ length self.now.columns }
+    {
+        self.columns.len()
     }
 
     /// Whether this is its alias.
@@ -95,28 +58,14 @@ impl<'k, 'a> Heading<'k, 'a> {
     pub fn has(&self, name: &Name) -> bool
         ensures { result ≡ list_any (is_called name.now) self.now.columns }
     {
-        self.may_have(name) && self.columns().has(name)
+        self.columns.has(name)
     }
 
     /// Where this name stands among its columns.
     pub fn find(&self, name: &Name) -> Option<Occurrences>
         ensures { result ≡ occurrences name.now self.now.columns }
     {
-        if self.may_have(name) {
-            self.columns().find(name)
-        } else {
-            None
-        }
-    }
-
-    /// Whether its filter lets a name pass, where it has one.
-    fn may_have(&self, name: &Name) -> bool
-        ensures { list_any (is_called name.now) self.now.columns ≡ true → result ≡ true }
-    {
-        match &self.filter {
-            Some(filter) => filter.get().passes(name),
-            None => true,
-        }
+        self.columns.find(name)
     }
 }
 

@@ -1,16 +1,12 @@
 //! What a place of a query sees of the blocks around it.
-ghost use Rattle.std.specs.Prelude.{◌≡◌, ◌+◌, ◌<◌, position, nat_lt, nat_eq, not, true, false, length, IfNone, IfSome, IfOk, IfErr, MatchOption, find, is_some, option_map, unwrap_or};
+ghost use Rattle.std.specs.Prelude.{◌≡◌, position, nat_lt, not, false, length, IfNone, IfSome, unwrap_or};
 ghost use Rattle.std.specs.List.{flat_map, list_any};
-ghost use Rattle.sql_model.specs.Columns.{is_called, same_name};
+ghost use Rattle.sql_model.specs.Columns.{is_called};
 ghost use Rattle.sql_model.specs.Headings.{columns_of};
-ghost use Rattle.scope_core.specs.declared.fault.ScopeFault.TheVariants as fault;
 ghost use Rattle.scope_core.specs.Faults.{count_called, is_group, is_in_group, is_member};
-ghost use Rattle.scope_core.specs.Names.{occurrences};
 ghost use Rattle.scope_core.specs.Lent.{is_lacking_in, is_twice_in, levels_of};
-ghost use Rattle.scope_core.specs.Scope.{bare_place, headings_here, member_levels, place_in, sight_here};
+ghost use Rattle.scope_core.specs.Scope.{headings_here, member_levels, place_in, sight_here};
 
-use crate::columns::Columns;
-use crate::fault::ScopeFault;
 use crate::heading::Heading;
 use crate::run::Runs;
 use sql_model::Name;
@@ -149,12 +145,12 @@ fn find_bare(name: &Name, first: u32, headings: &[Heading]) -> Option<Found>
 
 /// A name in the entry of its qualifier: one past the columns where the entry lacks it.
 #[tactic(auto, using(crate::proofs::basics::Occurring::entry))]
-fn find_in_entry(name: &Name, entry: usize, columns: &Columns) -> Found
-    ensures place { (result.entry ≡ entry) × (result.column ≡ unwrap_or (position (is_called name.now) columns.now) (length columns.now)) }
-    ensures twice { result.twice ≡ nat_lt 1 (count_called name.now columns.now) }
-    ensures lacks { result.lacks ≡ not (list_any (is_called name.now) columns.now) }
+fn find_in_entry(name: &Name, entry: usize, heading: &Heading) -> Found
+    ensures place { (result.entry ≡ entry) × (result.column ≡ unwrap_or (position (is_called name.now) heading.now.columns) (length heading.now.columns)) }
+    ensures twice { result.twice ≡ nat_lt 1 (count_called name.now heading.now.columns) }
+    ensures lacks { result.lacks ≡ not (list_any (is_called name.now) heading.now.columns) }
 {
-    match columns.find(name) {
+    match heading.find(name) {
         Some(seen) => Found {
             entry,
             column: seen.first,
@@ -163,7 +159,7 @@ fn find_in_entry(name: &Name, entry: usize, columns: &Columns) -> Found
         },
         None => Found {
             entry,
-            column: columns.len(),
+            column: heading.len(),
             twice: false,
             lacks: true,
         },
@@ -179,7 +175,7 @@ fn find_qualified(alias: &Name, name: &Name, first: u32, headings: &[Heading]) -
     for (index, heading) in headings.iter().enumerate() {
         if heading.is_alias(alias) {
             let entry = first as usize + index;
-            return Some(find_in_entry(name, entry, heading.columns()));
+            return Some(find_in_entry(name, entry, heading));
         }
     }
     None

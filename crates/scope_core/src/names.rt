@@ -92,6 +92,28 @@ impl<'a> Names<'a> {
         Ok(names)
     }
 
+    /// These columns.
+    pub fn of_columns(alloc: Global, columns: &[Option<&'a Name>]) -> Result<Names<'a>, NoMemory>
+        ensures { IfOk result (λ names. names ≡ names_of columns.now) }
+    {
+        let mut names = Names::new(alloc);
+        for name in columns {
+            names.push(*name)?;
+        }
+        Ok(names)
+    }
+
+    /// A column for each of these names.
+    pub fn of_lent(alloc: Global, lent: &[&'a Name]) -> Result<Names<'a>, NoMemory>
+        ensures { IfOk result (λ names. names ≡ map (λ name. Some name.now) lent.now) }
+    {
+        let mut names = Names::new(alloc);
+        for name in lent {
+            names.push(Some(*name))?;
+        }
+        Ok(names)
+    }
+
     /// How many columns there are.
     pub fn len(&self) -> usize
         ensures { result ≡ length self.now }
@@ -122,7 +144,8 @@ impl<'a> Names<'a> {
 
     /// Appends a column.
     pub fn push(&mut self, name: Option<&'a Name>) -> Result<(), NoMemory>
-        ensures { OnOk result (self.new ≡ self.old ++ option_map (λ n. n.now) name.entry ∷ []) }
+        ensures ok { OnOk result (self.new ≡ self.old ++ option_map (λ n. n.now) name.entry ∷ []) }
+        ensures err { OnErr result (self.new ≡ self.old) }
     {
         match name {
             Some(own) => self.push_named(own),
@@ -131,7 +154,8 @@ impl<'a> Names<'a> {
     }
 
     fn push_named(&mut self, name: &'a Name) -> Result<(), NoMemory>
-        ensures { OnOk result (self.new ≡ self.old ++ Some name.entry.now ∷ []) }
+        ensures ok { OnOk result (self.new ≡ self.old ++ Some name.entry.now ∷ []) }
+        ensures err { OnErr result (self.new ≡ self.old) }
     {
         self.names.reserve(1)?;
         let seen = note(&mut self.index, name, self.names.len())?;
@@ -141,7 +165,8 @@ impl<'a> Names<'a> {
     }
 
     fn push_unnamed(&mut self) -> Result<(), NoMemory>
-        ensures { OnOk result (self.new ≡ self.old ++ None ∷ []) }
+        ensures ok { OnOk result (self.new ≡ self.old ++ None ∷ []) }
+        ensures err { OnErr result (self.new ≡ self.old) }
     {
         self.names.push(None)?;
         Ok(())

@@ -1,6 +1,6 @@
 //! Sets of relations by their numbers.
 ghost use Rattle.std.specs.Prelude.{◌≡◌, ◌%◌, true};
-ghost use Rattle.scope_core.specs.RelationSets.{Has, Includes, Meet, is_low};
+ghost use Rattle.scope_core.specs.RelationSets.{Has, Includes, empty, has_number, is_low, meet_sets, union_of, with_number};
 
 /// Relations by their numbers modulo 256. A schema declares no more; of two that had one place, each would be taken for the other as well, so a
 /// set never lacks what was put there.
@@ -13,7 +13,7 @@ pub struct RelationSet {
 impl RelationSet {
     /// No relation.
     pub fn empty() -> RelationSet
-        ensures { result ≡ record { low = 0; high = 0 } }
+        ensures { result ≡ empty }
     {
         RelationSet { low: 0, high: 0 }
     }
@@ -22,6 +22,7 @@ impl RelationSet {
     pub fn with(self, number: usize) -> RelationSet
         ensures grows { Includes result self }
         ensures own { Has result (is_low number) (number % 128) }
+        ensures exact { result ≡ with_number self number }
     {
         let bit = 1 << number % 128;
         if number % 256 < 128 {
@@ -37,10 +38,23 @@ impl RelationSet {
         }
     }
 
+    /// Whether this relation is in it.
+    pub fn has(&self, number: usize) -> bool
+        ensures { result ≡ has_number self.now number }
+    {
+        let bit = 1 << number % 128;
+        if number % 256 < 128 {
+            self.low & bit != 0
+        } else {
+            self.high & bit != 0
+        }
+    }
+
     /// The relations of both.
     pub fn union(self, other: RelationSet) -> RelationSet
         ensures own { Includes result self }
         ensures others { Includes result other }
+        ensures exact { result ≡ union_of self other }
     {
         RelationSet {
             low: self.low | other.low,
@@ -49,8 +63,8 @@ impl RelationSet {
     }
 
     /// Whether a relation is in both.
-    pub fn meets(self, other: RelationSet) -> bool
-        ensures { Meet self other → result ≡ true }
+    pub fn meets(&self, other: &RelationSet) -> bool
+        ensures { result ≡ meet_sets self.now other.now }
     {
         self.low & other.low != 0 || self.high & other.high != 0
     }

@@ -12,7 +12,6 @@ ghost use Rattle.scope_core.specs.Scope.{headings_here};
 ghost use Rattle.scope_core.specs.Sites.{AStar, AnAliasStar};
 
 use crate::NoMemory;
-use crate::columns::Columns;
 use crate::fault::{ScopeCode, ScopeFault, number, refused};
 use crate::heading::Heading;
 use crate::items::Items;
@@ -59,7 +58,7 @@ fn count_stars(items: &[Item]) -> usize {
 fn saves_room(stars: usize, headings: &[Heading]) -> bool {
     let mut width: usize = 0;
     for heading in headings {
-        width = width.saturating_add(heading.columns().len());
+        width = width.saturating_add(heading.len());
     }
     stars.saturating_mul(headings.len()) >= width.saturating_mul(POINTERS)
 }
@@ -71,11 +70,7 @@ fn written_columns(alloc: Global, headings: &[Heading]) -> Result<List<RVal>, Sc
 {
     let mut columns = Vec::new(alloc);
     for (entry, heading) in headings.iter().enumerate() {
-        write_columns(
-            &mut columns,
-            number(entry)?,
-            number(heading.columns().len())?,
-        )?;
+        write_columns(&mut columns, number(entry)?, number(heading.len())?)?;
     }
     columns.shrink_to_fit();
     Ok(List::from_vec(columns))
@@ -127,7 +122,7 @@ fn add_all(
     ensures err { IfErr result (λ f. f ≡ fault.NoMemory) }
 {
     for (entry, heading) in headings.iter().enumerate() {
-        add_columns(items, alloc, entry, heading.columns(), runs)?;
+        add_columns(items, alloc, entry, heading, runs)?;
     }
     Ok(())
 }
@@ -150,8 +145,8 @@ pub fn add_alias_star(
     }
     match find_alias(alias, levels.headings()) {
         Some(entry) => {
-            let columns = levels.headings()[entry].columns();
-            add_columns(items, alloc, entry, columns, levels.runs())
+            let heading = &levels.headings()[entry];
+            add_columns(items, alloc, entry, heading, levels.runs())
         }
         None => Err(refused(ScopeCode::UnknownAlias, at)),
     }
@@ -177,14 +172,14 @@ fn add_columns(
     items: &mut Items<RVal>,
     alloc: Global,
     entry: usize,
-    columns: &Columns,
+    heading: &Heading,
     runs: &Runs,
 ) -> Result<(), ScopeFault>
-    ensures value { OnOk result (items.new ≡ items.old ++ entry_columns entry 0 columns.now) }
+    ensures value { OnOk result (items.new ≡ items.old ++ entry_columns entry 0 heading.now.columns) }
     ensures err { IfErr result (λ f. f ≡ fault.NoMemory) }
 {
     let entry = number(entry)?;
-    let end = number(columns.len())?;
+    let end = number(heading.len())?;
     let mut first = 0;
     while first < end {
         let count = piece(end - first);

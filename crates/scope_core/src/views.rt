@@ -15,18 +15,19 @@ ghost use Rattle.scope_core.specs.Plain.{is_plain, is_plain_tree};
 ghost use Rattle.scope_core.specs.Relations.{known_of, known_with};
 ghost use Rattle.scope_core.specs.ViewTrees.{Resolves, trees_with, views_of};
 ghost use Rattle.scope_core.specs.Resolving.{resolved};
+ghost use Rattle.scope_core.specs.Ropes.{columns_within};
 ghost use Rattle.scope_core.specs.Scope.{heading};
 ghost use Rattle.scope_core.specs.WellFormed.{SchemaWellFormed, SchemaWithinWidth, WellFormed, WithinWidth};
 ghost use Rattle.scope_core.specs.Width.{width};
 
 use crate::catalog::{Catalog, known_relations};
-use crate::columns::Columns;
+use crate::directed::Directed;
 use crate::fault::{ScopeCode, ScopeFault, number, refused};
 use crate::level::Levels;
-use crate::output::output_columns;
 use crate::resolution::resolve_query;
 use crate::resolved::{Resolved, Views};
 use crate::run::Runs;
+use crate::sources::NewColumns;
 use plain_data::List;
 use sql_model::{Name, Query, Relation, Schema};
 use std::alloc::Global;
@@ -110,8 +111,8 @@ fn add_relation<'a>(
             let place = number(trees.len())?;
             let tree = resolve_over(alloc, query, &*known, runs)?;
             trees.push(tree)?;
-            let columns = output_columns(alloc, query, &*known)?;
-            check_names(alloc, &columns, *at)?;
+            let columns = NewColumns::of_query(alloc, query, &*known)?;
+            check_names(alloc, &columns.columns, *at)?;
             known.add_view(alloc, name, query, columns, place)?;
         }
     }
@@ -120,9 +121,9 @@ fn add_relation<'a>(
 
 /// That no two columns of a view have one name.
 #[tactic(auto, using(crate::proofs::schema::Schemas::names, crate::proofs::resolving::Columns::causes))]
-fn check_names(alloc: Global, columns: &Columns, at: u32) -> Result<(), ScopeFault>
-    ensures fine { OnOk result (name_twice_fault columns.now at ≡ None) }
-    ensures err { IfErr result (λ f. IsCause f (name_twice_fault columns.now at)) }
+fn check_names(alloc: Global, columns: &Directed, at: u32) -> Result<(), ScopeFault>
+    ensures fine { OnOk result (name_twice_fault (columns_within columns.now) at ≡ None) }
+    ensures err { IfErr result (λ f. IsCause f (name_twice_fault (columns_within columns.now) at)) }
 {
     if columns.has_name_twice(alloc)? {
         return Err(refused(ScopeCode::NameTwice, at));

@@ -1,8 +1,8 @@
--- Which relations declare a name, what relations show, as names are declared, and the columns of the relation of a name.
-use Rattle.std.proofs.Common.{◌≡◌, ℕ, ◌%◌, Bool, true, false, cond, ◌||◌, List, [], ◌∷◌, ◌++◌, find, map, Some, None, option_map, unwrap_or, refl, ap, sym, subst, ◌∙◌, inl, inr}
+-- Which relations declare a name, where names stand, as names are declared, and the columns of the relation of a name.
+use Rattle.std.proofs.Common.{◌≡◌, ℕ, suc, ◌%◌, ◌+◌, ◌<◌, Bool, true, false, cond, ◌||◌, List, [], ◌∷◌, ◌++◌, find, get_or, length, map, Option, Some, None, option_map, unwrap_or, refl, ap, sym, subst, ◌∙◌, arith}
+use Rattle.std.specs.Prelude.{nat_lt, position}
 use Rattle.std.specs.Borrow.{Bor}
 use Rattle.std.specs.Cmp.Lexicographic.{bytes_decides}
-use Rattle.std.specs.List.{list_any}
 use Rattle.std.specs.Map.{lookup}
 use Rattle.std.proofs.lemmas.List.Folds.{list_any-append}
 use Rattle.sql_model.specs.Syntax.{Name}
@@ -10,14 +10,19 @@ use Rattle.sql_model.specs.Frames.{ColumnName}
 use Rattle.sql_model.specs.Columns.{is_called, same_name}
 use Rattle.sql_model.specs.Headings.{columns_of}
 use Rattle.scope_core.specs.declared.catalog.Known.{Known as LentKnown}
-use Rattle.scope_core.specs.declared.name_filter.NameFilter.{NameFilter}
 use Rattle.scope_core.specs.declared.relation_set.RelationSet.{RelationSet}
-use Rattle.scope_core.specs.Catalogs.{AreShown, Grows, IsDeclaredAt, Shows, declared_in, or_none}
-use Rattle.scope_core.specs.NameFilters.{Admits, Passes}
-use Rattle.scope_core.specs.RelationSets.{Has, Includes, Meet, is_low}
+use Rattle.scope_core.specs.Catalogs.{AreDirected, Grows, IsDeclaredAt, declared_in, or_none}
+use Rattle.scope_core.specs.RelationSets.{Has, Includes, is_low}
+use Rattle.scope_core.specs.Ropes.{IsDirected}
 use Rattle.scope_core.specs.Scope.{Known, heading}
+use Rattle.scope_core.specs.Faults.{count_called}
+use Rattle.scope_core.specs.Lent.{relation_of}
+use Rattle.scope_core.specs.Names.{is_one_of, occurrences}
+use Rattle.scope_core.specs.declared.names.Occurrences.{Occurrences}
+use Rattle.std.proofs.lemmas.Option.{none-some}
+use Rattle.scope_core.proofs.basics.Occurring.{position-cons}
 use Rattle.scope_core.proofs.basics.Each.{Each-in}
-use Rattle.scope_core.proofs.basics.RelationSets.{Meet-grows}
+use Rattle.scope_core.proofs.basics.Directed.{directed-grows}
 
 -- ---- growth
 module _ (before between after : Name → RelationSet) where
@@ -25,13 +30,13 @@ module _ (before between after : Name → RelationSet) where
   Grows-trans h g = λ name low bit i. g name low bit (h name low bit i)
 
 module _ (before after : Name → RelationSet) (grows : Grows before after) where
-  pub IsDeclaredAt-grows : (columns : List ColumnName) (number : ℕ) → IsDeclaredAt before columns number → IsDeclaredAt after columns number
-  IsDeclaredAt-grows columns number h = λ name called. grows name (is_low number) (number % 128) (h name called)
+  pub IsDeclaredAt-grows : (names : List (Bor Name)) (number : ℕ) → IsDeclaredAt before names number → IsDeclaredAt after names number
+  IsDeclaredAt-grows names number h = λ name one. grows name (is_low number) (number % 128) (h name one)
 
-  pub AreShown-grows : (relations : List LentKnown) → AreShown before relations → AreShown after relations
-  AreShown-grows relations =
-      Each-in (λ known. Shows before known.shown known.columns) (λ known. Shows after known.shown known.columns)
-      (λ known h name called. Meet-grows (before name) (after name) known.shown known.shown (grows name) (λ low bit i. i) (h name called)) relations
+  pub AreDirected-grows : (relations : List LentKnown) → AreDirected before relations → AreDirected after relations
+  AreDirected-grows relations =
+      Each-in (λ known. IsDirected before (λ name. false) known.columns) (λ known. IsDirected after (λ name. false) known.columns)
+      (λ known h. directed-grows before after (λ name. false) (λ name. false) grows (λ name e. e) known.columns h) relations
 
 -- a name is declared by what a map has for it, and by more
 module _ (entries entries' : List (Bor Name × RelationSet)) (name : Name) (before set : RelationSet) where
@@ -52,36 +57,16 @@ module _ (entries entries' : List (Bor Name × RelationSet)) (name : Name) (befo
           ap or_none (step other) ∙ ap (λ b. or_none (cond b (Some set) (lookup (λ key. same_name other key.now) entries))) e in
           subst (λ s. Includes s (declared_in entries other)) (sym kept) (λ low bit h. h)
 
--- ---- columns that a relation declares
-module _ (declared : Name → RelationSet) (columns : List ColumnName) (number : ℕ) (is : IsDeclaredAt declared columns number) where
-  pub IsDeclaredAt-unnamed : IsDeclaredAt declared (columns ++ None ∷ []) number
-  IsDeclaredAt-unnamed name called = is name (by (list_any (is_called name) columns) (sym (list_any-append (is_called name) columns (None ∷ [])) ∙ called))
-    where
-      by : (b : Bool) → (b || false) ≡ true → b ≡ true
-      by true e = refl
-      by false e = e
-
-  pub IsDeclaredAt-named : (own : Name) → Has (declared own) (is_low number) (number % 128) → IsDeclaredAt declared (columns ++ Some own ∷ []) number
-  IsDeclaredAt-named own has name called =
-      by (list_any (is_called name) columns) (same_name name own) refl refl (sym (list_any-append (is_called name) columns (Some own ∷ [])) ∙ called)
-    where
-      by : (a b : Bool) → list_any (is_called name) columns ≡ a → same_name name own ≡ b → (a || (b || false)) ≡ true → Has (declared name) (is_low number) (number % 128)
-      by true b is_a is_b e = is name is_a
-      by false true is_a is_b e = subst (λ n. Has (declared n) (is_low number) (number % 128)) (sym ((bytes_decides name own).0 is_b)) has
-      by false false is_a is_b e = cc
-
--- ---- columns that a relation shows
-module _ (declared : Name → RelationSet) (number : ℕ) (shown : RelationSet) (own : Has shown (is_low number) (number % 128)) where
-  pub Shows-own : (columns : List ColumnName) → IsDeclaredAt declared columns number → Shows declared shown columns
-  Shows-own columns h = λ name called. (is_low number, number % 128, h name called, own)
-
-  pub Shows-admitted : (before : Name → RelationSet) (filter : NameFilter) (columns : List ColumnName) → Grows before declared → Includes shown filter.relations
-      → Admits before filter columns → IsDeclaredAt declared filter.values number → Shows declared shown columns
-  Shows-admitted before filter columns grows more admits values name called = by (admits name called)
-    where
-      by : Passes before filter name → Meet (declared name) shown
-      by (inl meet) = Meet-grows (before name) (declared name) filter.relations shown (grows name) more meet
-      by (inr value) = (is_low number, number % 128, values name value, own)
+-- ---- names that a relation declares, one more
+pub IsDeclaredAt-more : (declared : Name → RelationSet) (names : List (Bor Name)) (number : ℕ) → IsDeclaredAt declared names number
+    → (own : Bor Name) → Has (declared own.now) (is_low number) (number % 128) → IsDeclaredAt declared (names ++ own ∷ []) number
+IsDeclaredAt-more declared names number is own has name one =
+    by (is_one_of names name) (same_name name own.now) refl refl (sym (list_any-append (λ n. same_name name n.now) names (own ∷ [])) ∙ one)
+  where
+    by : (a b : Bool) → is_one_of names name ≡ a → same_name name own.now ≡ b → (a || (b || false)) ≡ true → Has (declared name) (is_low number) (number % 128)
+    by true b is_a is_b e = is name is_a
+    by false true is_a is_b e = subst (λ n. Has (declared n) (is_low number) (number % 128)) (sym ((bytes_decides name own.now).0 is_b)) has
+    by false false is_a is_b e = cc
 
 -- ---- the columns of the first relation of a name
 module _ (name : Name) where
@@ -100,3 +85,46 @@ module _ (name : Name) where
 
   pub columns_of-missing : (known : List Known) → None ≡ find (λ k. same_name name k.name) known → columns_of name (map heading known) ≡ []
   columns_of-missing known e = columns_of-known known ∙ ap (λ o. unwrap_or (option_map (λ k. k.columns) o) []) (sym e)
+
+-- ---- the first relation of a name, by the place of that among the names of all
+abbrev pub names_in : List LentKnown → List ColumnName
+names_in relations = map (λ known. Some known.name.now) relations
+
+module _ (name : Name) where
+  abbrev found : List LentKnown → Option Known
+  found relations = find (λ k. same_name name k.name) (map relation_of relations)
+
+  -- what is found where the name stands there or nowhere
+  abbrev FoundAt : List LentKnown → Option ℕ → Type 0
+  FoundAt relations None = found relations ≡ None
+  FoundAt relations (Some first) = (first < length relations) × ((known : LentKnown) → found relations ≡ Some (relation_of (get_or relations first known)))
+
+  found-at : (relations : List LentKnown) → FoundAt relations (position (is_called name) (names_in relations))
+  found-at [] = refl
+  found-at (known ∷ relations) =
+      subst (FoundAt (known ∷ relations)) (sym (position-cons (is_called name) (Some known.name.now) (names_in relations)))
+      (by (same_name name known.name.now) (position (is_called name) (names_in relations)) refl (found-at relations))
+    where
+      by : (b : Bool) (o : Option ℕ) → same_name name known.name.now ≡ b → FoundAt relations o → FoundAt (known ∷ relations) (cond b (Some 0) (option_map (λ i. suc i) o))
+      by true o e later = (omega arith, λ d. ap (λ b. cond b (Some (relation_of known)) (found relations)) e)
+      by false None e later = ap (λ b. cond b (Some (relation_of known)) (found relations)) e ∙ later
+      by false (Some first) e later =
+          (omega (arith, later.0), λ d. ap (λ b. cond b (Some (relation_of known)) (found relations)) e ∙ later.1 d)
+
+  pub found-seen : (relations : List LentKnown) (seen : Occurrences) → occurrences name (names_in relations) ≡ Some seen → FoundAt relations (Some seen.first)
+  found-seen relations seen e = by (position (is_called name) (names_in relations)) refl
+    where
+      by : (o : Option ℕ) → position (is_called name) (names_in relations) ≡ o → FoundAt relations (Some seen.first)
+      by None is = absurd (none-some seen (sym (ap (λ o. option_map (λ i. record { first = i; twice = nat_lt 1 (count_called name (names_in relations)) }) o) is) ∙ e))
+      by (Some first) is =
+          let same : first ≡ seen.first = ap (λ o. unwrap_or (option_map (λ s. s.first) o) 0)
+          (sym (ap (λ o. option_map (λ i. record { first = i; twice = nat_lt 1 (count_called name (names_in relations)) }) o) is) ∙ e) in
+          subst (λ i. FoundAt relations (Some i)) same (subst (FoundAt relations) is (found-at relations))
+
+  pub found-none : (relations : List LentKnown) → occurrences name (names_in relations) ≡ None → found relations ≡ None
+  found-none relations e = by (position (is_called name) (names_in relations)) refl
+    where
+      by : (o : Option ℕ) → position (is_called name) (names_in relations) ≡ o → found relations ≡ None
+      by None is = subst (FoundAt relations) is (found-at relations)
+      by (Some first) is =
+          absurd (none-some _ (sym e ∙ ap (λ o. option_map (λ i. record { first = i; twice = nat_lt 1 (count_called name (names_in relations)) }) o) is))

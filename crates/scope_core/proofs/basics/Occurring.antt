@@ -18,7 +18,6 @@ use Rattle.sql_model.specs.Headings.{Heading}
 use Rattle.scope_core.specs.declared.names.Occurrences.{Occurrences}
 use Rattle.scope_core.specs.Faults.{count_called, is_repeated, name_twice}
 use Rattle.scope_core.specs.Names.{occurrences, indexed, noted, IsIndexOf}
-use Rattle.scope_core.specs.Ropes.{behind, with_later}
 use Rattle.scope_core.specs.Scope.{bare_place}
 use Rattle.scope_core.proofs.basics.Booleans.{no}
 use Rattle.scope_core.proofs.basics.Lists.{count_called-append}
@@ -300,6 +299,14 @@ module _ (name : Name) (columns : List ColumnName) where
 pub ruleset entry = (entry-first, entry-twice, entry-nowhere, entry-has, entry-lacks, entry-once)
 
 -- ---- a name among columns, and among others behind them
+-- that stands there among the first columns, and among those behind them or not
+abbrev pub with_later : Occurrences → Bool → Occurrences
+with_later seen later = record { first = seen.first; twice = seen.twice || later }
+
+-- that stands there behind so many columns
+abbrev pub behind : ℕ → Option Occurrences → Option Occurrences
+behind count seen = option_map (λ o. record { first = count + o.first; twice = o.twice }) seen
+
 module _ (name : Name) (columns rest : List ColumnName) where
   pub counts-behind : (seen : Occurrences) → occurrences name columns ≡ Some seen
       → nat_lt 1 (count_called name (columns ++ rest)) ≡ (seen.twice || list_any (is_called name) rest)
@@ -378,3 +385,8 @@ offered-by name (h ∷ rest) =
     (λ i. list_any (is_called name) h.columns || offered-by name rest i)
     ∙ (sym (list_any-append (is_called name) h.columns (all_columns rest))
     ∙ ap (λ cs. list_any (is_called name) cs) (sym (flat_map-cons (λ h. h.columns) h rest)))
+
+-- one column alone repeats no name
+pub one-once : (own : ColumnName) → name_twice (own ∷ []) ≡ false
+one-once None = refl
+one-once (Some own) = refl

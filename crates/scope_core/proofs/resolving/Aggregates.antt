@@ -4,7 +4,6 @@ use Rattle.std.specs.Prelude.{◌||◌}
 use Rattle.sql_model.specs.Syntax as n
 use Rattle.sql_model.specs.declared.tree.Expr.TheVariants as expr
 use Rattle.sql_model.specs.Compute.{everything}
-use Rattle.sql_model.specs.declared.tree.Item.TheVariants as item
 use Rattle.sql_model.specs.Grouping.{has_aggregate, item_has_aggregate}
 use Rattle.scope_core.proofs.basics.Lists.{at-head, at-end}
 use Rattle.scope_core.specs.Lent.{list_has_aggregate, items_have_aggregate_listed}
@@ -80,9 +79,6 @@ pub ruleset laws =
     (has-Col, has-Lit, has-Fun, has-Pred, has-Call, has-Agg, has-Sub, has-Eq, has-And, has-Or, has-Not, has-Exists, has-In, list_has-drop, list_has-past)
 
 -- ---- items
-pub item_has-Star : (at : ℕ) → item_has_aggregate (item.Star at) ≡ false
-item_has-Star at = refl
-
 pub items_have-cons : (i : n.Item) (is : List n.Item) → items_have_aggregate_listed (i ∷ is) ≡ (item_has_aggregate i || items_have_aggregate_listed is)
 unfolding everything items_have_aggregate_listed
 items_have-cons i is = refl

@@ -165,12 +165,6 @@ module _ (known : List Known) (levels : Levels) where
   unfolding resolving value_fault values_fault truth_fault truths_fault fault_within block_fault source_fault entries_fault on_fault item_fault items_fault values_listed conjuncts_listed conditions_listed entries_listed on_listed items_listed
   conjuncts-nil u = refl
 
-  pub conjuncts-drop : (es : List n.Expr) (i : ℕ) (e : n.Expr) → i < length es → e ≡ get_or es i e → conjuncts_listed known levels (drop i es) ≡ conjuncts e known levels ++ conjuncts_listed known levels (drop (i + 1) es)
-  conjuncts-drop es i e h is = at-head (conjuncts_listed known levels) es i e h is ∙ conjuncts-cons e (drop (i + 1) es)
-
-  pub conjuncts-past : (es : List n.Expr) (i : ℕ) → length es ≤ i → conjuncts_listed known levels (drop i es) ≡ []
-  conjuncts-past es i h = at-end (conjuncts_listed known levels) es i h ∙ conjuncts-nil tt
-
   pub conditions-cons : (e : n.Expr) (es : List n.Expr) → conditions_listed known levels (e ∷ es) ≡ conjunction (conjuncts e known levels) ∷ conditions_listed known levels es
   unfolding resolving value_fault values_fault truth_fault truths_fault fault_within block_fault source_fault entries_fault on_fault item_fault items_fault values_listed conjuncts_listed conditions_listed entries_listed on_listed items_listed
   conditions-cons e es = refl
@@ -178,12 +172,6 @@ module _ (known : List Known) (levels : Levels) where
   pub conditions-nil : Unit {0} → conditions_listed known levels [] ≡ []
   unfolding resolving value_fault values_fault truth_fault truths_fault fault_within block_fault source_fault entries_fault on_fault item_fault items_fault values_listed conjuncts_listed conditions_listed entries_listed on_listed items_listed
   conditions-nil u = refl
-
-  pub conditions-drop : (es : List n.Expr) (i : ℕ) (e : n.Expr) → i < length es → e ≡ get_or es i e → conditions_listed known levels (drop i es) ≡ conjunction (conjuncts e known levels) ∷ conditions_listed known levels (drop (i + 1) es)
-  conditions-drop es i e h is = at-head (conditions_listed known levels) es i e h is ∙ conditions-cons e (drop (i + 1) es)
-
-  pub conditions-past : (es : List n.Expr) (i : ℕ) → length es ≤ i → conditions_listed known levels (drop i es) ≡ []
-  conditions-past es i h = at-end (conditions_listed known levels) es i h ∙ conditions-nil tt
 
   exists-fault : (query : n.Query) (at : ℕ) (grouped : Bool) → is_in_group (sight_here levels) ≡ grouped
       → fault_at (AnExpression ATruth levels (expr.Exists query at)) ≡ (if grouped then Some (fault.Refused code.SubqueryInGroup at 0 0) else None)

@@ -1,5 +1,5 @@
 -- The columns of a query, as code builds it.
-use Rattle.std.proofs.Common.{◌≡◌, ℕ, zero, suc, ◌<◌, Bool, true, List, [], ◌∷◌, ◌++◌, length, get_or, Option, Some, None, refl, ap, sym, subst, ◌∙◌, arith}
+use Rattle.std.proofs.Common.{◌≡◌, ℕ, zero, suc, ◌<◌, Bool, true, false, List, [], ◌∷◌, ◌++◌, cond, filter, find, length, get_or, option_map, unwrap_or, Option, Some, None, refl, ap, sym, subst, ◌∙◌, arith}
 use Rattle.std.specs.List.{flat_map}
 use Rattle.std.proofs.lemmas.List.{append-nil}
 use Rattle.sql_model.specs.Syntax as n
@@ -11,7 +11,9 @@ use Rattle.sql_model.specs.declared.tree.Entry.{Entry}
 use Rattle.sql_model.specs.declared.tree.Block.{out-Block, roll-Block, roll-out-Block}
 use Rattle.sql_model.specs.Compute.{everything}
 use Rattle.sql_model.specs.Headings.{Heading, columns_of, block_columns, item_columns, output_columns, source_columns}
+use Rattle.scope_core.specs.Directed.{is_shown, is_star_of}
 use Rattle.scope_core.specs.Lent.{entries_headings, list_columns}
+use Rattle.scope_core.proofs.basics.Booleans.{contraposed, or-of-left, or-of-right}
 
 pub output-Block : (b : n.Block) (relations : List Heading) → output_columns (q.Block b) relations ≡ block_columns b relations
 unfolding everything
@@ -103,6 +105,62 @@ all-of-one (x ∷ []) (k ∷ []) item h one single item-is h-is all =
     let here : item_columns x (k ∷ []) ≡ k.columns =
     sym (λ j. item_columns (item-is j) (h-is j ∷ [])) ∙ (all ∙ ap (λ h. h.columns) h-is) in
     list_columns-cons x [] (k ∷ []) ∙ (ap (λ cs. item_columns x (k ∷ []) ++ cs) (list_columns-nil (k ∷ [])) ∙ ap (λ cs. cs ++ []) here)
+
+-- ---- items over the entries that they show
+abbrev pub where_alias : (n.Name → Bool) → List Heading → List Heading
+where_alias test from = filter (λ h. test h.alias) from
+
+module _ (test : n.Name → Bool) where
+  all-pass : ((alias : n.Name) → test alias ≡ true) → (from : List Heading) → where_alias test from ≡ from
+  all-pass pass [] = refl
+  all-pass pass (x ∷ from) =
+      ap (λ b. cond b (x ∷ where_alias test from) (where_alias test from)) (pass x.alias) ∙ ap (λ hs. x ∷ hs) (all-pass pass from)
+
+  find-passing : (alias : n.Name) → ((other : n.Name) → same_name alias other ≡ true → test other ≡ true) → (from : List Heading)
+      → find (λ h. same_name alias h.alias) (where_alias test from) ≡ find (λ h. same_name alias h.alias) from
+  find-passing alias pass [] = refl
+  find-passing alias pass (x ∷ from) = by (test x.alias) refl (find-passing alias pass from)
+    where
+      rest : List Heading
+      rest = where_alias test from
+
+      by : (b : Bool) → test x.alias ≡ b → find (λ h. same_name alias h.alias) rest ≡ find (λ h. same_name alias h.alias) from
+          → find (λ h. same_name alias h.alias) (cond b (x ∷ rest) rest) ≡ find (λ h. same_name alias h.alias) (x ∷ from)
+      by true e later = ap (λ o. cond (same_name alias x.alias) (Some x) o) later
+      by false e later =
+          let other : same_name alias x.alias ≡ false = contraposed (same_name alias x.alias) (test x.alias) (pass x.alias) e in
+          later ∙ sym (ap (λ b. cond b (Some x) (find (λ h. same_name alias h.alias) from)) other)
+
+  item-shown : (item : n.Item) (from : List Heading) → ((alias : n.Name) → is_star_of alias item ≡ true → test alias ≡ true)
+      → item_columns item (where_alias test from) ≡ item_columns item from
+  item-shown (n.Star at) from pass = ap (λ hs. flat_map (λ h. h.columns) hs) (all-pass (λ alias. pass alias refl) from)
+  item-shown (n.AliasStar alias at) from pass = ap (λ o. unwrap_or (option_map (λ h. h.columns) o) []) (find-passing alias (λ other e. pass other e) from)
+  item-shown (n.Value expr name) from pass = refl
+
+  pub list-shown : (items : List n.Item) (from : List Heading) → ((alias : n.Name) → is_shown items alias ≡ true → test alias ≡ true)
+      → list_columns items (where_alias test from) ≡ list_columns items from
+  list-shown [] from pass = list_columns-nil (where_alias test from) ∙ sym (list_columns-nil from)
+  list-shown (item ∷ items) from pass =
+      list_columns-cons item items (where_alias test from)
+      ∙ ((λ i. item-shown item from (λ alias e. pass alias (or-of-left (is_star_of alias item) (is_shown items alias) e)) i
+      ++ list-shown items from (λ alias e. pass alias (or-of-right (is_star_of alias item) (is_shown items alias) e)) i)
+      ∙ sym (list_columns-cons item items from))
+
+  -- on the way through entries
+  pub where-cons : (e : Entry) (es : List Entry) (relations : List Heading) (shown : Bool) → test e.alias ≡ shown
+      → where_alias test (entries_headings (e ∷ es) relations)
+      ≡ cond shown (record { alias = e.alias; columns = source_columns e.source relations } ∷ []) [] ++ where_alias test (entries_headings es relations)
+  where-cons e es relations shown is =
+      ap (λ hs. where_alias test hs) (entries_headings-cons e es relations)
+      ∙ (ap (λ b. cond b (record { alias = e.alias; columns = source_columns e.source relations } ∷ rest) rest) is ∙ by shown)
+    where
+      rest : List Heading
+      rest = where_alias test (entries_headings es relations)
+
+      by : (b : Bool) → cond b (record { alias = e.alias; columns = source_columns e.source relations } ∷ rest) rest
+          ≡ cond b (record { alias = e.alias; columns = source_columns e.source relations } ∷ []) [] ++ rest
+      by true = refl
+      by false = refl
 
 pub ruleset items = (all-Star, all-AliasStar)
 

@@ -16,7 +16,7 @@ use Rattle.scope_core.specs.Parts.{value_fault, values_fault, truth_fault, truth
 use Rattle.scope_core.specs.Resolving.{alias_star, star, source_named, resolved, resolved_block, resolved_item, resolved_source, resolved_value}
 use Rattle.scope_core.specs.Scope.{Known, heading, Levels, headings_here}
 use Rattle.scope_core.specs.Sites.{ASource, AStar, AnAliasStar, TwoWidths, sites}
-use Rattle.scope_core.proofs.resolving.Columns.{causes, cause-is}
+use Rattle.scope_core.proofs.resolving.Columns.{causes}
 use Rattle.scope_core.proofs.resolving.Walks.{first_fault-one, first_fault-three, cause-first, cause-second, cause-same}
 
 module _ (known : List Known) (levels : Levels) where

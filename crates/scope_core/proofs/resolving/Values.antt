@@ -137,12 +137,6 @@ module _ (known : List Known) (levels : Levels) where
   unfolding resolving value_fault values_fault truth_fault truths_fault fault_within block_fault source_fault entries_fault on_fault item_fault items_fault values_listed conjuncts_listed conditions_listed entries_listed on_listed items_listed
   trees-nil u = refl
 
-  pub trees-drop : (es : List n.Expr) (i : ℕ) (e : n.Expr) → i < length es → e ≡ get_or es i e → values_listed known levels (drop i es) ≡ resolved_value e known levels ∷ values_listed known levels (drop (i + 1) es)
-  trees-drop es i e h is = at-head (values_listed known levels) es i e h is ∙ trees-cons e (drop (i + 1) es)
-
-  pub trees-past : (es : List n.Expr) (i : ℕ) → length es ≤ i → values_listed known levels (drop i es) ≡ []
-  trees-past es i h = at-end (values_listed known levels) es i h ∙ trees-nil tt
-
   -- ---- an operator, whose arguments were lent
   pub operator-fine : {e : n.Expr} {symbol at : ℕ} {args lent : List n.Expr} → e ≡ expr.Fun symbol args at → lent ≡ args → values_fault known levels lent ≡ None → value_fault known levels e ≡ None
   operator-fine is same none = ap (value_fault known levels) is ∙ (value-Fun _ _ _ ∙ (ap (values_fault known levels) (sym same) ∙ none))

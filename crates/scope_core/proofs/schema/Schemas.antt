@@ -24,6 +24,7 @@ use Rattle.scope_core.specs.Plain.{is_plain, is_plain_tree}
 use Rattle.scope_core.specs.Relations.{known_of}
 use Rattle.scope_core.specs.ViewTrees.{views_of, Resolves, tree_of}
 use Rattle.scope_core.specs.Resolving.{resolved}
+use Rattle.scope_core.specs.Ropes.{columns_within}
 use Rattle.scope_core.specs.Scope.{Known, heading}
 use Rattle.scope_core.specs.Sites.{sites}
 use Rattle.scope_core.specs.Sound.{IsSound, IsSoundAlone, IsSoundSource, SeenBlocks}
@@ -47,7 +48,7 @@ stored-sound (stored.View place) wide shape = tt
 
 lent-sound : (known : List LentKnown) → OkSources (λ number wide. Unit {0}) (λ place wide. Unit {0}) (map relation_of known)
 lent-sound [] = tt
-lent-sound (k ∷ known) = (λ shape. stored-sound k.stored (length k.columns) shape, lent-sound known)
+lent-sound (k ∷ known) = (λ shape. stored-sound k.stored (length (columns_within k.columns)) shape, lent-sound known)
 
 pub sound-alone : (known : Catalog) (query : Query) (tree : RQuery) → fault_within (relations_of known) [] query ≡ None
     → tree ≡ resolved query (relations_of known) [] → IsSoundAlone tree

@@ -16,14 +16,13 @@ use super::values::resolve_value;
 use crate::NoMemory;
 use crate::catalog::Catalog;
 use crate::checks::{check_alias, check_outputs, is_one_group, resolve_name};
-use crate::columns::Columns;
 use crate::fault::{ScopeFault, number};
 use crate::grouping::{resolve_grouping, sight_by};
+use crate::guide::Guide;
 use crate::heading::Heading;
 use crate::items::Items;
 use crate::level::{Levels, Sight};
-use crate::name_filter::filter_of_source;
-use crate::output::{Projection, named_columns};
+use crate::output::Projection;
 use crate::star::{WrittenStar, add_alias_star, add_star, write_star};
 use crate::tree::{Grouping, RBlock, RCond, REntry, RSource, RVal};
 use plain_data::{Kept, List};
@@ -171,7 +170,7 @@ fn resolve_entries<'k, 'a>(
             width,
         });
         let columns = source.columns.into_inner();
-        headings.push_reserved(heading_of(alloc, entry, columns, known)?);
+        headings.push_reserved(Heading::new(&entry.alias, columns));
     }
     Ok(FromClause {
         entries: List::from_vec(resolved),
@@ -179,33 +178,32 @@ fn resolve_entries<'k, 'a>(
     })
 }
 
-/// What stands behind the name of an entry with these columns. Those of several parts have a filter.
-fn heading_of<'k, 'a>(
-    alloc: Global,
-    entry: &'a Entry,
-    columns: Columns<'a>,
-    known: &'k Catalog<'a>,
-) -> Result<Heading<'k, 'a>, NoMemory>
-    requires { columns ≡ source_columns entry.now.source (headings_of known.now) }
-    ensures { IfOk result (λ h. h ≡ record { alias = entry.entry.now.alias; columns = columns.entry }) }
-{
-    if columns.is_one_part() {
-        return Ok(Heading::new(&entry.alias, columns));
-    }
-    let filter = filter_of_source(alloc, &entry.source, known)?;
-    Heading::with_filter(alloc, &entry.alias, columns, known, filter)
-}
-
 /// What an entry takes its rows from, and its columns.
 #[derive(Drop)]
-struct FromSource<'a> {
+struct FromSource<'k, 'a> {
     tree: Kept<RSource>,
-    columns: Kept<Columns<'a>>,
+    columns: Kept<Guide<'k, 'a>>,
+}
+
+/// The columns of a derived table: where they are all those of one source, its own are handed on.
+fn guide_of<'k, 'a>(
+    alloc: Global,
+    source: &'a Source,
+    columns: Projection<'k, 'a>,
+    known: &'k Catalog<'a>,
+) -> Result<Guide<'k, 'a>, NoMemory>
+    requires { columns ≡ source_columns source.now (headings_of known.now) }
+    ensures { IfOk result (λ guide. guide ≡ columns.entry) }
+{
+    match columns.into_only() {
+        Some(guide) => Ok(guide),
+        None => Guide::of_source(alloc, source, known),
+    }
 }
 
 /// How many columns an entry has, whose name no entry before it may have.
 #[tactic(auto, using(crate::proofs::resolving::Columns::causes))]
-fn width_of_new(entry: &Entry, columns: &Columns, before: &[Heading]) -> Result<u32, ScopeFault>
+fn width_of_new(entry: &Entry, columns: &Guide, before: &[Heading]) -> Result<u32, ScopeFault>
     ensures fine { OnOk result (fault_at (AnAlias entry.now.alias (map (λ h. h.alias) before.now) entry.now.at) ≡ None) }
     ensures value { IfOk result (λ width. width ≡ length columns.now) }
     ensures err { IfErr result (λ f. IsCause f (fault_at (AnAlias entry.now.alias (map (λ h. h.alias) before.now) entry.now.at))) }
@@ -222,7 +220,7 @@ fn resolve_source<'k, 'a>(
     source: &'a Source,
     known: &'k Catalog<'a>,
     levels: &Levels<'_, 'k, 'a>,
-) -> Result<FromSource<'a>, ScopeFault>
+) -> Result<FromSource<'k, 'a>, ScopeFault>
     ensures fine { IfOk result (λ v. source_fault (relations_of known.now) (levels_of levels.now) source.now ≡ None) }
     ensures value { IfOk result (λ v. v.tree ≡ resolved_source source.now (relations_of known.now) (levels_of levels.now)) }
     ensures columns { IfOk result (λ v. v.columns ≡ source_columns source.now (headings_of known.now)) }
@@ -231,12 +229,12 @@ fn resolve_source<'k, 'a>(
     match source {
         Source::Named { name, at } => Ok(FromSource {
             tree: Kept::new(resolve_name(name, *at, known)?),
-            columns: Kept::new(named_columns(name, known)?),
+            columns: Kept::new(Guide::of_source(alloc, source, known)?),
         }),
         Source::Query { query } => {
             let query = resolve_query(alloc, query.get(), known, levels)?;
             Ok(FromSource {
-                columns: Kept::new(query.columns.into_columns(alloc)?),
+                columns: Kept::new(guide_of(alloc, source, query.columns, known)?),
                 tree: Kept::new(RSource::Query { query: query.tree }),
             })
         }

@@ -275,7 +275,7 @@ blocks::resolve_entries-loop-entry-preserved t c =
     let rest = entries_fault K L (before ++ e.alias ∷ []) (drop (i + 1) xs) in
     let P : List TheHeading → Type 0 = λ hs. fault_at (AnAlias e.alias (map (λ h. h.alias) hs) e.at) ≡ None in
     let alias_is_new = subst P c.as_slice.ensures.value c.in_ok-width.ensures.fine in
-    let aliases = ap (λ hs. map (λ h. h.alias) hs) (c.push_reserved-in-loop-entry.ensures.items ∙ ap (λ h. hs ++ h ∷ []) c.in_ok-heading_of.ensures) ∙ map-append (λ h. h.alias) hs _ in
+    let aliases = ap (λ hs. map (λ h. h.alias) hs) (c.push_reserved-in-loop-entry.ensures.items ∙ ap (λ h. hs ++ h ∷ []) c.new.ensures) ∙ map-append (λ h. h.alias) hs _ in
     let wide : c.in_ok-width.width ≡ length (source_columns e.source relations) =
     c.in_ok-width.ensures.value ∙ ap (λ cs. length cs) (c.get.ensures ∙ c.in_ok-source.ensures.columns) in (
       ap (λ names. entries_fault K L names (drop (i + 1) xs)) aliases
@@ -289,7 +289,7 @@ blocks::resolve_entries-loop-entry-preserved t c =
       walk-step (λ es. entries_headings es relations) xs i e _ _ (record { alias = e.alias; columns = source_columns e.source relations } ∷ []) _
           c.loop-entry-test.true c.entry-item.is (entries_headings-cons e _ relations)
           (c.push_reserved-in-loop-entry.ensures.items
-          ∙ ap (λ h. hs ++ h ∷ []) (c.in_ok-heading_of.ensures ∙ ap (λ cs. record { alias = e.alias; columns = cs }) (c.into_inner-columns.ensures ∙ c.in_ok-source.ensures.columns))) c.loop-entry.invariant.2,
+          ∙ ap (λ h. hs ++ h ∷ []) (c.new.ensures ∙ ap (λ cs. record { alias = e.alias; columns = cs }) (c.into_inner-columns.ensures ∙ c.in_ok-source.ensures.columns))) c.loop-entry.invariant.2,
       c.push_reserved.ensures.len ∙ ap (λ n. n + 1) c.loop-entry.invariant.3,
       c.push_reserved-in-loop-entry.ensures.len ∙ ap (λ n. n + 1) c.loop-entry.invariant.4,
       subst (λ room. length xs ≤ room) (sym c.push_reserved.ensures.capacity) c.loop-entry.invariant.5,

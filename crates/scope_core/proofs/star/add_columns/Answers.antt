@@ -24,7 +24,7 @@ loop-first-preserved c =
 pub returns-clause-value : goal.returns-clause-value
 returns-clause-value c =
     let before = c.args.items.now in
-    let columns = c.args.columns.now in
+    let columns = c.args.heading.now.columns in
     let whole : c.loop-first.first ≡ length columns =
     grind (arith, c.loop-first.invariant.1, c.loop-first-test.false, c.in_ok-end.ensures.fits, c.len.ensures) in
     c.loop-first.invariant.0

@@ -1,4 +1,4 @@
-use Rattle.std.proofs.Common.{◌≡◌, ◌++◌, ◌+◌, drop, length, suc, ap, sym, ◌∙◌, arith, append_assoc}
+use Rattle.std.proofs.Common.{◌≡◌, ◌++◌, ◌+◌, drop, suc, ap, sym, ◌∙◌, arith, append_assoc}
 use Rattle.scope_core.specs.Resolving.{entry_columns, star}
 use Rattle.scope_core.specs.Runs.{columns_from}
 use Rattle.scope_core.proofs.basics.Lists.{at-head}
@@ -18,6 +18,6 @@ loop-entry-preserved c =
     at-head (star i) xs i h c.loop-entry-test.true c.index-headings-entry.is ∙ ap (λ n. own ++ star n (drop (i + 1) xs)) next in
     let wrote : c.write_columns.new.columns.items ≡ before ++ own =
     c.in_ok-write_columns.ensures
-    ∙ ap (λ columns. before ++ columns) ((λ j. columns_from (c.in_ok-number.ensures.fits j) 0 ((c.in_ok-number-2.ensures.fits ∙ (c.len.ensures ∙ ap (λ cs. length cs) c.columns.ensures)) j)) ∙ entry_columns-are i 0 h.columns) in
+    ∙ ap (λ columns. before ++ columns) ((λ j. columns_from (c.in_ok-number.ensures.fits j) 0 ((c.in_ok-number-2.ensures.fits ∙ c.len.ensures) j)) ∙ entry_columns-are i 0 h.columns) in
     ap (λ columns. columns ++ rest) wrote
     ∙ (append_assoc before own rest ∙ (ap (λ columns. before ++ columns) (sym here) ∙ c.loop-entry.invariant))
