@@ -24,6 +24,7 @@ MOST_ENTRIES = 31
 MOST_BYTES = 1_048_576
 MOST_LISTED = 256
 MOST_OUTPUTS = 2_048
+MOST_VIEWS = 254
 MOST_OPERANDS = 64
 DEEPEST = 60
 MOST_LEVELS = 64
@@ -207,6 +208,23 @@ def nested_sources(chains=500):
     return case(wide_view("w"), f"SELECT a FROM r WHERE {exists}")
 
 
+def widened(source, levels):
+    """Derived tables within derived tables, each one column more than the next one."""
+    for _ in range(levels):
+        source = f"(SELECT *,1 FROM {source} d)"
+    return source
+
+
+def widened_sources():
+    """The same, around all columns of 961 entries, as many as fit."""
+    source = "r"
+    for _ in range(2):
+        entries = ",".join(f"{source} {'abcd'[number % 4]}{number}" for number in range(MOST_ENTRIES))
+        source = f"(SELECT * FROM {entries})"
+    exists = f"EXISTS (SELECT 1 FROM {widened(source, DEEPEST - 5)} d)"
+    return case("", "SELECT a FROM r WHERE " + as_many(exists))
+
+
 def set_chains(chains=9):
     """Left chains of set operators, whose first operand is a chain again."""
     chain = "SELECT a FROM r"
@@ -343,6 +361,14 @@ def deep_rope():
     return case(deepest_rope("x"), deepest_conditions(MOST_LEVELS, "EXISTS", "SELECT z FROM x8 WHERE z = z"))
 
 
+def deep_widened_views(levels=8):
+    """The same where each view is some levels of all columns and one more: the most levels that a rope may have."""
+    views = "CREATE VIEW v0 AS SELECT a z FROM r;\n"
+    for number in range(1, MOST_VIEWS):
+        views += f"CREATE VIEW v{number} AS {widened(f'v{number - 1}', levels)[1:-1]};\n"
+    return case(views, deepest_conditions(MOST_LEVELS, "EXISTS", f"SELECT z FROM v{MOST_VIEWS - 1} WHERE z = z"))
+
+
 def deep_query():
     """A query as deep as one may be in the text. Its scalar subqueries are refused, behind the reading."""
     return case("", deepest_query(MOST_LEVELS))
@@ -407,6 +433,7 @@ WIDE_CASES = [
     parted_sources,
     widened_views,
     nested_sources,
+    widened_sources,
     set_chains,
     derived_from_sets,
     named_views,
@@ -414,7 +441,7 @@ WIDE_CASES = [
 ]
 LONG_CASES = [long_named_sources, long_named_keys, copied_names, operands, bounded_operands, listed_columns, grown_lists, copied_operands, copied_subqueries]
 CASES = [start, ordinary_queries] + WIDE_CASES + LONG_CASES
-DEEP_CASES = [deep_values, deep_sources, deep_exists, deep_in, deep_rope, deep_query, deep_view, deep_operand, deep_compared_value, deep_compared_sources, deep_bounded_value, deep_bounded_operators]
+DEEP_CASES = [deep_values, deep_sources, deep_exists, deep_in, deep_rope, deep_widened_views, deep_query, deep_view, deep_operand, deep_compared_value, deep_compared_sources, deep_bounded_value, deep_bounded_operators]
 
 
 def write_all(folder):
